@@ -1,0 +1,118 @@
+-- "Numbers to prove and to run": the twelve, as one table and one statement over it.
+use Prim.Native.Nat.{ℕ, zero, suc, _+_, _%_}
+use Prim.Native.Char.{code}
+use Prim.Native.String as String
+use Prim.Native.String.{String}
+use mathlib.Core.Path.{_≡_, refl}
+use mathlib.Core.List.{List, [], _∷_, _++_, map}
+use mathlib.Core.Option.{Option, none, some}
+use lib.ListN.{length}
+use Rattle.rules.specs.declared.ChannelNumber.{ChannelNumber}
+use Rattle.rules.specs.declared.Refusal.the-variants.{Unopened}
+use Rattle.rules.specs.Checks.{_⇒_else_, isEmpty, every, some-of, occurrences, member, same}
+use Rattle.rules.specs.Frames.{longLength, lengthAt, lengthBytes, goodTag, valueAfter, objectAt, onward, walkUpTo, walk, objectBytes, written, fills, following, framed, contents, frame}
+use Rattle.rules.specs.Table.{table, known, rowAmong, rowOf, times, sift, present, valueOf, complete, bearerFits, lengthFits}
+use Rattle.rules.specs.Profile.{bit, kept, allowsType, allowsEvent, allowsBearer02, channels}
+use Rattle.rules.specs.State.{isEstablished, isDropped, establish, closed, isOpen, start, chan, withChan, room, fresh, arrived, handed, stored, readied, taken, dropped}
+use Rattle.rules.specs.Reading.{kindOf, detailsOf, zeros, detailsIn, pairIn, bearerIn, transportIn, bodyIn, commandIn, toModem, addressed, isFault, startsWithDetails, reading}
+use Rattle.rules.specs.Own.{bit1, capped, plain, listing, served, isTcp, openBefore, opening, closing, receiving, sending, statusesFrom, own}
+use Rattle.rules.specs.Pool.{cells, promisedTo, promised, unpromised, grantFor}
+use Rattle.rules.specs.Written.{pairBytes, detailsBytes, bearerBytes, statusBytes, statusObject, statusObjects, furtherObjects, resultBytes, resultObjects, responseObjects, responseBytes, eventBytes}
+use Rattle.rules.specs.Command.{Outcome, wrote, refused, meantBy, command}
+use Rattle.rules.specs.Radio.{numbered, arrival, taking, dropping}
+use Rattle.rules.specs.Run.{Call, commanding, arriving, step, after}
+use Rattle.rules.specs.Lines.{isDigit, digitValue, with-byte, bytesOf}
+
+-- a row: the calls before, from the start, the call, how it ends, and how many bytes it writes
+pub record Number : Type 0 where
+  pub before : List Call
+  pub call : Call
+  pub ends : Outcome
+  pub size : ℕ
+
+row : List Call → Call → Outcome → ℕ → Number
+row b c e s = record { before = b; call = c; ends = e; size = s }
+
+-- a text's characters, and the bytes that its hexadecimal digits stand for
+chars : String → List ℕ
+chars String.[] = []
+chars (String._∷_ c s) = code c ∷ chars s
+
+orNone : Option (List ℕ) → List ℕ
+orNone none = []
+orNone (some s) = s
+
+bytes : String → List ℕ
+bytes s = orNone (bytesOf (chars s))
+
+-- the profile of the listing: the seven types, both events, bearer 02, four channels
+profile : List ℕ
+profile = bytes "00000800010C00000000001F82"
+
+-- the listing's OPEN CHANNEL, for 1500 bytes, and its event list
+openLine : Call
+openLine = commanding 255 (bytes "D015810301400182028182350103390205DC3C03021F90")
+
+eventLine : Call
+eventLine = commanding 255 (bytes "D00C810301050082028182190109")
+
+-- bytes for a channel
+arriveLine : ℕ → List ℕ → Call
+arriveLine n s = arriving 16 (record { 0 = n }) s
+
+-- RECEIVE DATA on channel 1
+receiveLine : ℕ → Call
+receiveLine n = commanding 255 (bytes "D00C8103014200820281213701" ++ (n ∷ []))
+
+-- k bytes, no two neighbours alike, counted from n
+pattern : ℕ → ℕ → List ℕ
+pattern zero n = []
+pattern (suc k) n = (n % 251) ∷ pattern k (n + 1)
+
+-- so many bytes are held for channel 1
+holding : ℕ → List Call
+holding k = openLine ∷ arriveLine 1 (pattern k 0) ∷ []
+
+-- the answer to a RECEIVE DATA that hands out 237 bytes
+full : ℕ → ℕ → Outcome
+full result left =
+    wrote (bytes "8103014200820282818301" ++ (result ∷ []) ++ bytes "3681ED" ++ pattern 237 0 ++ bytes "3701" ++ (left ∷ []))
+
+answer : String → Outcome
+answer s = wrote (bytes s)
+
+-- (1) to (5) are the listing's answers, in turn; each row stands under its number
+pub numbers : List Number
+numbers =
+    row [] openLine (answer "81030140018202828183010038028100350103390205DC") 23 ∷
+    row (openLine ∷ []) eventLine (answer "810301050082028281830100") 12 ∷
+    row (openLine ∷ eventLine ∷ []) (arriveLine 1 (bytes "414243")) (answer "D60E1901098202828138028100370103") 16 ∷
+    row (openLine ∷ eventLine ∷ arriveLine 1 (bytes "414243") ∷ []) (receiveLine 5) (answer "8103014200820282818301023603414243370100") 20 ∷
+    row (openLine ∷ eventLine ∷ arriveLine 1 (bytes "414243") ∷ receiveLine 5 ∷ []) (arriveLine 2 (bytes "00")) (refused Unopened) 0 ∷
+    -- (6) the third OPEN of 1500 with four channels allowed: 07, grant 1088; (7) the fourth: 3A 04
+    row (openLine ∷ openLine ∷ []) openLine (answer "8103014001820282818301073802830035010339020440") 23 ∷
+    row (openLine ∷ openLine ∷ openLine ∷ []) openLine (answer "81030140018202828183023A04") 13 ∷
+    -- (8) request 255, held 300: 237 out, 02, 3F left; (9) held 492, request 237: FF left; (10) held 493: FF left
+    row (holding 300) (receiveLine 255) (full 0x02 0x3F) 255 ∷
+    row (holding 492) (receiveLine 237) (full 0x00 0xFF) 255 ∷
+    row (holding 493) (receiveLine 237) (full 0x00 0xFF) 255 ∷
+    -- (11) MORE TIME with 05: 01; (12) with 85 for 05: 32
+    row [] (commanding 255 (bytes "D00C810301020082028182050141")) (answer "810301020082028281830101") 12 ∷
+    row [] (commanding 255 (bytes "D00C810301020082028182850141")) (answer "810301020082028281830132") 12 ∷
+    []
+
+-- how a row's call ends, in a session that starts from the listing's profile
+pub endOf : Number → Outcome
+endOf r = step (after (start profile) (r .before)) (r .call) .outcome
+
+-- how many bytes an outcome has
+pub sizeOf : Outcome → ℕ
+sizeOf (wrote s) = length s
+sizeOf (refused r) = 0
+
+-- the twelve numbers: every row's call ends as the row says, with as many bytes
+pub twelve :
+    (map endOf numbers ≡ map (λ (r : Number). r .ends) numbers) ×
+    (map (λ (r : Number). sizeOf (endOf r)) numbers ≡ map (λ (r : Number). r .size) numbers)
+unfolding row chars orNone bytes profile openLine eventLine arriveLine receiveLine pattern holding full answer numbers endOf sizeOf _⇒_else_ isEmpty every some-of occurrences member same longLength lengthAt lengthBytes goodTag valueAfter objectAt onward walkUpTo walk objectBytes written fills following framed contents frame table known rowAmong rowOf times sift present valueOf complete bearerFits lengthFits bit kept allowsType allowsEvent allowsBearer02 channels isEstablished isDropped establish closed isOpen start chan withChan room fresh arrived handed stored readied taken dropped kindOf detailsOf zeros detailsIn pairIn bearerIn transportIn bodyIn commandIn toModem addressed isFault startsWithDetails reading bit1 capped plain listing served isTcp openBefore opening closing receiving sending statusesFrom own cells promisedTo promised unpromised grantFor pairBytes detailsBytes bearerBytes statusBytes statusObject statusObjects furtherObjects resultBytes resultObjects responseObjects responseBytes eventBytes meantBy command numbered arrival taking dropping step after isDigit digitValue with-byte bytesOf
+twelve = (refl, refl)

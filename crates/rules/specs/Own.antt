@@ -1,0 +1,138 @@
+-- "Order of checks on a command", step 9: the own checks, what each command does to the state, and the results 00, 01, 02, 07.
+use Prim.Native.Nat.{ℕ, zero, suc, _+_, _%_, min}
+use mathlib.Core.Bool.{Bool, true, false, not, _&&_, _||_}
+use mathlib.Core.List.{List, [], _∷_}
+use mathlib.Core.Option.{Option, none, some}
+use lib.ListN.{length, take}
+use lib.Dec.{ltb, eqb}
+use Rattle.rules.specs.declared.ChannelNumber.{ChannelNumber}
+use Rattle.rules.specs.declared.Link.{Link}
+use Rattle.rules.specs.declared.Link.the-variants.{NotYet, Established}
+use Rattle.rules.specs.Checks.{_⇒_else_, every, member}
+use Rattle.rules.specs.Words.{channelOf}
+use Rattle.rules.specs.Profile.{allowsEvent, allowsBearer02, channels}
+use Rattle.rules.specs.State.{State, Chan, closed, isDropped, isOpen, chan, withChan, room, fresh, handed, stored, readied}
+use Rattle.rules.specs.Pool.{unpromised, grantFor}
+use Rattle.rules.specs.Reading.{Bearer, Transport, Body, Command, moreTime, eventList, openChannel, closeChannel, receiveData, sendData, channelStatus, other}
+
+-- a channel's number and its link, as a status tells them
+pub record Status : Type 0 where
+  pub number : ChannelNumber
+  pub link : Link
+
+-- what follows a result 00, 01, 02 or 07
+pub data Further : Type 0 where
+  nothing : Further
+  opened : Status → Bearer → ℕ → Further
+  received : List ℕ → ℕ → Further
+  sent : ℕ → Further
+  statuses : List Status → Further
+
+-- a result: an error 30, 31, 32 or 36; a problem, 3A, with its cause; or done, with what follows
+pub data Result : Type 0 where
+  error : ℕ → Result
+  problem : ℕ → Result
+  done : ℕ → Further → Result
+
+-- the state after a command, and its result
+pub record Reply : Type 0 where
+  pub state : State
+  pub result : Result
+
+abbrev reply : State → Result → Reply
+reply a r = record { state = a; result = r }
+
+-- bit 1 of the qualifier
+unfoldable pub bit1 : ℕ → Bool
+bit1 q = eqb (q % 2) 1
+
+-- counts are told up to FF
+unfoldable pub capped : ℕ → ℕ
+capped n = min n 255
+
+-- 01 if an unexpected object was ignored, else 00
+unfoldable pub plain : Bool → ℕ
+plain ignored = ignored ⇒ 0x01 else 0x00
+
+-- 05: each value is 09 or 0A and allowed, or the list stays; it replaces the old one
+unfoldable pub listing : State → List ℕ → Bool → Reply
+listing a es ignored =
+    not (every (allowsEvent (a .profile)) es) ⇒ reply a (error 0x30) else
+    reply
+    (record { profile = a .profile; events = record { available = member 0x09 es; status = member 0x0A es }; chans = a .chans })
+    (done (plain ignored) nothing)
+
+-- bearer type 03, or 02 if allowed
+unfoldable pub served : List ℕ → Bearer → Bool
+served p b = eqb (b .kind) 0x03 || (eqb (b .kind) 0x02 && allowsBearer02 p)
+
+-- a transport level, where it stands, is TCP, 02
+unfoldable pub isTcp : Option Transport → Bool
+isTcp none = true
+isTcp (some t) = eqb (t .protocol) 0x02
+
+-- how many channels, of the first n, stand open before the first that does not; n where none is unused
+unfoldable pub openBefore : ℕ → List Chan → ℕ
+openBefore zero cs = 0
+openBefore (suc n) [] = 0
+openBefore (suc n) (c ∷ cs) = let k = openBefore n cs in isOpen c ⇒ suc k else 0
+
+-- 40: the lowest unused number is opened; 07 if it grants less than asked
+unfoldable pub opening : State → ℕ → Bearer → ℕ → Option Transport → Bool → Reply
+opening a q b size t ignored =
+    let n = channels (a .profile) in
+    let k = openBefore n (a .chans) in
+    let g = grantFor size (unpromised a) in
+    let number : ChannelNumber = record { 0 = k + 1 } in
+    let link = bit1 q ⇒ Established else NotYet in
+    not (served (a .profile) b) ⇒ reply a (error 0x30) else
+    not (isTcp t) ⇒ reply a (problem 0x06) else
+    eqb size 0 ⇒ reply a (problem 0x04) else
+    eqb k n ⇒ reply a (problem 0x01) else
+    ltb (unpromised a) 2 ⇒ reply a (problem 0x04) else
+    reply (withChan a number (fresh g link))
+    (done (ltb g size ⇒ 0x07 else plain ignored) (opened (record { number = number; link = link }) b g))
+
+-- 41: the channel ends, held bytes are discarded
+unfoldable pub closing : State → ChannelNumber → Bool → Reply
+closing a n ignored =
+    not (isOpen (chan a n)) ⇒ reply a (problem 0x03) else
+    reply (withChan a n closed) (done (plain ignored) nothing)
+
+-- 42: hands out the least of the request, bytes held and 237; 02 if fewer than asked
+unfoldable pub receiving : State → ChannelNumber → ℕ → Bool → Reply
+receiving a n request ignored =
+    let c = chan a n in
+    let k = min request (min (length (c .recv)) 237) in
+    let after = handed c k in
+    not (isOpen c) ⇒ reply a (problem 0x03) else
+    reply (withChan a n after)
+    (done (ltb k request ⇒ 0x02 else plain ignored) (received (take k (c .recv)) (capped (length (after .recv)))))
+
+-- 43: stores; with qualifier bit 1 set all bytes held are ready and the link is established
+unfoldable pub sending : State → ℕ → ChannelNumber → List ℕ → Bool → Reply
+sending a q n s ignored =
+    let c = chan a n in
+    let after = bit1 q ⇒ readied (stored c s) else stored c s in
+    not (isOpen c) ⇒ reply a (problem 0x03) else
+    isDropped (c .link) ⇒ reply a (problem 0x02) else
+    ltb (room (c .grant) (c .send)) (length s) ⇒ reply a (problem 0x04) else
+    reply (withChan a n after) (done (plain ignored) (sent (capped (room (after .grant) (after .send)))))
+
+-- a status for each open channel, rising; numbers are counted from n
+unfoldable pub statusesFrom : ℕ → List Chan → List Status
+statusesFrom n [] = []
+statusesFrom n (c ∷ cs) =
+    let rest = statusesFrom (n + 1) cs in
+    isOpen c ⇒ record { number = record { 0 = n }; link = c .link } ∷ rest else rest
+
+-- the own checks and the change of state, a line for each command
+unfoldable pub own : State → Command → Body → Bool → Reply
+own a c moreTime ignored = reply a (done (plain ignored) nothing)
+own a c (eventList es) ignored = listing a es ignored
+own a c (openChannel b size t) ignored = opening a (c .qualifier) b size t ignored
+own a c closeChannel ignored = closing a (channelOf (c .destination)) ignored
+own a c (receiveData n) ignored = receiving a (channelOf (c .destination)) n ignored
+own a c (sendData s) ignored = sending a (c .qualifier) (channelOf (c .destination)) s ignored
+own a c channelStatus ignored = reply a (done (plain ignored) (statuses (statusesFrom 1 (a .chans))))
+own a c (other t) ignored = reply a (error 0x31)

@@ -1,0 +1,28 @@
+-- "Pool and grants": 256 cells of 32 bytes, what a grant promises, and the grant for a request.
+use Prim.Native.Nat.{ℕ, _+_, _-_, _*_, _/_, min}
+use mathlib.Core.List.{List, [], _∷_}
+use lib.Dec.{leb}
+use Rattle.rules.specs.Checks.{_⇒_else_}
+use Rattle.rules.specs.State.{State, Chan}
+
+-- g/32, rounded up
+unfoldable pub cells : ℕ → ℕ
+cells g = (g + 31) / 32
+
+-- the sum over open channels: so many cells for receive and as many for send
+unfoldable pub promisedTo : List Chan → ℕ
+promisedTo [] = 0
+promisedTo (c ∷ cs) = 2 * cells (c .grant) + promisedTo cs
+
+unfoldable pub promised : State → ℕ
+promised a = promisedTo (a .chans)
+
+unfoldable pub unpromised : State → ℕ
+unpromised a = 256 - promised a
+
+-- the grant for a request of s bytes with so many cells unpromised
+unfoldable pub grantFor : ℕ → ℕ → ℕ
+grantFor s free =
+    let w = min s 1500 in
+    leb (2 * cells w) free ⇒ w else
+    32 * (free / 2)

@@ -1,0 +1,37 @@
+-- "Profile": the bits, every place that the paper names, and the number of channels.
+use Prim.Native.Nat.{ℕ, _-_, _/_, _%_, _^_}
+use mathlib.Core.Bool.{Bool, false}
+use mathlib.Core.List.{List, _++_}
+use lib.ListN.{getD, take, replicate}
+use lib.Dec.{eqb}
+use Rattle.rules.specs.Checks.{_⇒_else_}
+
+-- bytes and bits are numbered from 1; bits past the end are 0
+unfoldable pub bit : List ℕ → ℕ → ℕ → Bool
+bit p byte n = eqb (getD p (byte - 1) 0 / 2 ^ (n - 1) % 2) 1
+
+-- what a session keeps: the 13 bytes in which every place lies
+unfoldable pub kept : List ℕ → List ℕ
+kept p = take 13 (p ++ replicate 13 0)
+
+-- the types: byte 3 bit 4 for 02, byte 5 bit 1 for 05, byte 12 bits 1 to 5 for 40 to 44
+unfoldable pub allowsType : List ℕ → ℕ → Bool
+allowsType p t =
+    eqb t 0x02 ⇒ bit p 3 4 else
+    eqb t 0x05 ⇒ bit p 5 1 else
+    bit p 12 (t - 0x3F)
+
+-- the events: byte 6 bits 3 and 4 for 09 and 0A
+unfoldable pub allowsEvent : List ℕ → ℕ → Bool
+allowsEvent p e =
+    eqb e 0x09 ⇒ bit p 6 3 else
+    eqb e 0x0A ⇒ bit p 6 4 else
+    false
+
+-- the bearer: byte 13 bit 2 for type 02
+unfoldable pub allowsBearer02 : List ℕ → Bool
+allowsBearer02 p = bit p 13 2
+
+-- the number N of channels: byte 13 bits 6 to 8, bit 8 highest
+unfoldable pub channels : List ℕ → ℕ
+channels p = getD p 12 0 / 32 % 8

@@ -1,0 +1,51 @@
+-- "Calls from the radio": arrival, take and drop, with their refusals in order and their event bytes.
+use Prim.Native.Nat.{ℕ, min}
+use mathlib.Core.Bool.{Bool, not, _&&_}
+use mathlib.Core.List.{List, [], _∷_}
+use lib.ListN.{length, take}
+use lib.Dec.{ltb, leb}
+use Rattle.rules.specs.declared.ChannelNumber.{ChannelNumber}
+use Rattle.rules.specs.declared.Refusal.the-variants.{ShortBuffer, NoChannel, Unopened, Unlinked, Overfull}
+use Rattle.rules.specs.Checks.{_⇒_else_, isEmpty}
+use Rattle.rules.specs.State.{State, isEstablished, isOpen, chan, withChan, room, arrived, taken, dropped}
+use Rattle.rules.specs.Own.{capped}
+use Rattle.rules.specs.Written.{unflagged, statusObject, eventBytes}
+use Rattle.rules.specs.Command.{Answer, answered, refusal}
+
+-- the channel is 1 to 7
+unfoldable pub numbered : ChannelNumber → Bool
+numbered n = leb 1 (n .0) && leb (n .0) 7
+
+-- the bytes are stored whole; 09 tells of them
+unfoldable pub arrival : State → ℕ → ChannelNumber → List ℕ → Answer
+arrival a buffer n s =
+    let c = chan a n in
+    let after = arrived c s in
+    let told = statusObject n (c .link) ∷ unflagged 0x37 (capped (length (after .recv)) ∷ []) ∷ [] in
+    ltb buffer 16 ⇒ refusal a ShortBuffer else
+    not (numbered n) ⇒ refusal a NoChannel else
+    not (isOpen c) ⇒ refusal a Unopened else
+    not (isEstablished (c .link)) ⇒ refusal a Unlinked else
+    ltb (room (c .grant) (c .recv)) (length s) ⇒ refusal a Overfull else
+    answered (withChan a n after) (not (isEmpty s) && a .events .available ⇒ eventBytes 0x09 told else [])
+
+-- as many ready bytes as fit the buffer are handed out
+unfoldable pub taking : State → ℕ → ChannelNumber → Answer
+taking a buffer n =
+    let c = chan a n in
+    let k = min buffer (c .ready) in
+    not (numbered n) ⇒ refusal a NoChannel else
+    not (isOpen c) ⇒ refusal a Unopened else
+    not (isEstablished (c .link)) ⇒ refusal a Unlinked else
+    answered (withChan a n (taken c k)) (take k (c .send))
+
+-- the link is dropped; 0A tells of it
+unfoldable pub dropping : State → ℕ → ChannelNumber → Answer
+dropping a buffer n =
+    let c = chan a n in
+    let after = dropped c in
+    ltb buffer 16 ⇒ refusal a ShortBuffer else
+    not (numbered n) ⇒ refusal a NoChannel else
+    not (isOpen c) ⇒ refusal a Unopened else
+    not (isEstablished (c .link)) ⇒ refusal a Unlinked else
+    answered (withChan a n after) (a .events .status ⇒ eventBytes 0x0A (statusObject n (after .link) ∷ []) else [])

@@ -1,0 +1,158 @@
+-- "Order of checks on a command", steps 2 to 8: from bytes to an error with its details, or to the command with its values.
+use Prim.Native.Nat.{ℕ, _+_, _*_}
+use mathlib.Core.Bool.{Bool, true, false, not, _&&_}
+use mathlib.Core.List.{List, [], _∷_}
+use mathlib.Core.Option.{Option, none, some}
+use lib.ListN.{length, getD, drop}
+use lib.Dec.{leb, eqb}
+use Rattle.rules.specs.declared.Details.{Details}
+use Rattle.rules.specs.declared.DeviceIdentity.{DeviceIdentity}
+use Rattle.rules.specs.declared.Ending.{Ending}
+use Rattle.rules.specs.declared.Ending.the-variants.{End, BadTag, BadLength, CutValue}
+use Rattle.rules.specs.Checks.{_⇒_else_, isEmpty, every, some-of, member}
+use Rattle.rules.specs.Frames.{Object, walk, framed, contents}
+use Rattle.rules.specs.Table.{rowOf, known, sift, present, valueOf, complete, lengthFits}
+use Rattle.rules.specs.Profile.{allowsType}
+
+-- a bearer, object 35: its type and its parameters
+pub record Bearer : Type 0 where
+  pub kind : ℕ
+  pub parameters : List ℕ
+
+-- a transport level, object 3C: its protocol and its port
+pub record Transport : Type 0 where
+  pub protocol : ℕ
+  pub port : ℕ
+
+-- the values that a type has
+pub data Body : Type 0 where
+  moreTime : Body
+  eventList : List ℕ → Body
+  openChannel : Bearer → ℕ → Option Transport → Body
+  closeChannel : Body
+  receiveData : ℕ → Body
+  sendData : List ℕ → Body
+  channelStatus : Body
+  other : ℕ → Body
+
+-- a command with its values
+pub record Command : Type 0 where
+  pub number : ℕ
+  pub qualifier : ℕ
+  pub source : DeviceIdentity
+  pub destination : DeviceIdentity
+  pub body : Body
+
+-- the type that has these values
+unfoldable pub kindOf : Body → ℕ
+kindOf moreTime = 0x02
+kindOf (eventList es) = 0x05
+kindOf (openChannel b s t) = 0x40
+kindOf closeChannel = 0x41
+kindOf (receiveData n) = 0x42
+kindOf (sendData s) = 0x43
+kindOf channelStatus = 0x44
+kindOf (other t) = t
+
+-- the details of a command: number, type, qualifier
+unfoldable pub detailsOf : Command → Details
+detailsOf c = record { number = c .number; kind = kindOf (c .body); qualifier = c .qualifier }
+
+-- details 00 00 00
+unfoldable pub zeros : Details
+zeros = record { number = 0; kind = 0; qualifier = 0 }
+
+-- the value of object 01 as details
+unfoldable pub detailsIn : List ℕ → Details
+detailsIn v = record { number = getD v 0 0; kind = getD v 1 0; qualifier = getD v 2 0 }
+
+-- two bytes, high byte first
+unfoldable pub pairIn : List ℕ → ℕ
+pairIn v = 256 * getD v 0 0 + getD v 1 0
+
+unfoldable pub bearerIn : List ℕ → Bearer
+bearerIn v = record { kind = getD v 0 0; parameters = drop 1 v }
+
+unfoldable pub transportIn : List ℕ → Transport
+transportIn v = record { protocol = getD v 0 0; port = pairIn (drop 1 v) }
+
+-- the values of a type among the objects that count
+unfoldable pub bodyIn : ℕ → List Object → Body
+bodyIn t os =
+    eqb t 0x02 ⇒ moreTime else
+    eqb t 0x05 ⇒ eventList (valueOf 0x19 os) else
+    eqb t 0x40 ⇒
+    openChannel (bearerIn (valueOf 0x35 os)) (pairIn (valueOf 0x39 os))
+    (present 0x3C os ⇒ some (transportIn (valueOf 0x3C os)) else none) else
+    eqb t 0x41 ⇒ closeChannel else
+    eqb t 0x42 ⇒ receiveData (getD (valueOf 0x37 os) 0 0) else
+    eqb t 0x43 ⇒ sendData (valueOf 0x36 os) else
+    eqb t 0x44 ⇒ channelStatus else
+    other t
+
+-- the command with these details among the objects that count
+unfoldable pub commandIn : Details → List Object → Command
+commandIn d os =
+    record {
+      number = d .number;
+      qualifier = d .qualifier;
+      source = record { 0 = getD (valueOf 0x02 os) 0 0 };
+      destination = record { 0 = getD (valueOf 0x02 os) 1 0 };
+      body = bodyIn (d .kind) os;
+    }
+
+-- the types that go to the modem itself, 82; the others go to a channel
+unfoldable pub toModem : ℕ → Bool
+toModem t = member t (0x02 ∷ 0x05 ∷ 0x40 ∷ 0x44 ∷ [])
+
+-- step 8: from the card, 81, to the modem, 82, or to a channel, 21 to 27
+unfoldable pub addressed : ℕ → DeviceIdentity → DeviceIdentity → Bool
+addressed t from to =
+    eqb (from .0) 0x81 &&
+    (toModem t ⇒ eqb (to .0) 0x82 else
+    leb 0x21 (to .0) && leb (to .0) 0x27)
+
+-- the walk met a fault
+unfoldable pub isFault : Ending → Bool
+isFault End = false
+isFault BadTag = true
+isFault BadLength = true
+isFault CutValue = true
+
+-- the first of the objects is 01 with length 3
+unfoldable pub startsWithDetails : List Object → Bool
+startsWithDetails [] = false
+startsWithDetails (o ∷ os) = eqb (o .number) 0x01 && eqb (length (o .value)) 3
+
+-- an error with its details, or the command and whether an unexpected object was ignored
+pub data Reading : Type 0 where
+  wrong : Details → ℕ → Reading
+  asked : Command → Bool → Reading
+
+-- steps 2 to 8, in the paper's order
+unfoldable pub reading : List ℕ → List ℕ → Reading
+reading p s =
+    let w = walk (contents s) in
+    let d = detailsIn (valueOf 0x01 (w .objects)) in
+    let r = rowOf (d .kind) in
+    let o = sift r [] (w .objects) in
+    let c = commandIn d (o .counting) in
+    -- 2
+    not (framed s) ⇒ wrong zeros 0x32 else
+    -- 3
+    isEmpty (contents s) ⇒ wrong zeros 0x36 else
+    isEmpty (w .objects) ⇒ wrong zeros 0x32 else
+    not (startsWithDetails (w .objects)) ⇒ wrong zeros 0x36 else
+    -- 4
+    isFault (w .ending) ⇒ wrong d 0x32 else
+    -- 5
+    not (known (d .kind)) ⇒ wrong d 0x31 else
+    not (allowsType p (d .kind)) ⇒ wrong d 0x30 else
+    -- 6
+    some-of (λ (x : Object). x .flag) (o .unexpected) ⇒ wrong d 0x32 else
+    -- 7
+    not (complete r (o .counting)) ⇒ wrong d 0x36 else
+    not (every lengthFits (o .counting)) ⇒ wrong d 0x32 else
+    -- 8
+    not (addressed (d .kind) (c .source) (c .destination)) ⇒ wrong d 0x32 else
+    asked c (not (isEmpty (o .unexpected)))

@@ -1,0 +1,89 @@
+// The words that the definitions and the code share.
+ghost use mathlib.Core.Path.{_≡_};
+ghost use Rattle.rules.specs.Words.{numberOf, identityOf, channelOf};
+
+// Object 01 of a command: its number, its type and its qualifier. Every response echoes them.
+pub struct Details {
+    pub number: u8,
+    pub kind: u8,
+    pub qualifier: u8,
+}
+
+// The refusals R1 to R9, in the order of the table.
+pub enum Refusal {
+    ShortBuffer,
+    CommandSize,
+    NoChannel,
+    Unopened,
+    Unlinked,
+    Overfull,
+    UnfitRecord,
+    NoResponse,
+    Unreadable,
+}
+
+impl Refusal {
+    // The number that the paper gives the refusal.
+    pub fn number(self) -> u8
+        ensures { λ r. ⌜ r ≡ numberOf self ⌝ }
+    {
+        match self {
+            Refusal::ShortBuffer => 1,
+            Refusal::CommandSize => 2,
+            Refusal::NoChannel => 3,
+            Refusal::Unopened => 4,
+            Refusal::Unlinked => 5,
+            Refusal::Overfull => 6,
+            Refusal::UnfitRecord => 7,
+            Refusal::NoResponse => 8,
+            Refusal::Unreadable => 9,
+        }
+    }
+}
+
+// The link of an open channel.
+pub enum Link {
+    NotYet,
+    Established,
+    Dropped,
+}
+
+// The event list: whether 09, data available, and 0A, channel status, are listed.
+pub struct Events {
+    pub available: bool,
+    pub status: bool,
+}
+
+// How a walk over objects ends: at the end, or at the first fault.
+pub enum Ending {
+    End,
+    BadTag,
+    BadLength,
+    CutValue,
+}
+
+// A channel, 1 to 7, as the radio and the statuses count it.
+pub struct ChannelNumber(pub u8);
+
+// A device, as object 02 names it: 21 to 27 are the channels.
+pub struct DeviceIdentity(pub u8);
+
+impl ChannelNumber {
+    // The identity by which the card names the channel: 20 plus its number.
+    pub fn identity(self) -> DeviceIdentity
+        ensures { λ r. ⌜ r ≡ identityOf self ⌝ }
+    {
+        let n = self.0 as u16;
+        DeviceIdentity(((n + 0x20) % 256) as u8)
+    }
+}
+
+impl DeviceIdentity {
+    // The channel that the identity names: its number is the identity less 20.
+    pub fn channel(self) -> ChannelNumber
+        ensures { λ r. ⌜ r ≡ channelOf self ⌝ }
+    {
+        let i = self.0 as u16;
+        ChannelNumber(((i + 0xE0) % 256) as u8)
+    }
+}
