@@ -14,4 +14,5 @@ pub mod Radio
 pub mod Bench
 pub mod Lines
 pub mod Run
+pub mod Sound
 pub mod Numbers

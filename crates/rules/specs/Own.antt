@@ -39,7 +39,7 @@ pub record Reply : Type 0 where
   pub state : State
   pub result : Result
 
-abbrev reply : State → Result → Reply
+abbrev pub reply : State → Result → Reply
 reply a r = record { state = a; result = r }
 
 -- bit 1 of the qualifier
@@ -54,13 +54,16 @@ capped n = min n 255
 unfoldable pub plain : Bool → ℕ
 plain ignored = ignored ⇒ 0x01 else 0x00
 
+-- the state with another event list
+unfoldable pub listed : State → List ℕ → State
+listed a es =
+    record { profile = a .profile; events = record { available = member 0x09 es; status = member 0x0A es }; chans = a .chans }
+
 -- 05: each value is 09 or 0A and allowed, or the list stays; it replaces the old one
 unfoldable pub listing : State → List ℕ → Bool → Reply
 listing a es ignored =
     not (every (allowsEvent (a .profile)) es) ⇒ reply a (error 0x30) else
-    reply
-    (record { profile = a .profile; events = record { available = member 0x09 es; status = member 0x0A es }; chans = a .chans })
-    (done (plain ignored) nothing)
+    reply (listed a es) (done (plain ignored) nothing)
 
 -- bearer type 03, or 02 if allowed
 unfoldable pub served : List ℕ → Bearer → Bool

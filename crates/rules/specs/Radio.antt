@@ -16,18 +16,23 @@ use Rattle.rules.specs.Command.{Answer, answered, refusal}
 unfoldable pub numbered : ChannelNumber → Bool
 numbered n = leb 1 (n .0) && leb (n .0) 7
 
--- the bytes are stored whole; 09 tells of them
+-- where 09 is listed it tells of the bytes that came, if any, with all that is held now
+unfoldable pub arrivalEvent : State → ChannelNumber → List ℕ → List ℕ
+arrivalEvent a n s =
+    let c = arrived (chan a n) s in
+    let told = statusObject n (c .link) ∷ unflagged 0x37 (capped (length (c .recv)) ∷ []) ∷ [] in
+    not (isEmpty s) && a .events .available ⇒ eventBytes 0x09 told else []
+
+-- the bytes are stored whole
 unfoldable pub arrival : State → ℕ → ChannelNumber → List ℕ → Answer
 arrival a buffer n s =
     let c = chan a n in
-    let after = arrived c s in
-    let told = statusObject n (c .link) ∷ unflagged 0x37 (capped (length (after .recv)) ∷ []) ∷ [] in
     ltb buffer 16 ⇒ refusal a ShortBuffer else
     not (numbered n) ⇒ refusal a NoChannel else
     not (isOpen c) ⇒ refusal a Unopened else
     not (isEstablished (c .link)) ⇒ refusal a Unlinked else
     ltb (room (c .grant) (c .recv)) (length s) ⇒ refusal a Overfull else
-    answered (withChan a n after) (not (isEmpty s) && a .events .available ⇒ eventBytes 0x09 told else [])
+    answered (withChan a n (arrived c s)) (arrivalEvent a n s)
 
 -- as many ready bytes as fit the buffer are handed out
 unfoldable pub taking : State → ℕ → ChannelNumber → Answer
@@ -39,13 +44,18 @@ taking a buffer n =
     not (isEstablished (c .link)) ⇒ refusal a Unlinked else
     answered (withChan a n (taken c k)) (take k (c .send))
 
--- the link is dropped; 0A tells of it
+-- where 0A is listed it tells of the dropped link
+unfoldable pub dropEvent : State → ChannelNumber → List ℕ
+dropEvent a n =
+    let c = dropped (chan a n) in
+    a .events .status ⇒ eventBytes 0x0A (statusObject n (c .link) ∷ []) else []
+
+-- the link is dropped
 unfoldable pub dropping : State → ℕ → ChannelNumber → Answer
 dropping a buffer n =
     let c = chan a n in
-    let after = dropped c in
     ltb buffer 16 ⇒ refusal a ShortBuffer else
     not (numbered n) ⇒ refusal a NoChannel else
     not (isOpen c) ⇒ refusal a Unopened else
     not (isEstablished (c .link)) ⇒ refusal a Unlinked else
-    answered (withChan a n after) (a .events .status ⇒ eventBytes 0x0A (statusObject n (after .link) ∷ []) else [])
+    answered (withChan a n (dropped c)) (dropEvent a n)

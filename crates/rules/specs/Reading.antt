@@ -9,9 +9,9 @@ use Rattle.rules.specs.declared.Details.{Details}
 use Rattle.rules.specs.declared.DeviceIdentity.{DeviceIdentity}
 use Rattle.rules.specs.declared.Ending.{Ending}
 use Rattle.rules.specs.declared.Ending.the-variants.{End, BadTag, BadLength, CutValue}
-use Rattle.rules.specs.Checks.{_⇒_else_, isEmpty, every, some-of, member}
+use Rattle.rules.specs.Checks.{_⇒_else_, isEmpty, some-of, member}
 use Rattle.rules.specs.Frames.{Object, walk, framed, contents}
-use Rattle.rules.specs.Table.{rowOf, known, sift, present, valueOf, complete, lengthFits}
+use Rattle.rules.specs.Table.{rowOf, known, sift, present, valueOf, complete, measured}
 use Rattle.rules.specs.Profile.{allowsType}
 
 -- a bearer, object 35: its type and its parameters
@@ -152,7 +152,7 @@ reading p s =
     some-of (λ (x : Object). x .flag) (o .unexpected) ⇒ wrong d 0x32 else
     -- 7
     not (complete r (o .counting)) ⇒ wrong d 0x36 else
-    not (every lengthFits (o .counting)) ⇒ wrong d 0x32 else
+    not (measured (o .counting)) ⇒ wrong d 0x32 else
     -- 8
     not (addressed (d .kind) (c .source) (c .destination)) ⇒ wrong d 0x32 else
     asked c (not (isEmpty (o .unexpected)))

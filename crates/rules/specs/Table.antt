@@ -83,13 +83,15 @@ bearerFits v =
     eqb (getD v 0 0) 0x03 ⇒ eqb (length v) 1 else
     true
 
--- the lengths; the other values have any
-unfoldable pub lengthFits : Object → Bool
-lengthFits o =
-    let n = o .number in
-    let l = length (o .value) in
-    eqb n 0x01 || eqb n 0x3C ⇒ eqb l 3 else
-    eqb n 0x02 || eqb n 0x04 || eqb n 0x1E || eqb n 0x39 ⇒ eqb l 2 else
-    eqb n 0x37 ⇒ eqb l 1 else
-    eqb n 0x35 ⇒ bearerFits (o .value) else
+-- the length that the value of an object of this number has; the other values have any
+unfoldable pub lengthFits : ℕ → List ℕ → Bool
+lengthFits n v =
+    eqb n 0x01 || eqb n 0x3C ⇒ eqb (length v) 3 else
+    eqb n 0x02 || eqb n 0x04 || eqb n 0x1E || eqb n 0x39 ⇒ eqb (length v) 2 else
+    eqb n 0x37 ⇒ eqb (length v) 1 else
+    eqb n 0x35 ⇒ bearerFits v else
     true
+
+-- every object has its length
+unfoldable pub measured : List Object → Bool
+measured = every (λ (o : Object). lengthFits (o .number) (o .value))

@@ -1,0 +1,149 @@
+-- Every way in which a call can end: what holds of each refusal, of each error and of the answer, holds of the call.
+-- Assumes nothing.
+use Prim.Native.Nat.{ℕ, _+_, _≤_, min}
+use mathlib.Core.Path.{_≡_, refl}
+use mathlib.Core.Bool.{Bool, true, false, not}
+use mathlib.Core.List.{List, [], _∷_, _++_}
+use mathlib.Core.Option.{Option}
+use native.Mathlib.Omega.{arith}
+use lib.ListN.{length, take}
+use lib.Dec.{ltb}
+use borrow.Author.Tests.{ltb-false, eqb-false}
+use Rattle.rules.specs.declared.ChannelNumber.{ChannelNumber}
+use Rattle.rules.specs.declared.Link.{Link}
+use Rattle.rules.specs.declared.Link.the-variants.{NotYet, Established}
+use Rattle.rules.specs.declared.Refusal.{Refusal}
+use Rattle.rules.specs.declared.Refusal.the-variants.{ShortBuffer, NoChannel, Unopened, Unlinked, Overfull, CommandSize}
+use Rattle.rules.specs.Checks.{_⇒_else_, isEmpty, every}
+use Rattle.rules.specs.Profile.{allowsEvent, channels}
+use Rattle.rules.specs.State.{State, Chan, chan, withChan, isOpen, isEstablished, isDropped, room, closed, fresh, arrived, handed, stored, readied, taken, dropped}
+use Rattle.rules.specs.Pool.{unpromised, grantFor}
+use Rattle.rules.specs.Reading.{Reading, Bearer, Transport, reading}
+use Rattle.rules.specs.Own.{Reply, Result, Status, reply, error, problem, done, nothing, opened, received, sent, bit1, plain, capped, served, isTcp, openBefore, listing, listed, opening, closing, receiving, sending}
+use Rattle.rules.specs.Written.{responseBytes}
+use Rattle.rules.specs.Command.{Answer, Meant, answered, refusal, command, meantBy}
+use Rattle.rules.specs.Radio.{numbered, arrivalEvent, arrival, taking, dropEvent, dropping}
+use Rattle.rules.proofs.Laws.{branch, not-not, either-right}
+
+positive : (n : ℕ) → (n ≡ 0 → ⊥) → 1 ≤ n
+positive n h = omega arith
+
+-- the channel has a number, stands open and its link is established
+pub record Linked (a : State) (n : ChannelNumber) : Type 0 where
+  pub number : numbered n ≡ true
+  pub stands : isOpen (chan a n) ≡ true
+  pub link : isEstablished (chan a n .link) ≡ true
+
+module _ (Q : Answer → Type 0) (a : State) (refuse : (r : Refusal) → Q (refusal a r)) where
+  pub arrival-cases :
+      (buffer : ℕ) (n : ChannelNumber) (s : List ℕ) →
+      (16 ≤ buffer → Linked a n → length s ≤ room (chan a n .grant) (chan a n .recv) →
+      Q (answered (withChan a n (arrived (chan a n) s)) (arrivalEvent a n s))) →
+      Q (arrival a buffer n s)
+  unfolding arrival
+  arrival-cases buffer n s f =
+      branch Q _ _ _ (λ _. refuse ShortBuffer) (λ e₁.
+      branch Q _ _ _ (λ _. refuse NoChannel) (λ e₃.
+      branch Q _ _ _ (λ _. refuse Unopened) (λ e₄.
+      branch Q _ _ _ (λ _. refuse Unlinked) (λ e₅.
+      branch Q _ _ _ (λ _. refuse Overfull) (λ e₆.
+      f (ltb-false _ _ e₁) (record { number = not-not _ e₃; stands = not-not _ e₄; link = not-not _ e₅ }) (ltb-false _ _ e₆))))))
+
+  pub taking-cases :
+      (buffer : ℕ) (n : ChannelNumber) →
+      (Linked a n →
+      Q (answered (withChan a n (taken (chan a n) (min buffer (chan a n .ready)))) (take (min buffer (chan a n .ready)) (chan a n .send)))) →
+      Q (taking a buffer n)
+  unfolding taking
+  taking-cases buffer n f =
+      branch Q _ _ _ (λ _. refuse NoChannel) (λ e₃.
+      branch Q _ _ _ (λ _. refuse Unopened) (λ e₄.
+      branch Q _ _ _ (λ _. refuse Unlinked) (λ e₅.
+      f (record { number = not-not _ e₃; stands = not-not _ e₄; link = not-not _ e₅ }))))
+
+  pub dropping-cases :
+      (buffer : ℕ) (n : ChannelNumber) →
+      (16 ≤ buffer → Linked a n → Q (answered (withChan a n (dropped (chan a n))) (dropEvent a n))) →
+      Q (dropping a buffer n)
+  unfolding dropping
+  dropping-cases buffer n f =
+      branch Q _ _ _ (λ _. refuse ShortBuffer) (λ e₁.
+      branch Q _ _ _ (λ _. refuse NoChannel) (λ e₃.
+      branch Q _ _ _ (λ _. refuse Unopened) (λ e₄.
+      branch Q _ _ _ (λ _. refuse Unlinked) (λ e₅.
+      f (ltb-false _ _ e₁) (record { number = not-not _ e₃; stands = not-not _ e₄; link = not-not _ e₅ })))))
+
+  pub command-cases :
+      (buffer : ℕ) (s : List ℕ) →
+      (255 ≤ buffer → length s ≤ 256 → Q (answered (meantBy a (reading (a .profile) s) .state) (responseBytes (meantBy a (reading (a .profile) s) .response)))) →
+      Q (command a buffer s)
+  unfolding command
+  command-cases buffer s f =
+      branch Q _ _ _ (λ _. refuse ShortBuffer) (λ e₁.
+      branch Q _ _ _ (λ _. refuse CommandSize) (λ e₂.
+      f (ltb-false _ _ e₁) (ltb-false _ _ (either-right (isEmpty s) (ltb 256 (length s)) e₂))))
+
+-- the facts under which an OPEN CHANNEL opens
+pub record Opens (a : State) (b : Bearer) (size : ℕ) (t : Option Transport) : Type 0 where
+  pub bearer : served (a .profile) b ≡ true
+  pub tcp : isTcp t ≡ true
+  pub asks : 1 ≤ size
+  pub unused : openBefore (channels (a .profile)) (a .chans) ≡ channels (a .profile) → ⊥
+  pub free : 2 ≤ unpromised a
+
+module _ (Q : Reply → Type 0) (a : State) where
+  pub listing-cases :
+      (es : List ℕ) (i : Bool) →
+      Q (reply a (error 0x30)) →
+      (every (allowsEvent (a .profile)) es ≡ true → Q (reply (listed a es) (done (plain i) nothing))) →
+      Q (listing a es i)
+  unfolding listing
+  listing-cases es i e30 f = branch Q _ _ _ (λ _. e30) (λ e. f (not-not _ e))
+
+  module _ (why : (cause : ℕ) → Q (reply a (problem cause))) where
+    pub opening-cases :
+        (q : ℕ) (b : Bearer) (size : ℕ) (t : Option Transport) (i : Bool) →
+        Q (reply a (error 0x30)) →
+        ((number : ChannelNumber) (link : Link) (g : ℕ) →
+        number .0 ≡ openBefore (channels (a .profile)) (a .chans) + 1 → link ≡ (bit1 q ⇒ Established else NotYet) → g ≡ grantFor size (unpromised a) →
+        Opens a b size t →
+        Q (reply (withChan a number (fresh g link)) (done (ltb g size ⇒ 0x07 else plain i) (opened (record { number = number; link = link }) b g)))) →
+        Q (opening a q b size t i)
+    unfolding opening
+    opening-cases q b size t i e30 f =
+        branch Q _ _ _ (λ _. e30) (λ e₁.
+        branch Q _ _ _ (λ _. why 0x06) (λ e₂.
+        branch Q _ _ _ (λ _. why 0x04) (λ e₃.
+        branch Q _ _ _ (λ _. why 0x01) (λ e₄.
+        branch Q _ _ _ (λ _. why 0x04) (λ e₅.
+        f _ _ _ refl refl refl
+        (record { bearer = not-not _ e₁; tcp = not-not _ e₂; asks = positive _ (eqb-false _ _ e₃); unused = eqb-false _ _ e₄; free = ltb-false _ _ e₅ }))))))
+
+    pub closing-cases :
+        (n : ChannelNumber) (i : Bool) →
+        (isOpen (chan a n) ≡ true → Q (reply (withChan a n closed) (done (plain i) nothing))) →
+        Q (closing a n i)
+    unfolding closing
+    closing-cases n i f = branch Q _ _ _ (λ _. why 0x03) (λ e. f (not-not _ e))
+
+    pub receiving-cases :
+        (n : ChannelNumber) (request : ℕ) (i : Bool) →
+        ((k : ℕ) → k ≡ min request (min (length (chan a n .recv)) 237) → isOpen (chan a n) ≡ true →
+        Q (reply (withChan a n (handed (chan a n) k))
+        (done (ltb k request ⇒ 0x02 else plain i) (received (take k (chan a n .recv)) (capped (length (handed (chan a n) k .recv))))))) →
+        Q (receiving a n request i)
+    unfolding receiving
+    receiving-cases n request i f = branch Q _ _ _ (λ _. why 0x03) (λ e. f _ refl (not-not _ e))
+
+    pub sending-cases :
+        (q : ℕ) (n : ChannelNumber) (s : List ℕ) (i : Bool) →
+        ((c : Chan) → c ≡ (bit1 q ⇒ readied (stored (chan a n) s) else stored (chan a n) s) →
+        isOpen (chan a n) ≡ true → isDropped (chan a n .link) ≡ false → length s ≤ room (chan a n .grant) (chan a n .send) →
+        Q (reply (withChan a n c) (done (plain i) (sent (capped (room (c .grant) (c .send))))))) →
+        Q (sending a q n s i)
+    unfolding sending
+    sending-cases q n s i f =
+        branch Q _ _ _ (λ _. why 0x03) (λ e₁.
+        branch Q _ _ _ (λ _. why 0x02) (λ e₂.
+        branch Q _ _ _ (λ _. why 0x04) (λ e₃.
+        f _ refl (not-not _ e₁) e₂ (ltb-false _ _ e₃))))

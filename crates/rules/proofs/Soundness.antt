@@ -1,0 +1,237 @@
+-- The state stays sound, from the start through any list of calls; and a refusal leaves it.
+-- Assumes nothing.
+use Prim.Native.Nat.{ℕ, zero, suc, _+_, _-_, _*_, _≤_, _<_, min}
+use mathlib.Core.Path.{_≡_, refl, sym, ap, subst, _∙_}
+use mathlib.Core.Bool.{Bool, true, false}
+use mathlib.Core.List.{List, [], _∷_, _++_}
+use native.Mathlib.Omega.{arith}
+use native.Mathlib.Nat.{le-of-suc-le-suc, not-suc-le-zero}
+use lib.ListN.{length, getD, set, take, drop, replicate, length-append, length-drop, length-take, length-set}
+use lib.Dec.{leb}
+use borrow.Author.Tests.{leb-true}
+use Rattle.rules.specs.declared.ChannelNumber.{ChannelNumber}
+use Rattle.rules.specs.declared.Link.{Link}
+use Rattle.rules.specs.declared.Refusal.{Refusal}
+use Rattle.rules.specs.Checks.{_⇒_else_}
+use Rattle.rules.specs.Profile.{kept, channels}
+use Rattle.rules.specs.State.{State, Chan, closed, isOpen, start, chan, withChan, room, fresh, arrived, handed, stored, readied, taken, dropped}
+use Rattle.rules.specs.Pool.{cells, promisedTo, promised, unpromised, grantFor}
+use Rattle.rules.specs.Words.{channelOf}
+use Rattle.rules.specs.Reading.{Reading, wrong, asked, reading, Command, Body, moreTime, eventList, openChannel, closeChannel, receiveData, sendData, channelStatus, other}
+use Rattle.rules.specs.Own.{Reply, bit1, openBefore, listed, own}
+use Rattle.rules.specs.Command.{Answer, refused, answered, meantBy}
+use Rattle.rules.specs.Run.{Call, starting, commanding, arriving, takingOut, droppingLink, step, after}
+use Rattle.rules.specs.Sound.{Each, SoundChan, Sound}
+use Rattle.rules.proofs.Laws.{branch, each-get, each-set, each-replicate}
+use Rattle.rules.proofs.Cases.{Opens, Linked, arrival-cases, taking-cases, dropping-cases, command-cases, listing-cases, opening-cases, closing-cases, receiving-cases, sending-cases}
+use Rattle.rules.proofs.Grants.{Granted, grant-law, promised-set}
+
+-- the changes of one channel
+
+pub closed-sound : SoundChan closed
+unfolding closed
+closed-sound = record { capped = omega arith; recv-fits = omega arith; send-fits = omega arith; ready-held = omega arith }
+
+pub fresh-sound : (g : ℕ) (l : Link) → g ≤ 1500 → SoundChan (fresh g l)
+unfolding fresh
+fresh-sound g l h = record { capped = h; recv-fits = omega arith; send-fits = omega arith; ready-held = omega arith }
+
+module _ (c : Chan) (h : SoundChan c) where
+  pub arrived-sound : (s : List ℕ) → length s ≤ room (c .grant) (c .recv) → SoundChan (arrived c s)
+  unfolding arrived room
+  arrived-sound s f =
+      record { capped = h .capped; recv-fits = simp length-append (omega arith); send-fits = h .send-fits; ready-held = h .ready-held }
+
+  pub handed-sound : (k : ℕ) → SoundChan (handed c k)
+  unfolding handed
+  handed-sound k =
+      record { capped = h .capped; recv-fits = simp length-drop (omega arith); send-fits = h .send-fits; ready-held = h .ready-held }
+
+  pub stored-sound : (s : List ℕ) → length s ≤ room (c .grant) (c .send) → SoundChan (stored c s)
+  unfolding stored room
+  stored-sound s f =
+      record {
+        capped = h .capped;
+        recv-fits = h .recv-fits;
+        send-fits = simp length-append (omega arith);
+        ready-held = simp length-append (omega arith)
+      }
+
+  pub readied-sound : SoundChan (readied c)
+  unfolding readied
+  readied-sound = record { capped = h .capped; recv-fits = h .recv-fits; send-fits = h .send-fits; ready-held = omega arith }
+
+  pub taken-sound : (k : ℕ) → k ≤ c .ready → SoundChan (taken c k)
+  unfolding taken
+  taken-sound k f =
+      record {
+        capped = h .capped;
+        recv-fits = h .recv-fits;
+        send-fits = simp length-drop (omega arith);
+        ready-held = simp length-drop (omega arith)
+      }
+
+  pub dropped-sound : SoundChan (dropped c)
+  unfolding dropped
+  dropped-sound = record { capped = h .capped; recv-fits = h .recv-fits; send-fits = h .send-fits; ready-held = h .ready-held }
+
+-- a channel that stands open has a place
+pub open-place : (cs : List Chan) (k : ℕ) → isOpen (getD cs k closed) ≡ true → k < length cs
+unfolding isOpen closed
+open-place [] k e = absurd (mathlib.Core.Bool.false≢true e)
+open-place (c ∷ cs) zero e = omega arith
+open-place (c ∷ cs) (suc k) e = let ih = open-place cs k e in omega arith
+
+-- one channel changes, and the cells it gains are free
+pub with-sound :
+    (a : State) (n : ChannelNumber) (c : Chan) → Sound a → n .0 - 1 < length (a .chans) → SoundChan c →
+    2 * cells (c .grant) ≤ 2 * cells (chan a n .grant) + unpromised a → Sound (withChan a n c)
+unfolding withChan chan promised unpromised
+with-sound a n c h at hc more =
+    let sum = promised-set (a .chans) (n .0 - 1) c at in
+    record {
+      thirteen = h .thirteen;
+      seven = length-set (a .chans) (n .0 - 1) c ∙ h .seven;
+      each = each-set SoundChan (a .chans) (n .0 - 1) c hc (h .each);
+      within = omega (arith, h .within)
+    }
+
+-- the channel of any number is sound
+pub chan-sound : (a : State) (n : ChannelNumber) → Sound a → SoundChan (chan a n)
+unfolding chan
+chan-sound a n h = each-get SoundChan (a .chans) (n .0 - 1) closed closed-sound (h .each)
+
+-- an open channel changes and keeps its grant
+pub same-sound :
+    (a : State) (n : ChannelNumber) (c : Chan) → Sound a → isOpen (chan a n) ≡ true → SoundChan c → c .grant ≡ chan a n .grant →
+    Sound (withChan a n c)
+unfolding chan
+same-sound a n c h e hc g =
+    with-sound a n c h (open-place (a .chans) (n .0 - 1) e) hc (let k = ap cells g in omega arith)
+
+-- at most the first n stand open before an unused one, and N is at most 7
+open-before-le : (n : ℕ) (cs : List Chan) → openBefore n cs ≤ n
+unfolding openBefore
+open-before-le zero cs = omega arith
+open-before-le (suc n) [] = omega arith
+open-before-le (suc n) (c ∷ cs) =
+    let ih = open-before-le n cs in branch (λ (k : ℕ). k ≤ suc n) _ _ _ (λ _. omega arith) (λ _. omega arith)
+
+channels-le : (p : List ℕ) → channels p ≤ 7
+unfolding channels
+channels-le p = omega arith
+
+-- the number that an OPEN CHANNEL opens is one of the seven
+pub opened-place :
+    (a : State) (k : ℕ) → Sound a → k ≡ openBefore (channels (a .profile)) (a .chans) + 1 →
+    (openBefore (channels (a .profile)) (a .chans) ≡ channels (a .profile) → ⊥) → (1 ≤ k) × (k ≤ 7)
+opened-place a k h e u =
+    let x = open-before-le (channels (a .profile)) (a .chans) in
+    let y = channels-le (a .profile) in
+    omega arith
+
+-- a fresh session is sound
+pub start-sound : (p : List ℕ) → Sound (start p)
+unfolding start kept closed promised promisedTo cells
+start-sound p =
+    record {
+      thirteen = simp (length-take, length-append) (omega arith);
+      seven = refl;
+      each = each-replicate SoundChan 7 closed closed-sound;
+      within = omega arith
+    }
+
+abbrev After : Reply → Type 0
+After r = Sound (r .state)
+
+fresh-cells : (a : State) (n : ChannelNumber) (g : ℕ) (l : Link) → 2 * cells g ≤ unpromised a → 2 * cells (fresh g l .grant) ≤ 2 * cells (chan a n .grant) + unpromised a
+unfolding fresh
+fresh-cells a n g l h = omega arith
+
+closed-cells : (a : State) (n : ChannelNumber) → 2 * cells (closed .grant) ≤ 2 * cells (chan a n .grant) + unpromised a
+unfolding closed cells
+closed-cells a n = omega arith
+
+-- every command leaves a sound state
+own-sound : (a : State) (c : Command) (b : Body) (i : Bool) → Sound a → Sound (own a c b i .state)
+unfolding own listed promised chan handed readied stored
+own-sound a c moreTime i h = h
+own-sound a c (eventList es) i h =
+    listing-cases After a es i h (λ _. record { thirteen = h .thirteen; seven = h .seven; each = h .each; within = h .within })
+own-sound a c (openChannel b size t) i h =
+    opening-cases After a (λ _. h) (c .qualifier) b size t i h
+    (λ n l g eₙ eₗ e o.
+    let place = opened-place a (n .0) h eₙ (o .unused) in
+    let law = subst (Granted size (unpromised a)) (sym e) (grant-law size (unpromised a)) in
+    with-sound a n (fresh g l) h (omega (arith, h .seven)) (fresh-sound g l (law .capped)) (fresh-cells a n g l (law .fits)))
+own-sound a c closeChannel i h =
+    closing-cases After a (λ _. h) (channelOf (c .destination)) i
+    (λ e. with-sound a (channelOf (c .destination)) closed h (open-place (a .chans) _ e) closed-sound (closed-cells a (channelOf (c .destination))))
+own-sound a c (receiveData r) i h =
+    let n = channelOf (c .destination) in
+    receiving-cases After a (λ _. h) n r i (λ k _ e. same-sound a n (handed (chan a n) k) h e (handed-sound (chan a n) (chan-sound a n h) k) refl)
+own-sound a c (sendData s) i h =
+    let n = channelOf (c .destination) in
+    sending-cases After a (λ _. h) (c .qualifier) n s i
+    (λ x e o _ f.
+    let held = stored-sound (chan a n) (chan-sound a n h) s f in
+    subst (λ (y : Chan). Sound (withChan a n y)) (sym e)
+    (branch (λ (y : Chan). Sound (withChan a n y)) (bit1 (c .qualifier)) _ _
+    (λ _. same-sound a n (readied (stored (chan a n) s)) h o (readied-sound (stored (chan a n) s) held) refl)
+    (λ _. same-sound a n (stored (chan a n) s) h o held refl)))
+own-sound a c channelStatus i h = h
+own-sound a c (other t) i h = h
+
+meant-sound : (a : State) (r : Reading) → Sound a → Sound (meantBy a r .state)
+unfolding meantBy
+meant-sound a (wrong d e) h = h
+meant-sound a (asked c i) h = own-sound a c (c .body) i h
+
+abbrev Left : Answer → Type 0
+Left r = Sound (r .state)
+
+-- every call leaves a sound state
+pub step-sound : (a : State) (c : Call) → Sound a → Sound (step a c .state)
+unfolding step arrived taken dropped
+step-sound a (starting p) h = start-sound p
+step-sound a (commanding buffer s) h =
+    command-cases Left a (λ _. h) buffer s (λ _ _. meant-sound a (reading (a .profile) s) h)
+step-sound a (arriving buffer n s) h =
+    arrival-cases Left a (λ _. h) buffer n s
+    (λ _ l f. same-sound a n (arrived (chan a n) s) h (l .stands) (arrived-sound (chan a n) (chan-sound a n h) s f) refl)
+step-sound a (takingOut buffer n) h =
+    taking-cases Left a (λ _. h) buffer n
+    (λ l.
+    same-sound a n (taken (chan a n) (min buffer (chan a n .ready))) h (l .stands)
+    (taken-sound (chan a n) (chan-sound a n h) (min buffer (chan a n .ready)) (omega arith)) refl)
+step-sound a (droppingLink buffer n) h =
+    dropping-cases Left a (λ _. h) buffer n
+    (λ _ l. same-sound a n (dropped (chan a n)) h (l .stands) (dropped-sound (chan a n) (chan-sound a n h)) refl)
+
+after-sound : (a : State) (cs : List Call) → Sound a → Sound (after a cs)
+unfolding after
+after-sound a [] h = h
+after-sound a (c ∷ cs) h = after-sound (step a c .state) cs (step-sound a c h)
+
+-- the state stays sound, from the start through any list of calls
+pub reached-sound : (p : List ℕ) (cs : List Call) → Sound (after (start p) cs)
+reached-sound p cs = after-sound (start p) cs (start-sound p)
+
+-- of an answer that is a refusal: the state is as it was
+abbrev Stays : State → Answer → Type 0
+Stays a r = (why : Refusal) → r .outcome ≡ refused why → r .state ≡ a
+
+answered-stays : (a b : State) (s : List ℕ) → Stays a (answered b s)
+answered-stays a b s why e = cc
+
+-- a refusal leaves the state
+pub refusal-stays : (a : State) (c : Call) → Stays a (step a c)
+unfolding step
+refusal-stays a (starting p) = answered-stays a (start p) []
+refusal-stays a (commanding buffer s) =
+    command-cases (Stays a) a (λ _ _ _. refl) buffer s (λ _ _. answered-stays a _ _)
+refusal-stays a (arriving buffer n s) =
+    arrival-cases (Stays a) a (λ _ _ _. refl) buffer n s (λ _ _ _. answered-stays a _ _)
+refusal-stays a (takingOut buffer n) = taking-cases (Stays a) a (λ _ _ _. refl) buffer n (λ _. answered-stays a _ _)
+refusal-stays a (droppingLink buffer n) =
+    dropping-cases (Stays a) a (λ _ _ _. refl) buffer n (λ _ _. answered-stays a _ _)
