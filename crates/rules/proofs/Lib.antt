@@ -1,4 +1,6 @@
 pub mod Laws
 pub mod Cases
+pub mod Readings
 pub mod Grants
 pub mod Soundness
+pub mod Sizes

@@ -48,3 +48,16 @@ CallBytes (droppingLink buffer n) = Unit {0}
 abbrev pub OutcomeBytes : Outcome → Type 0
 OutcomeBytes (wrote s) = Bytes s
 OutcomeBytes (refused r) = Unit {0}
+
+-- the most bytes that a call writes: 255 for a response, 16 for an event, as many as are asked for by a take
+abbrev pub most : Call → ℕ
+most (starting p) = 0
+most (commanding buffer s) = 255
+most (arriving buffer n s) = 16
+most (takingOut buffer n) = buffer
+most (droppingLink buffer n) = 16
+
+-- an outcome of at most so many bytes
+abbrev pub Within : ℕ → Outcome → Type 0
+Within k (wrote s) = length s ≤ k
+Within k (refused r) = Unit {0}

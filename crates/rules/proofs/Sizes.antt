@@ -1,0 +1,228 @@
+-- Every response has at most 255 bytes, every event at most 16.
+-- Assumes nothing.
+use Prim.Native.Nat.{ℕ, zero, suc, _+_, _*_, _≤_, min}
+use mathlib.Core.Path.{_≡_, refl, sym, ap, subst, _∙_}
+use mathlib.Core.Bool.{Bool, true, false, not, _&&_, _||_, false≢true}
+use mathlib.Core.List.{List, [], _∷_, _++_, map}
+use native.Mathlib.Omega.{arith}
+use lib.ListN.{length, take, drop, getD, length-append, length-take}
+use lib.Dec.{ltb, eqb}
+use borrow.Author.Tests.{eqb-true}
+use Rattle.rules.specs.declared.ChannelNumber.{ChannelNumber}
+use Rattle.rules.specs.declared.Details.{Details}
+use Rattle.rules.specs.declared.Link.{Link}
+use Rattle.rules.specs.declared.Link.the-variants.{NotYet, Established, Dropped}
+use Rattle.rules.specs.Checks.{_⇒_else_, isEmpty, every}
+use Rattle.rules.specs.Words.{channelOf}
+use Rattle.rules.specs.Frames.{Object, lengthBytes, objectBytes, written}
+use Rattle.rules.specs.Table.{table, rowAmong, rowOf, complete, present, valueOf, bearerFits, lengthFits}
+use Rattle.rules.specs.Profile.{allowsBearer02}
+use Rattle.rules.specs.State.{State, Chan, chan}
+use Rattle.rules.specs.Reading.{Reading, wrong, asked, reading, Command, Body, Bearer, moreTime, eventList, openChannel, closeChannel, receiveData, sendData, channelStatus, other, bodyIn, bearerIn, commandIn}
+use Rattle.rules.specs.Own.{Reply, Result, Further, Status, error, problem, done, nothing, opened, received, sent, statuses, capped, served, statusesFrom, own}
+use Rattle.rules.specs.Written.{flagged, unflagged, detailsBytes, bearerBytes, pairBytes, statusBytes, statusObject, statusObjects, furtherObjects, resultBytes, resultObjects, responseObjects, responseBytes, eventBytes}
+use Rattle.rules.specs.Command.{Answer, Outcome, wrote, refused, meantBy}
+use Rattle.rules.specs.Radio.{arrivalEvent, dropEvent}
+use Rattle.rules.specs.Run.{Call, starting, commanding, arriving, takingOut, droppingLink, step}
+use Rattle.rules.specs.Sound.{Sound, most, Within}
+use Rattle.rules.proofs.Laws.{branch, both-left, both-right}
+use Rattle.rules.proofs.Cases.{Opens, Linked, arrival-cases, taking-cases, dropping-cases, command-cases, listing-cases, opening-cases, closing-cases, receiving-cases, sending-cases}
+use Rattle.rules.proofs.Readings.{Read, detailsRead, counted, reading-cases, body-cases, value-fits}
+
+-- a length takes at most two bytes, so an object at most three more than its value
+length-bytes : (n : ℕ) → length (lengthBytes n) ≤ 2
+unfolding lengthBytes
+length-bytes n = branch (λ (s : List ℕ). length s ≤ 2) _ _ _ (λ _. omega arith) (λ _. omega arith)
+
+object-bytes : (o : Object) → length (objectBytes o) ≤ 3 + length (o .value)
+unfolding objectBytes
+object-bytes o =
+    let h = length-bytes (length (o .value)) in
+    let e = length-append (lengthBytes (length (o .value))) (o .value) in
+    omega arith
+
+-- what follows a result
+abbrev Short : Result → Type 0
+Short (error e) = Unit {0}
+Short (problem cause) = Unit {0}
+Short (done r f) = length (written (furtherObjects f)) ≤ 243
+
+response-short : (d : Details) (r : Result) → Short r → length (responseBytes (record { details = d; result = r })) ≤ 255
+unfolding responseBytes responseObjects resultBytes resultObjects detailsBytes written objectBytes lengthBytes _⇒_else_
+response-short d (error e) h = omega arith
+response-short d (problem cause) h = omega arith
+response-short d (done r f) h = omega arith
+
+-- the status of a channel takes two bytes
+status-length : (n : ChannelNumber) (l : Link) → length (statusBytes n l) ≡ 2
+unfolding statusBytes
+status-length n NotYet = refl
+status-length n Established = refl
+status-length n Dropped = refl
+
+opened-short : (s : Status) (b : Bearer) (g : ℕ) → length (bearerBytes b) ≤ 7 → length (written (furtherObjects (opened s b g))) ≤ 243
+unfolding furtherObjects statusObject written pairBytes
+opened-short s b g h =
+    let x = object-bytes (unflagged 0x38 (statusBytes (s .number) (s .link))) in
+    let y = object-bytes (unflagged 0x35 (bearerBytes b)) in
+    let z = object-bytes (unflagged 0x39 (pairBytes g)) in
+    let w = status-length (s .number) (s .link) in
+    simp length-append (omega arith)
+
+count-length : (n : ℕ) → length (objectBytes (unflagged 0x37 (n ∷ []))) ≡ 3
+unfolding objectBytes lengthBytes _⇒_else_
+count-length n = refl
+
+nothing-short : length (written (furtherObjects nothing)) ≤ 243
+unfolding furtherObjects written
+nothing-short = omega arith
+
+received-short : (s : List ℕ) (left : ℕ) → length s ≤ 237 → length (written (furtherObjects (received s left))) ≤ 243
+unfolding furtherObjects written
+received-short s left h =
+    let x = object-bytes (unflagged 0x36 s) in
+    let y = count-length left in
+    simp length-append (omega arith)
+
+sent-short : (room : ℕ) → length (written (furtherObjects (sent room))) ≤ 243
+unfolding furtherObjects written
+sent-short room = let y = count-length room in simp length-append (omega arith)
+
+-- at most as many statuses as channels, of at most five bytes each
+statuses-few : (n : ℕ) (cs : List Chan) → length (statusesFrom n cs) ≤ length cs
+unfolding statusesFrom
+statuses-few n [] = omega arith
+statuses-few n (c ∷ cs) =
+    let ih = statuses-few (n + 1) cs in
+    branch (λ (ss : List Status). length ss ≤ suc (length cs)) _ _ _ (λ _. omega arith) (λ _. omega arith)
+
+status-objects : (ss : List Status) → length (written (map (λ (t : Status). statusObject (t .number) (t .link)) ss)) ≤ 5 * length ss
+unfolding written statusObject
+status-objects [] = omega arith
+status-objects (s ∷ ss) =
+    let x = object-bytes (unflagged 0x38 (statusBytes (s .number) (s .link))) in
+    let w = status-length (s .number) (s .link) in
+    let ih = status-objects ss in
+    simp length-append (omega arith)
+
+none-short : length (written (unflagged 0x38 (0x00 ∷ 0x00 ∷ []) ∷ [])) ≤ 243
+unfolding written objectBytes lengthBytes _⇒_else_
+none-short = omega arith
+
+statuses-short : (ss : List Status) → length ss ≤ 7 → length (written (furtherObjects (statuses ss))) ≤ 243
+unfolding furtherObjects statusObjects
+statuses-short [] h =
+    none-short
+statuses-short (s ∷ ss) h = let x = status-objects (s ∷ ss) in omega arith
+
+-- a bearer that is served has at most seven bytes
+bearer-by : (two three a : Bool) (l : ℕ) → three || (two && a) ≡ true → (two ⇒ eqb l 7 else three ⇒ eqb l 1 else true) ≡ true → l ≤ 7
+unfolding _⇒_else_
+bearer-by true three a l s e = omega (arith, eqb-true l 7 e)
+bearer-by false true a l s e = omega (arith, eqb-true l 1 e)
+bearer-by false false a l s e = absurd (false≢true s)
+
+pub bearer-short : (p : List ℕ) (b : Bearer) → served p b ≡ true → bearerFits (bearerBytes b) ≡ true → length (bearerBytes b) ≤ 7
+unfolding served bearerFits bearerBytes isEmpty _⇒_else_
+bearer-short p b s e = bearer-by (eqb (b .kind) 2) (eqb (b .kind) 3) (allowsBearer02 p) (suc (length (b .parameters))) s e
+
+-- a command that was read has a bearer of its length
+abbrev pub BearerMeasured : Body → Type 0
+BearerMeasured moreTime = Unit {0}
+BearerMeasured (eventList es) = Unit {0}
+BearerMeasured (openChannel b size t) = bearerFits (bearerBytes b) ≡ true
+BearerMeasured closeChannel = Unit {0}
+BearerMeasured (receiveData n) = Unit {0}
+BearerMeasured (sendData s) = Unit {0}
+BearerMeasured channelStatus = Unit {0}
+BearerMeasured (other t) = Unit {0}
+
+bearer-in : (v : List ℕ) → bearerFits v ≡ true → bearerFits (bearerBytes (bearerIn v)) ≡ true
+unfolding bearerIn bearerBytes bearerFits isEmpty _⇒_else_
+bearer-in [] e = absurd (false≢true e)
+bearer-in (x ∷ v) e = e
+
+bearer-there : (os : List Object) → complete (rowOf 0x40) os ≡ true → present 0x35 os ≡ true
+unfolding complete rowOf rowAmong table every _⇒_else_
+bearer-there os e =
+    both-left (present 0x35 os) _ (both-right (present 0x02 os) _ (both-right (present 0x01 os) _ e))
+
+bearer-length : (v : List ℕ) → lengthFits 0x35 v ≡ true → bearerFits v ≡ true
+unfolding lengthFits _⇒_else_
+bearer-length v e = e
+
+pub bearer-read : (p s : List ℕ) → Read p s → BearerMeasured (commandIn (detailsRead s) (counted s) .body)
+unfolding commandIn
+bearer-read p s h =
+    body-cases BearerMeasured (detailsRead s .kind) (counted s) (λ _. tt) (λ _. tt)
+    (λ e.
+    bearer-in (valueOf 0x35 (counted s))
+    (bearer-length (valueOf 0x35 (counted s))
+    (value-fits 0x35 (counted s) (bearer-there (counted s) (subst (λ (t : ℕ). complete (rowOf t) (counted s) ≡ true) e (h .whole))) (h .lengths))))
+    (λ _. tt) (λ _. tt) (λ _. tt) (λ _. tt) tt
+
+-- every command's result is short
+abbrev After : Reply → Type 0
+After r = Short (r .result)
+
+own-short : (a : State) (c : Command) (b : Body) (i : Bool) → Sound a → BearerMeasured b → Short (own a c b i .result)
+unfolding own
+own-short a c moreTime i h m = nothing-short
+own-short a c (eventList es) i h m = listing-cases After a es i tt (λ _. nothing-short)
+own-short a c (openChannel b size t) i h m =
+    opening-cases After a (λ _. tt) (c .qualifier) b size t i tt
+    (λ n l g _ _ _ o. opened-short (record { number = n; link = l }) b g (bearer-short (a .profile) b (o .bearer) m))
+own-short a c closeChannel i h m = closing-cases After a (λ _. tt) (channelOf (c .destination)) i (λ _. nothing-short)
+own-short a c (receiveData r) i h m =
+    receiving-cases After a (λ _. tt) (channelOf (c .destination)) r i
+    (λ k e _. received-short _ _ (let x = length-take k (chan a (channelOf (c .destination)) .recv) in omega arith))
+own-short a c (sendData s) i h m =
+    sending-cases After a (λ _. tt) (c .qualifier) (channelOf (c .destination)) s i (λ x _ _ _ _. sent-short _)
+own-short a c channelStatus i h m =
+    statuses-short (statusesFrom 1 (a .chans)) (let x = statuses-few 1 (a .chans) in omega (arith, h .seven))
+own-short a c (other t) i h m = tt
+
+-- the two events
+
+arrival-told : (n : ChannelNumber) (l : Link) (k : ℕ) → length (eventBytes 0x09 (statusObject n l ∷ unflagged 0x37 (k ∷ []) ∷ [])) ≤ 16
+unfolding eventBytes written objectBytes statusObject statusBytes lengthBytes _⇒_else_
+arrival-told n NotYet k = omega arith
+arrival-told n Established k = omega arith
+arrival-told n Dropped k = omega arith
+
+arrival-short : (a : State) (n : ChannelNumber) (s : List ℕ) → length (arrivalEvent a n s) ≤ 16
+unfolding arrivalEvent
+arrival-short a n s =
+    branch (λ (t : List ℕ). length t ≤ 16) _ _ _ (λ _. arrival-told n _ _) (λ _. omega arith)
+
+drop-told : (n : ChannelNumber) (l : Link) → length (eventBytes 0x0A (statusObject n l ∷ [])) ≤ 16
+unfolding eventBytes written objectBytes statusObject statusBytes lengthBytes _⇒_else_
+drop-told n NotYet = omega arith
+drop-told n Established = omega arith
+drop-told n Dropped = omega arith
+
+drop-short : (a : State) (n : ChannelNumber) → length (dropEvent a n) ≤ 16
+unfolding dropEvent
+drop-short a n = branch (λ (t : List ℕ). length t ≤ 16) _ _ _ (λ _. drop-told n _) (λ _. omega arith)
+
+-- what is meant by a command
+meant-short : (a : State) (s : List ℕ) → Sound a → length (responseBytes (meantBy a (reading (a .profile) s) .response)) ≤ 255
+unfolding meantBy
+meant-short a s h =
+    reading-cases (λ (r : Reading). length (responseBytes (meantBy a r .response)) ≤ 255) (a .profile) s
+    (λ e _. response-short _ (error e) tt) (λ e _. response-short _ (error e) tt)
+    (λ r i. response-short _ _ (own-short a (commandIn (detailsRead s) (counted s)) _ i h (bearer-read (a .profile) s r)))
+
+abbrev Fits : ℕ → Answer → Type 0
+Fits k r = Within k (r .outcome)
+
+-- every response has at most 255 bytes, every event at most 16, a take at most its buffer
+pub written-within : (a : State) (c : Call) → Sound a → Within (most c) (step a c .outcome)
+unfolding step
+written-within a (starting p) h = omega arith
+written-within a (commanding buffer s) h = command-cases (Fits 255) a (λ _. tt) buffer s (λ _ _. meant-short a s h)
+written-within a (arriving buffer n s) h = arrival-cases (Fits 16) a (λ _. tt) buffer n s (λ _ _ _. arrival-short a n s)
+written-within a (takingOut buffer n) h =
+    taking-cases (Fits buffer) a (λ _. tt) buffer n
+    (λ _. let x = length-take (min buffer (chan a n .ready)) (chan a n .send) in omega arith)
+written-within a (droppingLink buffer n) h = dropping-cases (Fits 16) a (λ _. tt) buffer n (λ _ _. drop-short a n)
