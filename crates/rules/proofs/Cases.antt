@@ -14,7 +14,7 @@ use Rattle.rules.specs.declared.Link.{Link}
 use Rattle.rules.specs.declared.Link.the-variants.{NotYet, Established}
 use Rattle.rules.specs.declared.Refusal.{Refusal}
 use Rattle.rules.specs.declared.Refusal.the-variants.{ShortBuffer, NoChannel, Unopened, Unlinked, Overfull, CommandSize}
-use Rattle.rules.specs.Checks.{_⇒_else_, isEmpty, every}
+use Rattle.rules.specs.Checks.{_⇒_else_, isEmpty, every, some-of, member}
 use Rattle.rules.specs.Profile.{allowsEvent, channels}
 use Rattle.rules.specs.State.{State, Chan, chan, withChan, isOpen, isEstablished, isDropped, room, closed, fresh, arrived, handed, stored, readied, taken, dropped}
 use Rattle.rules.specs.Pool.{unpromised, grantFor}
@@ -22,6 +22,7 @@ use Rattle.rules.specs.Reading.{Reading, Bearer, Transport, reading}
 use Rattle.rules.specs.Own.{Reply, Result, Status, reply, error, problem, done, nothing, opened, received, sent, bit1, plain, capped, served, isTcp, openBefore, listing, listed, opening, closing, receiving, sending}
 use Rattle.rules.specs.Written.{responseBytes}
 use Rattle.rules.specs.Command.{Answer, Meant, answered, refusal, command, meantBy}
+use Rattle.rules.specs.Bench.{causeProper}
 use Rattle.rules.specs.Radio.{numbered, arrivalEvent, arrival, taking, dropEvent, dropping}
 use Rattle.rules.proofs.Laws.{branch, not-not, either-right}
 
@@ -83,6 +84,31 @@ module _ (Q : Answer → Type 0) (a : State) (refuse : (r : Refusal) → Q (refu
       branch Q _ _ _ (λ _. refuse CommandSize) (λ e₂.
       f (ltb-false _ _ e₁) (ltb-false _ _ (either-right (isEmpty s) (ltb 256 (length s)) e₂))))
 
+-- the causes that the paper lists for a type
+record Causes : Type 0 where
+  at-40-01 : causeProper 0x40 0x01 ≡ true
+  at-40-04 : causeProper 0x40 0x04 ≡ true
+  at-40-06 : causeProper 0x40 0x06 ≡ true
+  at-41-03 : causeProper 0x41 0x03 ≡ true
+  at-42-03 : causeProper 0x42 0x03 ≡ true
+  at-43-02 : causeProper 0x43 0x02 ≡ true
+  at-43-03 : causeProper 0x43 0x03 ≡ true
+  at-43-04 : causeProper 0x43 0x04 ≡ true
+
+causes : Causes
+unfolding causeProper member some-of _⇒_else_
+causes =
+    record {
+      at-40-01 = refl;
+      at-40-04 = refl;
+      at-40-06 = refl;
+      at-41-03 = refl;
+      at-42-03 = refl;
+      at-43-02 = refl;
+      at-43-03 = refl;
+      at-43-04 = refl
+    }
+
 -- the facts under which an OPEN CHANNEL opens
 pub record Opens (a : State) (b : Bearer) (size : ℕ) (t : Option Transport) : Type 0 where
   pub bearer : served (a .profile) b ≡ true
@@ -100,50 +126,57 @@ module _ (Q : Reply → Type 0) (a : State) where
   unfolding listing
   listing-cases es i e30 f = branch Q _ _ _ (λ _. e30) (λ e. f (not-not _ e))
 
-  module _ (why : (cause : ℕ) → Q (reply a (problem cause))) where
-    pub opening-cases :
-        (q : ℕ) (b : Bearer) (size : ℕ) (t : Option Transport) (i : Bool) →
-        Q (reply a (error 0x30)) →
-        ((number : ChannelNumber) (link : Link) (g : ℕ) →
-        number .0 ≡ openBefore (channels (a .profile)) (a .chans) + 1 → link ≡ (bit1 q ⇒ Established else NotYet) → g ≡ grantFor size (unpromised a) →
-        Opens a b size t →
-        Q (reply (withChan a number (fresh g link)) (done (ltb g size ⇒ 0x07 else plain i) (opened (record { number = number; link = link }) b g)))) →
-        Q (opening a q b size t i)
-    unfolding opening
-    opening-cases q b size t i e30 f =
-        branch Q _ _ _ (λ _. e30) (λ e₁.
-        branch Q _ _ _ (λ _. why 0x06) (λ e₂.
-        branch Q _ _ _ (λ _. why 0x04) (λ e₃.
-        branch Q _ _ _ (λ _. why 0x01) (λ e₄.
-        branch Q _ _ _ (λ _. why 0x04) (λ e₅.
-        f _ _ _ refl refl refl
-        (record { bearer = not-not _ e₁; tcp = not-not _ e₂; asks = positive _ (eqb-false _ _ e₃); unused = eqb-false _ _ e₄; free = ltb-false _ _ e₅ }))))))
+  -- what holds of each problem that the paper lists for a type
+  abbrev pub Why : ℕ → Type 0
+  Why t = (cause : ℕ) → causeProper t cause ≡ true → Q (reply a (problem cause))
 
-    pub closing-cases :
-        (n : ChannelNumber) (i : Bool) →
-        (isOpen (chan a n) ≡ true → Q (reply (withChan a n closed) (done (plain i) nothing))) →
-        Q (closing a n i)
-    unfolding closing
-    closing-cases n i f = branch Q _ _ _ (λ _. why 0x03) (λ e. f (not-not _ e))
+  pub opening-cases :
+      Why 0x40 →
+      (q : ℕ) (b : Bearer) (size : ℕ) (t : Option Transport) (i : Bool) →
+      Q (reply a (error 0x30)) →
+      ((number : ChannelNumber) (link : Link) (g : ℕ) →
+      number .0 ≡ openBefore (channels (a .profile)) (a .chans) + 1 → link ≡ (bit1 q ⇒ Established else NotYet) → g ≡ grantFor size (unpromised a) →
+      Opens a b size t →
+      Q (reply (withChan a number (fresh g link)) (done (ltb g size ⇒ 0x07 else plain i) (opened (record { number = number; link = link }) b g)))) →
+      Q (opening a q b size t i)
+  unfolding opening
+  opening-cases why q b size t i e30 f =
+      branch Q _ _ _ (λ _. e30) (λ e₁.
+      branch Q _ _ _ (λ _. why 0x06 (causes .at-40-06)) (λ e₂.
+      branch Q _ _ _ (λ _. why 0x04 (causes .at-40-04)) (λ e₃.
+      branch Q _ _ _ (λ _. why 0x01 (causes .at-40-01)) (λ e₄.
+      branch Q _ _ _ (λ _. why 0x04 (causes .at-40-04)) (λ e₅.
+      f _ _ _ refl refl refl
+      (record { bearer = not-not _ e₁; tcp = not-not _ e₂; asks = positive _ (eqb-false _ _ e₃); unused = eqb-false _ _ e₄; free = ltb-false _ _ e₅ }))))))
 
-    pub receiving-cases :
-        (n : ChannelNumber) (request : ℕ) (i : Bool) →
-        ((k : ℕ) → k ≡ min request (min (length (chan a n .recv)) 237) → isOpen (chan a n) ≡ true →
-        Q (reply (withChan a n (handed (chan a n) k))
-        (done (ltb k request ⇒ 0x02 else plain i) (received (take k (chan a n .recv)) (capped (length (handed (chan a n) k .recv))))))) →
-        Q (receiving a n request i)
-    unfolding receiving
-    receiving-cases n request i f = branch Q _ _ _ (λ _. why 0x03) (λ e. f _ refl (not-not _ e))
+  pub closing-cases :
+      Why 0x41 →
+      (n : ChannelNumber) (i : Bool) →
+      (isOpen (chan a n) ≡ true → Q (reply (withChan a n closed) (done (plain i) nothing))) →
+      Q (closing a n i)
+  unfolding closing
+  closing-cases why n i f = branch Q _ _ _ (λ _. why 0x03 (causes .at-41-03)) (λ e. f (not-not _ e))
 
-    pub sending-cases :
-        (q : ℕ) (n : ChannelNumber) (s : List ℕ) (i : Bool) →
-        ((c : Chan) → c ≡ (bit1 q ⇒ readied (stored (chan a n) s) else stored (chan a n) s) →
-        isOpen (chan a n) ≡ true → isDropped (chan a n .link) ≡ false → length s ≤ room (chan a n .grant) (chan a n .send) →
-        Q (reply (withChan a n c) (done (plain i) (sent (capped (room (c .grant) (c .send))))))) →
-        Q (sending a q n s i)
-    unfolding sending
-    sending-cases q n s i f =
-        branch Q _ _ _ (λ _. why 0x03) (λ e₁.
-        branch Q _ _ _ (λ _. why 0x02) (λ e₂.
-        branch Q _ _ _ (λ _. why 0x04) (λ e₃.
-        f _ refl (not-not _ e₁) e₂ (ltb-false _ _ e₃))))
+  pub receiving-cases :
+      Why 0x42 →
+      (n : ChannelNumber) (request : ℕ) (i : Bool) →
+      ((k : ℕ) → k ≡ min request (min (length (chan a n .recv)) 237) → isOpen (chan a n) ≡ true →
+      Q (reply (withChan a n (handed (chan a n) k))
+      (done (ltb k request ⇒ 0x02 else plain i) (received (take k (chan a n .recv)) (capped (length (handed (chan a n) k .recv))))))) →
+      Q (receiving a n request i)
+  unfolding receiving
+  receiving-cases why n request i f = branch Q _ _ _ (λ _. why 0x03 (causes .at-42-03)) (λ e. f _ refl (not-not _ e))
+
+  pub sending-cases :
+      Why 0x43 →
+      (q : ℕ) (n : ChannelNumber) (s : List ℕ) (i : Bool) →
+      ((c : Chan) → c ≡ (bit1 q ⇒ readied (stored (chan a n) s) else stored (chan a n) s) →
+      isOpen (chan a n) ≡ true → isDropped (chan a n .link) ≡ false → length s ≤ room (chan a n .grant) (chan a n .send) →
+      Q (reply (withChan a n c) (done (plain i) (sent (capped (room (c .grant) (c .send))))))) →
+      Q (sending a q n s i)
+  unfolding sending
+  sending-cases why q n s i f =
+      branch Q _ _ _ (λ _. why 0x03 (causes .at-43-03)) (λ e₁.
+      branch Q _ _ _ (λ _. why 0x02 (causes .at-43-02)) (λ e₂.
+      branch Q _ _ _ (λ _. why 0x04 (causes .at-43-04)) (λ e₃.
+      f _ refl (not-not _ e₁) e₂ (ltb-false _ _ e₃))))

@@ -4,3 +4,4 @@ pub mod Readings
 pub mod Grants
 pub mod Soundness
 pub mod Sizes
+pub mod Octets

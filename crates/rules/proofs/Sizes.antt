@@ -170,21 +170,21 @@ unfolding own
 own-short a c moreTime i h m = nothing-short
 own-short a c (eventList es) i h m = listing-cases After a es i tt (λ _. nothing-short)
 own-short a c (openChannel b size t) i h m =
-    opening-cases After a (λ _. tt) (c .qualifier) b size t i tt
+    opening-cases After a (λ _ _. tt) (c .qualifier) b size t i tt
     (λ n l g _ _ _ o. opened-short (record { number = n; link = l }) b g (bearer-short (a .profile) b (o .bearer) m))
-own-short a c closeChannel i h m = closing-cases After a (λ _. tt) (channelOf (c .destination)) i (λ _. nothing-short)
+own-short a c closeChannel i h m = closing-cases After a (λ _ _. tt) (channelOf (c .destination)) i (λ _. nothing-short)
 own-short a c (receiveData r) i h m =
-    receiving-cases After a (λ _. tt) (channelOf (c .destination)) r i
+    receiving-cases After a (λ _ _. tt) (channelOf (c .destination)) r i
     (λ k e _. received-short _ _ (let x = length-take k (chan a (channelOf (c .destination)) .recv) in omega arith))
 own-short a c (sendData s) i h m =
-    sending-cases After a (λ _. tt) (c .qualifier) (channelOf (c .destination)) s i (λ x _ _ _ _. sent-short _)
+    sending-cases After a (λ _ _. tt) (c .qualifier) (channelOf (c .destination)) s i (λ x _ _ _ _. sent-short _)
 own-short a c channelStatus i h m =
     statuses-short (statusesFrom 1 (a .chans)) (let x = statuses-few 1 (a .chans) in omega (arith, h .seven))
 own-short a c (other t) i h m = tt
 
 -- the two events
 
-arrival-told : (n : ChannelNumber) (l : Link) (k : ℕ) → length (eventBytes 0x09 (statusObject n l ∷ unflagged 0x37 (k ∷ []) ∷ [])) ≤ 16
+pub arrival-told : (n : ChannelNumber) (l : Link) (k : ℕ) → length (eventBytes 0x09 (statusObject n l ∷ unflagged 0x37 (k ∷ []) ∷ [])) ≤ 16
 unfolding eventBytes written objectBytes statusObject statusBytes lengthBytes _⇒_else_
 arrival-told n NotYet k = omega arith
 arrival-told n Established k = omega arith
@@ -195,7 +195,7 @@ unfolding arrivalEvent
 arrival-short a n s =
     branch (λ (t : List ℕ). length t ≤ 16) _ _ _ (λ _. arrival-told n _ _) (λ _. omega arith)
 
-drop-told : (n : ChannelNumber) (l : Link) → length (eventBytes 0x0A (statusObject n l ∷ [])) ≤ 16
+pub drop-told : (n : ChannelNumber) (l : Link) → length (eventBytes 0x0A (statusObject n l ∷ [])) ≤ 16
 unfolding eventBytes written objectBytes statusObject statusBytes lengthBytes _⇒_else_
 drop-told n NotYet = omega arith
 drop-told n Established = omega arith

@@ -159,20 +159,20 @@ own-sound a c moreTime i h = h
 own-sound a c (eventList es) i h =
     listing-cases After a es i h (λ _. record { thirteen = h .thirteen; seven = h .seven; each = h .each; within = h .within })
 own-sound a c (openChannel b size t) i h =
-    opening-cases After a (λ _. h) (c .qualifier) b size t i h
+    opening-cases After a (λ _ _. h) (c .qualifier) b size t i h
     (λ n l g eₙ eₗ e o.
     let place = opened-place a (n .0) h eₙ (o .unused) in
     let law = subst (Granted size (unpromised a)) (sym e) (grant-law size (unpromised a)) in
     with-sound a n (fresh g l) h (omega (arith, h .seven)) (fresh-sound g l (law .capped)) (fresh-cells a n g l (law .fits)))
 own-sound a c closeChannel i h =
-    closing-cases After a (λ _. h) (channelOf (c .destination)) i
+    closing-cases After a (λ _ _. h) (channelOf (c .destination)) i
     (λ e. with-sound a (channelOf (c .destination)) closed h (open-place (a .chans) _ e) closed-sound (closed-cells a (channelOf (c .destination))))
 own-sound a c (receiveData r) i h =
     let n = channelOf (c .destination) in
-    receiving-cases After a (λ _. h) n r i (λ k _ e. same-sound a n (handed (chan a n) k) h e (handed-sound (chan a n) (chan-sound a n h) k) refl)
+    receiving-cases After a (λ _ _. h) n r i (λ k _ e. same-sound a n (handed (chan a n) k) h e (handed-sound (chan a n) (chan-sound a n h) k) refl)
 own-sound a c (sendData s) i h =
     let n = channelOf (c .destination) in
-    sending-cases After a (λ _. h) (c .qualifier) n s i
+    sending-cases After a (λ _ _. h) (c .qualifier) n s i
     (λ x e o _ f.
     let held = stored-sound (chan a n) (chan-sound a n h) s f in
     subst (λ (y : Chan). Sound (withChan a n y)) (sym e)
