@@ -106,7 +106,7 @@ causes =
       at-42-03 = refl;
       at-43-02 = refl;
       at-43-03 = refl;
-      at-43-04 = refl
+      at-43-04 = refl;
     }
 
 -- the facts under which an OPEN CHANNEL opens

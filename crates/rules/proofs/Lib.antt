@@ -5,3 +5,4 @@ pub mod Grants
 pub mod Soundness
 pub mod Sizes
 pub mod Octets
+pub mod Told

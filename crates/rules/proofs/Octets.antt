@@ -161,9 +161,10 @@ pub record Writable (o : Object) : Type 0 where
 
 written-object : (o : Object) → Writable o → Bytes (objectBytes o)
 unfolding objectBytes
-written-object o w =
-    (branch Byte (o .flag) (o .number + 0x80) (o .number) (λ _. omega (arith, w .number)) (λ _. omega (arith, w .number)),
-    each-append Byte (lengthBytes (length (o .value))) (o .value) (lengths-octets (length (o .value)) (w .size)) (w .bytes))
+written-object o w = (
+  branch Byte (o .flag) (o .number + 0x80) (o .number) (λ _. omega (arith, w .number)) (λ _. omega (arith, w .number)),
+  each-append Byte (lengthBytes (length (o .value))) (o .value) (lengths-octets (length (o .value)) (w .size)) (w .bytes),
+)
 
 written-octets : (os : List Object) → Each Writable os → Bytes (written os)
 unfolding written
@@ -216,10 +217,13 @@ head-octets : (d : Details) (r : Result) → Bytes (detailsBytes d) → Bytes (r
 unfolding responseBytes responseObjects detailsBytes
 head-octets d r hd hr l hf =
     written-octets
-    (flagged 0x01 (d .number ∷ d .kind ∷ d .qualifier ∷ []) ∷ flagged 0x02 (0x82 ∷ 0x81 ∷ []) ∷ flagged 0x03 (resultBytes r) ∷ resultObjects r)
-    (record { number = omega arith; size = omega arith; bytes = hd },
-    (record { number = omega arith; size = omega arith; bytes = (omega arith, (omega arith, tt)) },
-    (record { number = omega arith; size = omega arith; bytes = hr }, hf)))
+    (flagged 0x01 (d .number ∷ d .kind ∷ d .qualifier ∷ []) ∷ flagged 0x02 (0x82 ∷ 0x81 ∷ []) ∷ flagged 0x03 (resultBytes r) ∷ resultObjects r) (
+      record { number = omega arith; size = omega arith; bytes = hd },
+      (
+        record { number = omega arith; size = omega arith; bytes = (omega arith, (omega arith, tt)) },
+        (record { number = omega arith; size = omega arith; bytes = hr }, hf),
+      ),
+    )
 
 response-octets : (d : Details) (r : Result) → Bytes (detailsBytes d) → ResultOctets r → Bytes (responseBytes (record { details = d; result = r }))
 unfolding resultBytes resultObjects
@@ -249,7 +253,7 @@ unfolding start kept closed
 start-octets p h =
     record {
       profile = each-take Byte 13 (p ++ replicate 13 0) (each-append Byte p (replicate 13 0) h (each-replicate Byte 13 0 (omega arith)));
-      held = each-replicate HeldBytes 7 closed (tt, tt)
+      held = each-replicate HeldBytes 7 closed (tt, tt);
     }
 
 plain-octet : (i : Bool) → plain i < 256
@@ -294,10 +298,13 @@ own-octets a c (openChannel b size t) i h o m d =
     let law = subst (Granted size (unpromised a)) (sym e) (grant-law size (unpromised a)) in
     record {
       state = with-octets a n (fresh g l) o (tt, tt);
-      result =
-          (or-plain _ 0x07 i (omega arith),
-          (status-octets n l (place .1),
-          (bearer-object b (bearer-short (a .profile) b (f .bearer) m) d, (grant-octets g (law .capped), tt))))
+      result = (
+        or-plain _ 0x07 i (omega arith),
+        (
+          status-octets n l (place .1),
+          (bearer-object b (bearer-short (a .profile) b (f .bearer) m) d, (grant-octets g (law .capped), tt)),
+        ),
+      );
     })
 own-octets a c closeChannel i h o m d =
     closing-cases Told a (λ why e. record { state = o; result = cause-octet _ why e }) (channelOf (c .destination)) i
@@ -309,7 +316,7 @@ own-octets a c (receiveData r) i h o m d =
     (λ k e _.
     record {
       state = with-octets a n (handed (chan a n) k) o (each-drop Byte k (chan a n .recv) (held .0), held .1);
-      result = (or-plain _ 0x02 i (omega arith), (data-octets k (chan a n .recv) (omega arith) (held .0), (count-octets _, tt)))
+      result = (or-plain _ 0x02 i (omega arith), (data-octets k (chan a n .recv) (omega arith) (held .0), (count-octets _, tt)));
     })
 own-octets a c (sendData s) i h o m d =
     let n = channelOf (c .destination) in
@@ -320,12 +327,12 @@ own-octets a c (sendData s) i h o m d =
       state =
           with-octets a n x o
           (subst HeldBytes (sym e) (branch HeldBytes (bit1 (c .qualifier)) (readied (stored (chan a n) s)) (stored (chan a n) s) (λ _. held) (λ _. held)));
-      result = (plain-octet i, (count-octets _, tt))
+      result = (plain-octet i, (count-octets _, tt));
     })
 own-octets a c channelStatus i h o m d =
     record {
       state = o;
-      result = (plain-octet i, statuses-octets (statusesFrom 1 (a .chans)) (numbers-octets 1 (a .chans) (omega (arith, h .seven))))
+      result = (plain-octet i, statuses-octets (statusesFrom 1 (a .chans)) (numbers-octets 1 (a .chans) (omega (arith, h .seven))));
     }
 own-octets a c (other t) i h o m d = record { state = o; result = omega arith }
 
@@ -357,7 +364,7 @@ meant-octets a s h o b =
     record {
       state = t .state;
       outcome =
-          response-octets (detailsOf c) _ (subst (λ (d : Details). Bytes (detailsBytes d)) (sym (details-told (detailsRead s) (counted s))) (details-octets s b)) (t .result)
+          response-octets (detailsOf c) _ (subst (λ (d : Details). Bytes (detailsBytes d)) (sym (details-told (detailsRead s) (counted s))) (details-octets s b)) (t .result);
     })
 
 -- the events are bytes
@@ -397,7 +404,7 @@ step-octets a (arriving buffer n s) h o b =
     (λ _ l _.
     record {
       state = with-octets a n (arrived (chan a n) s) o (each-append Byte (chan a n .recv) s (held .0) b, held .1);
-      outcome = arrival-octets a n s (l .number)
+      outcome = arrival-octets a n s (l .number);
     })
 step-octets a (takingOut buffer n) h o b =
     let held = chan-octets a n o in
@@ -406,7 +413,7 @@ step-octets a (takingOut buffer n) h o b =
     (λ _.
     record {
       state = with-octets a n (taken (chan a n) k) o (held .0, each-drop Byte k (chan a n .send) (held .1));
-      outcome = each-take Byte k (chan a n .send) (held .1)
+      outcome = each-take Byte k (chan a n .send) (held .1);
     })
 step-octets a (droppingLink buffer n) h o b =
     dropping-cases Ends a (λ _. record { state = o; outcome = tt }) buffer n

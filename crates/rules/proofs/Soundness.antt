@@ -54,7 +54,7 @@ module _ (c : Chan) (h : SoundChan c) where
         capped = h .capped;
         recv-fits = h .recv-fits;
         send-fits = simp length-append (omega arith);
-        ready-held = simp length-append (omega arith)
+        ready-held = simp length-append (omega arith);
       }
 
   pub readied-sound : SoundChan (readied c)
@@ -68,7 +68,7 @@ module _ (c : Chan) (h : SoundChan c) where
         capped = h .capped;
         recv-fits = h .recv-fits;
         send-fits = simp length-drop (omega arith);
-        ready-held = simp length-drop (omega arith)
+        ready-held = simp length-drop (omega arith);
       }
 
   pub dropped-sound : SoundChan (dropped c)
@@ -93,7 +93,7 @@ with-sound a n c h at hc more =
       thirteen = h .thirteen;
       seven = length-set (a .chans) (n .0 - 1) c ∙ h .seven;
       each = each-set SoundChan (a .chans) (n .0 - 1) c hc (h .each);
-      within = omega (arith, h .within)
+      within = omega (arith, h .within);
     }
 
 -- the channel of any number is sound
@@ -138,7 +138,7 @@ start-sound p =
       thirteen = simp (length-take, length-append) (omega arith);
       seven = refl;
       each = each-replicate SoundChan 7 closed closed-sound;
-      within = omega arith
+      within = omega arith;
     }
 
 abbrev After : Reply → Type 0

@@ -1,0 +1,110 @@
+-- What the answers tell is true of the state after them, and the first steps of a reading, one by one.
+-- Assumes nothing.
+use Prim.Native.Nat.{ℕ, zero, suc, _+_, _-_, _%_, _≤_, _<_}
+use mathlib.Core.Path.{_≡_, refl, sym, ap, _∙_}
+use mathlib.Core.Bool.{Bool, true, false, not, _&&_, false≢true}
+use mathlib.Core.List.{List, [], _∷_, _++_}
+use native.Mathlib.Omega.{arith}
+use lib.ListN.{length, getD, set, take, replicate, length-append, List·getD-append, List·getD-eq-default}
+use lib.Seq.{getD-set-same, getD-set-other, getD-take, getD-append-add}
+use lib.Dec.{eqb}
+use borrow.Author.Tests.{ltb-false}
+use Rattle.rules.specs.declared.ChannelNumber.{ChannelNumber}
+use Rattle.rules.specs.declared.DeviceIdentity.{DeviceIdentity}
+use Rattle.rules.specs.declared.Ending.{Ending}
+use Rattle.rules.specs.Checks.{_⇒_else_, isEmpty}
+use Rattle.rules.specs.Words.{identityOf, channelOf}
+use Rattle.rules.specs.Frames.{Object, ObjectRead, faulty, objectAt, onward, walkUpTo, walk, framed, contents}
+use Rattle.rules.specs.Profile.{bit, kept}
+use Rattle.rules.specs.State.{State, Chan, closed, isOpen, chan, withChan, room, arrived, stored, readied}
+use Rattle.rules.specs.Reading.{reading, wrong, zeros}
+use Rattle.rules.specs.Own.{Reply, Result, done, problem, sent, capped, sending}
+use Rattle.rules.specs.Command.{Answer, wrote, answered, refusal}
+use Rattle.rules.specs.Radio.{arrival}
+use Rattle.rules.proofs.Laws.{branch, stop, skip}
+use Rattle.rules.proofs.Cases.{Linked, arrival-cases, sending-cases}
+use Rattle.rules.proofs.Soundness.{open-place}
+
+-- a channel's number and its identity, there and back
+pub number-back : (c : ChannelNumber) → c .0 < 256 → channelOf (identityOf c) ≡ c
+number-back c h = let e : ((c .0 + 0x20) % 256 + 0xE0) % 256 ≡ c .0 = omega arith in λ i. record { 0 = e i }
+
+pub identity-back : (d : DeviceIdentity) → d .0 < 256 → identityOf (channelOf d) ≡ d
+identity-back d h = let e : ((d .0 + 0xE0) % 256 + 0x20) % 256 ≡ d .0 = omega arith in λ i. record { 0 = e i }
+
+-- the identities 21 to 27 are the channels 1 to 7: 20 plus the number
+pub identity-is : (c : ChannelNumber) → c .0 ≤ 7 → identityOf c .0 ≡ 0x20 + c .0
+identity-is c h = omega arith
+
+-- what a session keeps of a profile has every bit of it, and 0 past its end
+zero-get : (m k : ℕ) → _≡_ {A = ℕ} (getD (replicate m 0) k 0) 0
+zero-get zero k = refl
+zero-get (suc m) zero = refl
+zero-get (suc m) (suc k) = zero-get m k
+
+padded-get : (p : List ℕ) (m k : ℕ) → getD (p ++ replicate m 0) k 0 ≡ getD p k 0
+padded-get [] m k = zero-get m k
+padded-get (x ∷ p) m zero = refl
+padded-get (x ∷ p) m (suc k) = padded-get p m k
+
+kept-byte : (p : List ℕ) (k : ℕ) → k < 13 → getD (kept p) k 0 ≡ getD p k 0
+unfolding kept
+kept-byte p k h = getD-take 13 (p ++ replicate 13 0) k 0 h ∙ padded-get p 13 k
+
+pub kept-bit : (p : List ℕ) (byte n : ℕ) → 1 ≤ byte → byte ≤ 13 → bit (kept p) byte n ≡ bit p byte n
+unfolding bit
+kept-bit p byte n h₁ h₁₃ = rw (kept-byte p (byte - 1) (omega arith))
+
+-- the changed channel is read back, and the others stay
+pub chan-changed : (a : State) (n : ChannelNumber) (c : Chan) → n .0 - 1 < length (a .chans) → chan (withChan a n c) n ≡ c
+unfolding chan withChan
+chan-changed a n c h = getD-set-same (a .chans) (n .0 - 1) c closed h
+
+pub chan-other : (a : State) (n m : ChannelNumber) (c : Chan) → (m .0 - 1 ≡ n .0 - 1 → ⊥) → chan (withChan a n c) m ≡ chan a m
+unfolding chan withChan
+chan-other a n m c h = getD-set-other (a .chans) (n .0 - 1) (m .0 - 1) c closed h
+
+open-changed : (a : State) (n : ChannelNumber) (c : Chan) → isOpen (chan a n) ≡ true → chan (withChan a n c) n ≡ c
+unfolding chan
+open-changed a n c e = chan-changed a n c (open-place (a .chans) (n .0 - 1) e)
+
+-- an arrival that is not refused is stored whole, behind what was held
+pub arrival-whole :
+    (a : State) (buffer : ℕ) (n : ChannelNumber) (s t : List ℕ) → arrival a buffer n s .outcome ≡ wrote t →
+    chan (arrival a buffer n s .state) n .recv ≡ chan a n .recv ++ s
+unfolding arrived
+arrival-whole a buffer n s t =
+    arrival-cases (λ (r : Answer). r .outcome ≡ wrote t → chan (r .state) n .recv ≡ chan a n .recv ++ s) a (λ r e. cc) buffer n s
+    (λ _ l _ _. ap (λ (c : Chan). c .recv) (open-changed a n (arrived (chan a n) s) (l .stands)))
+
+-- the room that an answer to SEND DATA tells is the room after the data was stored
+pub room-told :
+    (a : State) (q : ℕ) (n : ChannelNumber) (s : List ℕ) (i : Bool) (x r : ℕ) → sending a q n s i .result ≡ done x (sent r) →
+    r ≡ capped (room (chan (sending a q n s i .state) n .grant) (chan (sending a q n s i .state) n .send))
+room-told a q n s i x r =
+    sending-cases (λ (y : Reply). y .result ≡ done x (sent r) → r ≡ capped (room (chan (y .state) n .grant) (chan (y .state) n .send))) a
+    (λ _ _ e. cc) q n s i
+    (λ c _ o _ _ e. rw (open-changed a n c o) (cc))
+
+empty-contents : {s : List ℕ} → s ≡ [] → isEmpty s ≡ true
+unfolding isEmpty
+empty-contents e = ap isEmpty e
+
+some-contents : {s r : List ℕ} {b : ℕ} → s ≡ b ∷ r → isEmpty s ≡ false
+unfolding isEmpty
+some-contents e = ap isEmpty e
+
+faulty-walk : {s r : List ℕ} {b : ℕ} {e : Ending} → s ≡ b ∷ r → objectAt (b ∷ r) ≡ faulty e → isEmpty (walk s .objects) ≡ true
+unfolding walk walkUpTo onward isEmpty
+faulty-walk {s} {r} c o =
+    ap (λ (t : List ℕ). isEmpty (walk t .objects)) c ∙ ap (λ (x : ObjectRead). isEmpty (onward x (walkUpTo (length r)) .objects)) o
+
+-- step 3: no object at all, a first object that is faulty, and one that is whole and no details
+module _ (p s : List ℕ) (f : framed s ≡ true) where
+  pub no-object : contents s ≡ [] → reading p s ≡ wrong zeros 0x36
+  unfolding reading
+  no-object e = skip _ _ _ (ap not f) ∙ stop _ _ _ (empty-contents e)
+
+  pub faulty-object : (b : ℕ) (r : List ℕ) (e : Ending) → contents s ≡ b ∷ r → objectAt (b ∷ r) ≡ faulty e → reading p s ≡ wrong zeros 0x32
+  unfolding reading
+  faulty-object b r e c o = skip _ _ _ (ap not f) ∙ skip _ _ _ (some-contents c) ∙ stop _ _ _ (faulty-walk c o)
