@@ -21,7 +21,7 @@ use Rattle.rules.specs.Written.{pairBytes, detailsBytes, bearerBytes, st
 use Rattle.rules.specs.Command.{Outcome, wrote, refused, meantBy, command}
 use Rattle.rules.specs.Radio.{numbered, arrivalEvent, arrival, taking, dropEvent, dropping}
 use Rattle.rules.specs.Run.{Call, commanding, arriving, step, after}
-use Rattle.rules.specs.Lines.{isDigit, digitValue, with-byte, bytesOf}
+use Rattle.rules.specs.Lines.{isDigit, digitValue, with-byte, bytesOf, frameOf, callOf, digitOf, hex, printed, callIn, perform, lineStep, linesFrom, profileThen, program}
 
 -- a row: the calls before, from the start, the call, how it ends, and how many bytes it writes
 pub record Number : Type 0 where
@@ -34,7 +34,7 @@ row : List Call → Call → Outcome → ℕ → Number
 row b c e s = record { before = b; call = c; ends = e; size = s }
 
 -- a text's characters, and the bytes that its hexadecimal digits stand for
-chars : String → List ℕ
+pub chars : String → List ℕ
 chars String.[] = []
 chars (String._∷_ c s) = code c ∷ chars s
 
@@ -116,3 +116,27 @@ pub twelve :
     (map (λ (r : Number). sizeOf (endOf r)) numbers ≡ map (λ (r : Number). r .size) numbers)
 unfolding row chars orNone bytes profile openLine eventLine arriveLine receiveLine pattern holding full answer numbers endOf sizeOf _⇒_else_ isEmpty every some-of occurrences member same longLength lengthAt lengthBytes goodTag valueAfter objectAt onward walkUpTo walk objectBytes written fills following framed contents frame table known rowAmong rowOf times sift present valueOf complete bearerFits lengthFits measured bit kept allowsType allowsEvent allowsBearer02 channels isEstablished isDropped establish closed isOpen start chan withChan room fresh arrived handed stored readied taken dropped kindOf detailsOf zeros detailsIn pairIn bearerIn transportIn bodyIn commandIn toModem addressed isFault startsWithDetails reading bit1 capped plain listed listing served isTcp openBefore opening closing receiving sending statusesFrom own cells promisedTo promised unpromised grantFor pairBytes detailsBytes bearerBytes statusBytes statusObject statusObjects furtherObjects resultBytes resultObjects responseObjects responseBytes eventBytes meantBy command numbered arrivalEvent arrival taking dropEvent dropping step after isDigit digitValue with-byte bytesOf
 twelve = (refl, refl)
+
+-- the listing, through the whole line program: its lines in, its lines out
+pub listingIn : List String
+listingIn =
+    "00000800010C00000000001F82" ∷
+    "D015810301400182028182350103390205DC3C03021F90" ∷
+    "D00C810301050082028182190109" ∷
+    "A001414243" ∷
+    "D00C810301420082028121370105" ∷
+    "A00200" ∷
+    []
+
+pub listingOut : List String
+listingOut =
+    "81030140018202828183010038028100350103390205DC" ∷
+    "810301050082028281830100" ∷
+    "D60E1901098202828138028100370103" ∷
+    "8103014200820282818301023603414243370100" ∷
+    "R4" ∷
+    []
+
+pub listing-printed : program (map chars listingIn) ≡ map chars listingOut
+unfolding listingIn listingOut chars _⇒_else_ isEmpty every some-of occurrences member same longLength lengthAt lengthBytes goodTag valueAfter objectAt onward walkUpTo walk objectBytes written fills following framed contents frame table known rowAmong rowOf times sift present valueOf complete bearerFits lengthFits measured bit kept allowsType allowsEvent allowsBearer02 channels isEstablished isDropped establish closed isOpen start chan withChan room fresh arrived handed stored readied taken dropped kindOf detailsOf zeros detailsIn pairIn bearerIn transportIn bodyIn commandIn toModem addressed isFault startsWithDetails reading bit1 capped plain listed listing served isTcp openBefore opening closing receiving sending statusesFrom own cells promisedTo promised unpromised grantFor pairBytes detailsBytes bearerBytes statusBytes statusObject statusObjects furtherObjects resultBytes resultObjects responseObjects responseBytes eventBytes meantBy command numbered arrivalEvent arrival taking dropEvent dropping step after isDigit digitValue with-byte bytesOf frameOf callOf digitOf hex printed callIn perform lineStep linesFrom profileThen program
+listing-printed = refl
