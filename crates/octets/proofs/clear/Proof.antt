@@ -1,0 +1,57 @@
+-- `octets::clear` meets its contract: the loop copies zeros.
+-- Assumes nothing.
+use Prim.Native.Nat.{ℕ, _+_, _-_}
+use native.Mathlib.Omega.{arith}
+use lib.ListN.{length, replicate}
+use Rattle.octets.proofs.Copies.{Copied, clear-none, clear-more, clear-all}
+use Rattle.octets.proofs.clear.Statement.{statement}
+use Rattle.octets.proofs.clear.Tie as tie
+
+abbrev Inv-loop : tie.InvT-loop
+Inv-loop d₀ at end n i₀ d i = Copied d₀ at (replicate (end - at) 0) i d
+
+abbrev μ-loop : tie.MeasureT-loop
+μ-loop d₀ at end n i₀ d i = n - i
+
+sub-n : tie.Need-sub-n Inv-loop μ-loop
+sub-n c = omega arith
+
+loop-holds : tie.Need-loop-holds Inv-loop μ-loop
+loop-holds c = clear-none _ _ _ (c .pre)
+
+add-d : tie.Need-add-d Inv-loop μ-loop
+add-d c = omega arith
+
+slice-write-d : tie.Need-slice-write-d Inv-loop μ-loop
+slice-write-d c = omega (arith, c .before .loop .inv .same)
+
+add-i : tie.Need-add-i Inv-loop μ-loop
+add-i c = omega arith
+
+loop-less : tie.Need-loop-less Inv-loop μ-loop
+loop-less c = omega arith
+
+loop-again : tie.Need-loop-again Inv-loop μ-loop
+loop-again c = clear-more _ _ _ (c .before .before .pre) _ _ (c .before .loop .inv) (c .loop-test .taken)
+
+same-length : tie.Need-same-length Inv-loop μ-loop
+same-length c = c .before .loop .inv .same
+
+returns : tie.Need-returns Inv-loop μ-loop
+returns c = clear-all _ _ _ (c .before .before .pre) _ _ (c .before .loop .inv) (c .loop-test .left)
+
+pub clear-spec : {M : Type 1} → statement M
+clear-spec =
+    tie.close
+    (tie.spec
+    Inv-loop
+    μ-loop
+    sub-n
+    loop-holds
+    add-d
+    slice-write-d
+    add-i
+    loop-less
+    loop-again
+    same-length
+    returns)

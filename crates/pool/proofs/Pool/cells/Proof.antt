@@ -1,0 +1,22 @@
+-- `pool::Pool::cells` meets its contract.
+-- Assumes nothing.
+use native.Mathlib.Omega.{arith}
+use Rattle.rules.specs.Pool.{cells}
+use borrow.Author.Needs.{needs}
+use Rattle.pool.proofs.Pool.cells.Statement.{statement}
+use Rattle.pool.proofs.Pool.cells.Tie as tie
+use Rattle.pool.proofs.Pool.cells.Reads as reads
+use Rattle.pool.proofs.Pool.cells.Lts as lts
+
+add-result : tie.Need-add-result
+add-result c = search needs
+
+sub-result : tie.Need-sub-result
+sub-result c = search needs
+
+returns : tie.Need-returns
+unfolding cells
+returns c = omega arith
+
+pub cells-spec : {M : Type 1} → statement M
+cells-spec = tie.close (tie.spec add-result sub-result returns)

@@ -1,0 +1,50 @@
+-- `pool::Pool::grant` meets its contract: each answer is that of the law for its case.
+-- Assumes nothing.
+use Prim.Native.Nat.{ℕ, _*_, _≤_, _<_, min}
+use mathlib.Core.Path.{sym, subst, ap, _∙_}
+use native.Mathlib.Omega.{arith}
+use Rattle.rules.specs.Pool.{cells, grantFor}
+use Rattle.rules.proofs.Grants.{grant-whole, grant-half}
+use borrow.Author.Needs.{needs}
+use Rattle.pool.proofs.Pool.grant.Statement.{statement}
+use Rattle.pool.proofs.Pool.grant.Tie as tie
+use Rattle.pool.proofs.Pool.grant.Reads as reads
+use Rattle.pool.proofs.Pool.grant.Lts as lts
+use Rattle.pool.proofs.Pool.cells.Reads as cells-reads
+use Rattle.pool.proofs.Pool.within_cap.Reads as within-cap-reads
+
+within-cap-requires : tie.Need-within-cap-requires
+within-cap-requires c κs = search needs
+
+cells-requires : tie.Need-cells-requires
+cells-requires c κs = search needs
+
+mul-if1 : tie.Need-mul-if1
+unfolding cells
+mul-if1 c = omega arith
+
+returns : tie.Need-returns
+returns c =
+    let a = c .before .before .before .args in
+    let w = c .before .before .within-cap .ensures in
+    let n = c .before .cells .ensures ∙ ap cells w in
+    w ∙ sym (grant-whole (a .request) (a .free) (subst (λ (k : ℕ). 2 * k ≤ a .free) n (c .if1 .taken)))
+
+mul-result : tie.Need-mul-result
+unfolding cells
+mul-result c = omega arith
+
+cast-result : tie.Need-cast-result
+unfolding cells
+cast-result c = omega arith
+
+returns-2 : tie.Need-returns-2
+returns-2 c =
+    let a = c .before .before .before .args in
+    let n = c .before .cells .ensures ∙ ap cells (c .before .before .within-cap .ensures) in
+    sym (grant-half (a .request) (a .free) (subst (λ (k : ℕ). a .free < 2 * k) n (c .if1 .left)))
+
+pub grant-spec : {M : Type 1} → statement M
+grant-spec =
+    tie.close
+    (tie.spec within-cap-requires cells-requires mul-if1 returns mul-result cast-result returns-2)

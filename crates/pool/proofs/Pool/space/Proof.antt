@@ -1,0 +1,23 @@
+-- `pool::Pool::space` meets its contract.
+-- Assumes nothing.
+use native.Mathlib.Omega.{arith}
+use Rattle.rules.specs.Pool.{cells}
+use borrow.Author.Needs.{needs}
+use Rattle.pool.proofs.Pool.space.Statement.{statement}
+use Rattle.pool.proofs.Pool.space.Tie as tie
+use Rattle.pool.proofs.Pool.space.Reads as reads
+use Rattle.pool.proofs.Pool.space.Lts as lts
+use Rattle.pool.proofs.Pool.cells.Reads as cells-reads
+
+cells-requires : tie.Need-cells-requires
+cells-requires c κs = search needs
+
+mul-result : tie.Need-mul-result
+unfolding cells
+mul-result c = omega arith
+
+returns : tie.Need-returns
+returns c = search needs
+
+pub space-spec : {M : Type 1} → statement M
+space-spec = tie.close (tie.spec cells-requires mul-result returns)
