@@ -1,6 +1,6 @@
 // The pool's numbers, and what a grant means in cells.
 ghost use mathlib.Core.Path.{_≡_};
-ghost use Prim.Native.Nat.{_*_, min};
+ghost use Prim.Native.Nat.{_*_, _≤_, min};
 ghost use Rattle.rules.specs.Pool.{cells, grantFor};
 
 // The pool that all channels share.
@@ -26,6 +26,7 @@ impl Pool {
     // The bytes of a grant's cells each way.
     pub fn space(grant: u16) -> usize
         ensures { λ r. ⌜ r ≡ 32 * cells grant ⌝ }
+        ensures { λ r. ⌜ r ≤ 65536 ⌝ }
     {
         Pool::CELL_SIZE * Pool::cells(grant)
     }

@@ -17,7 +17,8 @@ unfolding cells
 mul-result c = omega arith
 
 returns : tie.Need-returns
-returns c = search needs
+unfolding cells
+returns c = (search needs, omega arith)
 
 pub space-spec : {M : Type 1} → statement M
 space-spec = tie.close (tie.spec cells-requires mul-result returns)

@@ -1,0 +1,4 @@
+pub mod Bases
+pub mod Regions
+pub mod Changes
+pub mod Views
