@@ -2,3 +2,4 @@ pub mod Bases
 pub mod Regions
 pub mod Changes
 pub mod Views
+pub mod Facts

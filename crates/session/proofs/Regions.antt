@@ -38,7 +38,7 @@ module _ (x l w : List ℕ) (at n : ℕ) (e : length x ≡ at) where
       let lx = length-append x l in
       let m : length s + (n - length (l ++ s)) ≡ n - length l = omega arith in
       let z : zeros (length s) ++ zeros (n - length (l ++ s)) ≡ zeros (n - length l) =
-            replicate-append-replicate (length s) (n - length (l ++ s)) 0 ∙ ap zeros m in
+      replicate-append-replicate (length s) (n - length (l ++ s)) 0 ∙ ap zeros m in
       ap (λ (r : List ℕ). pasted (x ++ (l ++ r ++ w)) (at + length l) s) (sym z)
       ∙ ap (λ (r : List ℕ). pasted r (at + length l) s)
       (ap (λ (r : List ℕ). x ++ r) (append-assoc l (zeros (length s) ++ zeros (n - length (l ++ s))) w ∙ ap (λ (r : List ℕ). l ++ r) (append-assoc (zeros (length s)) (zeros (n - length (l ++ s))) w))
@@ -57,7 +57,7 @@ module _ (x l w : List ℕ) (at n : ℕ) (e : length x ≡ at) where
       let ld : length (drop k l) ≡ length l - k = simp length-drop (omega arith) in
       let m : k + (n - length l) ≡ n - length (drop k l) = omega arith in
       let z : zeros k ++ zeros (n - length l) ≡ zeros (n - length (drop k l)) =
-            replicate-append-replicate k (n - length l) 0 ∙ ap zeros m in
+      replicate-append-replicate k (n - length l) 0 ∙ ap zeros m in
       ap (λ (r : List ℕ). cutOut (x ++ r) at k (at + length l))
       (append-assoc l (zeros (n - length l)) w ∙ ap (λ (r : List ℕ). r ++ (zeros (n - length l) ++ w)) (sym (take-append-drop k l))
       ∙ append-assoc (take k l) (drop k l) (zeros (n - length l) ++ w))
@@ -146,7 +146,7 @@ module _ (a : State) (n : ChannelNumber) (h : Sound a) (place : n .0 - 1 < lengt
   pool-with c m e =
       let s = regions-set (a .chans) (n .0 - 1) c place in
       let l : length (regions (set (a .chans) (n .0 - 1) c)) ≡ m =
-            ap length s ∙ length-append front (region c ++ rest) ∙ ap (λ (k : ℕ). length front + k) (length-append (region c) rest) ∙ e in
+      ap length s ∙ length-append front (region c ++ rest) ∙ ap (λ (k : ℕ). length front + k) (length-append (region c) rest) ∙ e in
       ap (λ (r : List ℕ). r ++ zeros (8192 - length (regions (set (a .chans) (n .0 - 1) c)))) s
       ∙ ap (λ (k : ℕ). front ++ (region c ++ rest) ++ zeros (8192 - k)) l
       ∙ append-assoc front (region c ++ rest) (zeros (8192 - m))

@@ -48,7 +48,7 @@ chans-back (c ∷ cs) w h =
       link = c .link;
       recv = recv-back c (h .0) (regions cs ++ w) i;
       send = send-back c (h .0) (regions cs ++ w) i;
-      ready = c .ready
+      ready = c .ready;
     } ∷
     chansIn (map entry cs) (rest-back c (h .0) (regions cs ++ w) i))
     ∙ ap (λ (r : List Chan). c ∷ r) (chans-back cs w (h .1))

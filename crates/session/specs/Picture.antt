@@ -57,7 +57,7 @@ chansIn (e ∷ es) p =
       link = e .link;
       recv = take (e .rx) p;
       send = take (e .tx) (drop (space (e .grant)) p);
-      ready = e .ready
+      ready = e .ready;
     } ∷
     chansIn es (drop (2 * space (e .grant)) p)
 

@@ -1,0 +1,32 @@
+-- What the changes of one channel ask for and leave behind.
+use Prim.Native.Nat.{ℕ, _-_, _≤_}
+use mathlib.Core.List.{List}
+use lib.ListN.{getD, set}
+use Rattle.rules.specs.declared.Link.the-variants.{NotYet}
+use Rattle.rules.specs.declared.ChannelNumber.{ChannelNumber}
+use Rattle.rules.specs.State.{State, Chan, chan, withChan}
+use Rattle.session.specs.declared.Channel.{Channel}
+use Rattle.session.specs.declared.Ledger.{Ledger}
+use Rattle.session.specs.Picture.{GoodIn, Shows, shown}
+
+-- a good session, and the number of a channel
+pub record Numbered (l : Ledger) (p : List ℕ) (n : ChannelNumber) : Type 0 where
+  pub good : GoodIn l p
+  pub low : 1 ≤ n .0
+  pub high : n .0 ≤ 7
+
+-- the channel of that number, as the session shows it
+abbrev pub chanIn : Ledger → List ℕ → ChannelNumber → Chan
+chanIn l p n = chan (shown l p) n
+
+-- its entry in the ledger
+abbrev pub entryIn : Ledger → ChannelNumber → Channel
+entryIn l n = getD (l .channels) (n .0 - 1) (record { grant = 0; link = NotYet; rx = 0; tx = 0; ready = 0 })
+
+-- the ledger with another entry in that place
+abbrev pub withEntry : Ledger → ChannelNumber → Channel → Ledger
+withEntry l n e = record { profile = l .profile; events = l .events; channels = set (l .channels) (n .0 - 1) e }
+
+-- the session is what it was, with the channel c in the place of that number
+abbrev pub Changed : Ledger → List ℕ → ChannelNumber → Chan → Ledger → List ℕ → Type 0
+Changed l p n c l′ p′ = Shows (withChan (shown l p) n c) l′ p′
