@@ -10,7 +10,7 @@ use Rattle.rules.specs.declared.ChannelNumber.{ChannelNumber}
 use Rattle.rules.specs.declared.Link.{Link}
 use Rattle.rules.specs.declared.Link.the-variants.{NotYet, Dropped}
 use Rattle.rules.specs.State.{State, Chan, closed, chan, withChan, room, fresh, arrived, handed, stored, readied, taken, dropped, establish}
-use Rattle.rules.specs.Pool.{cells}
+use Rattle.rules.specs.Pool.{cells, promisedTo, promised}
 use Rattle.rules.specs.Sound.{SoundChan, Sound}
 use Rattle.rules.proofs.Soundness.{chan-sound, readied-sound, dropped-sound}
 use Rattle.octets.specs.Parts.{pasted, cutOut, spread}
@@ -18,7 +18,7 @@ use Rattle.session.specs.declared.Channel.{Channel}
 use Rattle.session.specs.declared.Ledger.{Ledger}
 use Rattle.session.specs.Picture.{space, pad, regions, region, poolOf, entry, ledgerOf, baseOf, shown, Shows, GoodIn}
 use Rattle.session.specs.Changed.{Numbered, chanIn, entryIn, withEntry, Changed}
-use Rattle.session.proofs.Regions.{front, rest, used, used-fits, used-parts, length-pad, length-region, base-length, held-space}
+use Rattle.session.proofs.Regions.{length-regions, front, rest, used, used-fits, used-parts, length-pad, length-region, base-length, held-space}
 use Rattle.session.proofs.Changes.{arrived-pool, handed-pool, stored-pool, taken-pool, closed-pool, opened-pool, still-pool}
 
 -- an entry of the ledger is the entry of the channel
@@ -35,6 +35,7 @@ entry-map cs k = List·getD-map entry cs k closed
 pub record Bounds (l : Ledger) (p : List ℕ) (n : ChannelNumber) : Type 0 where
   pub seven : length (l .channels) ≡ 7
   pub size : length p ≡ 8192
+  pub used-is : baseOf (l .channels) 7 ≡ 32 * promised (shown l p)
   pub used-fits : baseOf (l .channels) 7 ≤ 8192
   pub region-fits : baseOf (l .channels) (n .0 - 1) + 2 * space (entryIn l n .grant) ≤ baseOf (l .channels) 7
   pub grant-is : entryIn l n .grant ≡ chanIn l p n .grant
@@ -81,6 +82,10 @@ module _ (l : Ledger) (p : List ℕ) (n : ChannelNumber) (h : Numbered l p n) wh
   unfolding poolOf
   pool-size = ap length (h .good .shows .pool) ∙ length-pad 8192 (regions (a .chans)) (used-fits a n (h .good .sound) place)
 
+  promised-is : 32 * promisedTo (a .chans) ≡ 32 * promised a
+  unfolding promised
+  promised-is = refl
+
   pub bounds : Bounds l p n
   unfolding entry
   bounds =
@@ -99,6 +104,7 @@ module _ (l : Ledger) (p : List ℕ) (n : ChannelNumber) (h : Numbered l p n) wh
       record {
         seven = ap length channels-is ∙ length-map (a .chans) entry ∙ h .good .sound .seven;
         size = pool-size;
+        used-is = sym us ∙ length-regions (a .chans) (h .good .sound .each) ∙ promised-is;
         used-fits = omega arith;
         region-fits = omega arith;
         grant-is = g;

@@ -6,10 +6,11 @@ use rules::Events;
 use rules::Link;
 use rules::Refusal;
 ghost use mathlib.Core.Path.{_≡_};
-ghost use Prim.Native.Nat.{_+_, _-_, _*_, _≤_};
+ghost use Prim.Native.Nat.{ℕ, _+_, _-_, _*_, _≤_};
 ghost use lib.ListN.{length};
-ghost use Rattle.rules.specs.Pool.{cells};
-ghost use Rattle.rules.specs.State.{room, closed, fresh, arrived, handed, stored, readied, taken, dropped};
+ghost use mathlib.Core.List.{List};
+ghost use Rattle.rules.specs.Pool.{cells, unpromised};
+ghost use Rattle.rules.specs.State.{room, establish, closed, fresh, arrived, handed, stored, readied, taken, dropped};
 ghost use Rattle.session.specs.Picture.{Good, GoodIn, Shows, shown, baseOf};
 ghost use Rattle.session.specs.Changed.{Numbered, chanIn, Changed};
 
@@ -65,5 +66,159 @@ pub fn arrive(ledger: Ledger, pool: &mut [u8; 8192], n: ChannelNumber, bytes: &[
     c.rx = (rx + bytes.len()) as u16;
     let mut next = ledger;
     next.channels[k] = c;
+    next
+}
+
+// The first `count` bytes received are handed out: the rest move to the front.
+pub fn hand(ledger: Ledger, pool: &mut [u8; 8192], n: ChannelNumber, count: usize) -> Ledger
+    requires { ⌜ Numbered ledger (now pool) n ⌝ }
+    requires { ⌜ count ≤ length (chanIn ledger (now pool) n .recv) ⌝ }
+    ensures { λ r. ⌜ Changed ledger (now (pool .entry)) n (handed (chanIn ledger (now (pool .entry)) n) count) r (now (pool .exit)) ⌝ }
+{
+    let k = (n.0 - 1) as usize;
+    let channels = ledger.channels;
+    let at = base(channels, k);
+    let mut c = channels[k];
+    let rx = c.rx as usize;
+    octets::cut(pool, at, count, at + rx);
+    c.rx = (rx - count) as u16;
+    let mut next = ledger;
+    next.channels[k] = c;
+    next
+}
+
+// Bytes to send are stored: they stand behind those held for send.
+pub fn store(ledger: Ledger, pool: &mut [u8; 8192], n: ChannelNumber, bytes: &[u8]) -> Ledger
+    requires { ⌜ Numbered ledger (now pool) n ⌝ }
+    requires { ⌜ length (now bytes) ≤ room (chanIn ledger (now pool) n .grant) (chanIn ledger (now pool) n .send) ⌝ }
+    ensures { λ r. ⌜ Changed ledger (now (pool .entry)) n (stored (chanIn ledger (now (pool .entry)) n) (now (bytes .entry))) r (now (pool .exit)) ⌝ }
+{
+    let k = (n.0 - 1) as usize;
+    let channels = ledger.channels;
+    let at = base(channels, k);
+    let mut c = channels[k];
+    let tx = c.tx as usize;
+    octets::put(pool, at + Pool::space(c.grant) + tx, bytes);
+    c.tx = (tx + bytes.len()) as u16;
+    let mut next = ledger;
+    next.channels[k] = c;
+    next
+}
+
+// The first `count` ready bytes are taken: the rest move to the front.
+pub fn take_ready(ledger: Ledger, pool: &mut [u8; 8192], n: ChannelNumber, count: usize) -> Ledger
+    requires { ⌜ Numbered ledger (now pool) n ⌝ }
+    requires { ⌜ count ≤ chanIn ledger (now pool) n .ready ⌝ }
+    ensures { λ r. ⌜ Changed ledger (now (pool .entry)) n (taken (chanIn ledger (now (pool .entry)) n) count) r (now (pool .exit)) ⌝ }
+{
+    let k = (n.0 - 1) as usize;
+    let channels = ledger.channels;
+    let mut c = channels[k];
+    let at = base(channels, k) + Pool::space(c.grant);
+    let tx = c.tx as usize;
+    let ready = c.ready as usize;
+    octets::cut(pool, at, count, at + tx);
+    c.tx = (tx - count) as u16;
+    c.ready = (ready - count) as u16;
+    let mut next = ledger;
+    next.channels[k] = c;
+    next
+}
+
+// The channel ends: its region goes, and the later ones move down into its cells.
+pub fn close_channel(ledger: Ledger, pool: &mut [u8; 8192], n: ChannelNumber) -> Ledger
+    requires { ⌜ Numbered ledger (now pool) n ⌝ }
+    ensures { λ r. ⌜ Changed ledger (now (pool .entry)) n closed r (now (pool .exit)) ⌝ }
+{
+    let k = (n.0 - 1) as usize;
+    let channels = ledger.channels;
+    let at = base(channels, k);
+    let used = base(channels, 7);
+    let c = channels[k];
+    octets::cut(pool, at, 2 * Pool::space(c.grant), used);
+    let mut next = ledger;
+    next.channels[k] = Channel {
+        grant: 0,
+        link: Link::NotYet,
+        rx: 0,
+        tx: 0,
+        ready: 0,
+    };
+    next
+}
+
+// The channel is opened with a grant: an empty region comes, and the later ones move up.
+pub fn open_channel(
+    ledger: Ledger,
+    pool: &mut [u8; 8192],
+    n: ChannelNumber,
+    grant: u16,
+    link: Link,
+) -> Ledger
+    requires { ⌜ Numbered ledger (now pool) n ⌝ }
+    requires { ⌜ (chanIn ledger (now pool) n .grant ≡ 0) × (2 * cells grant ≤ unpromised (shown ledger (now pool))) ⌝ }
+    ensures { λ r. ⌜ Changed ledger (now (pool .entry)) n (fresh grant link) r (now (pool .exit)) ⌝ }
+{
+    let k = (n.0 - 1) as usize;
+    let channels = ledger.channels;
+    let at = base(channels, k);
+    let used = base(channels, 7);
+    octets::spread_at(pool, at, 2 * Pool::space(grant), used);
+    let mut next = ledger;
+    next.channels[k] = Channel {
+        grant,
+        link,
+        rx: 0,
+        tx: 0,
+        ready: 0,
+    };
+    next
+}
+
+// The link that immediate data leaves: one not yet established is established.
+pub fn established(link: Link) -> Link
+    ensures { λ r. ⌜ r ≡ establish link ⌝ }
+{
+    match link {
+        Link::NotYet => Link::Established,
+        Link::Established => Link::Established,
+        Link::Dropped => Link::Dropped,
+    }
+}
+
+// All bytes held to send are ready, and a link not yet established is established. The pool stays.
+pub fn make_ready(ledger: Ledger, n: ChannelNumber) -> Ledger
+    requires { ⌜ (1 ≤ n .0) × (n .0 ≤ 7) ⌝ }
+    ensures { λ r. ⌜ ((p : List ℕ) → GoodIn ledger p → Changed ledger p n (readied (chanIn ledger p n)) r p) ⌝ }
+{
+    let k = (n.0 - 1) as usize;
+    let c = ledger.channels[k];
+    let link = c.link;
+    let mut next = ledger;
+    next.channels[k] = Channel {
+        grant: c.grant,
+        link: established(link),
+        rx: c.rx,
+        tx: c.tx,
+        ready: c.tx,
+    };
+    next
+}
+
+// The link is dropped. What is held stays, and so does the pool.
+pub fn drop_link(ledger: Ledger, n: ChannelNumber) -> Ledger
+    requires { ⌜ (1 ≤ n .0) × (n .0 ≤ 7) ⌝ }
+    ensures { λ r. ⌜ ((p : List ℕ) → GoodIn ledger p → Changed ledger p n (dropped (chanIn ledger p n)) r p) ⌝ }
+{
+    let k = (n.0 - 1) as usize;
+    let c = ledger.channels[k];
+    let mut next = ledger;
+    next.channels[k] = Channel {
+        grant: c.grant,
+        link: Link::Dropped,
+        rx: c.rx,
+        tx: c.tx,
+        ready: c.ready,
+    };
     next
 }
