@@ -3,3 +3,4 @@ pub mod Regions
 pub mod Changes
 pub mod Views
 pub mod Facts
+pub mod Permits

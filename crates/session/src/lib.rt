@@ -12,6 +12,8 @@ ghost use mathlib.Core.List.{List};
 ghost use Rattle.rules.specs.Pool.{cells, unpromised};
 ghost use Rattle.rules.specs.State.{room, establish, closed, fresh, arrived, handed, stored, readied, taken, dropped};
 ghost use Rattle.session.specs.Picture.{Good, GoodIn, Shows, shown, baseOf};
+ghost use Rattle.rules.specs.Own.{capped};
+ghost use Rattle.session.specs.Calls.{permitOf, Answers};
 ghost use Rattle.session.specs.Changed.{Numbered, chanIn, Changed};
 
 // A channel: its grant (0 where it is not open), its link, how many bytes are held each way, and how many of those to send are ready.
@@ -34,6 +36,30 @@ pub struct Ledger {
 pub struct Session {
     pub ledger: Ledger,
     pub pool: [u8; 8192],
+}
+
+// How a call ended: with so many bytes written, or refused.
+pub enum Ended {
+    Wrote(usize),
+    Refused(Refusal),
+}
+
+// What a call over a lent pool hands back.
+pub struct Lent {
+    pub ledger: Ledger,
+    pub ended: Ended,
+}
+
+// What a call by value hands back.
+pub struct Answered {
+    pub session: Session,
+    pub ended: Ended,
+}
+
+// Whether a channel may be used by the radio, or R3, R4 or R5.
+pub enum Permit {
+    Pass,
+    Refuse(Refusal),
 }
 
 // Where the region of channel k begins: the regions of the channels before it stand one after the other.
@@ -221,4 +247,38 @@ pub fn drop_link(ledger: Ledger, n: ChannelNumber) -> Ledger
         ready: c.ready,
     };
     next
+}
+
+// A count as it is told: at most FF.
+pub fn told(count: usize) -> u8
+    ensures { λ r. ⌜ r ≡ capped count ⌝ }
+{
+    if count < 255 {
+        return count as u8;
+    }
+    255
+}
+
+// R3, R4 and R5, in order.
+pub fn permitted(ledger: Ledger, n: ChannelNumber) -> Permit
+    ensures { λ r. ⌜ ((p : List ℕ) → GoodIn ledger p → r ≡ permitOf (shown ledger p) n) ⌝ }
+{
+    let number = n.0;
+    if number < 1 {
+        return Permit::Refuse(Refusal::NoChannel);
+    }
+    if 7 < number {
+        return Permit::Refuse(Refusal::NoChannel);
+    }
+    let k = (number - 1) as usize;
+    let c = ledger.channels[k];
+    if c.grant < 1 {
+        return Permit::Refuse(Refusal::Unopened);
+    }
+    let link = c.link;
+    match link {
+        Link::NotYet => Permit::Refuse(Refusal::Unlinked),
+        Link::Established => Permit::Pass,
+        Link::Dropped => Permit::Refuse(Refusal::Unlinked),
+    }
 }
