@@ -4,3 +4,4 @@ pub mod Changes
 pub mod Views
 pub mod Facts
 pub mod Permits
+pub mod Ends

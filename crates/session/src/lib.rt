@@ -13,7 +13,7 @@ ghost use Rattle.rules.specs.Pool.{cells, unpromised};
 ghost use Rattle.rules.specs.State.{room, establish, closed, fresh, arrived, handed, stored, readied, taken, dropped};
 ghost use Rattle.session.specs.Picture.{Good, GoodIn, Shows, shown, baseOf};
 ghost use Rattle.rules.specs.Own.{capped};
-ghost use Rattle.session.specs.Calls.{permitOf, Answers};
+ghost use Rattle.session.specs.Calls.{overlaid, permitOf, arrivalTold, dropTold, Answers};
 ghost use Rattle.session.specs.Changed.{Numbered, chanIn, Changed};
 
 // A channel: its grant (0 where it is not open), its link, how many bytes are held each way, and how many of those to send are ready.
@@ -281,4 +281,54 @@ pub fn permitted(ledger: Ledger, n: ChannelNumber) -> Permit
         Link::Established => Permit::Pass,
         Link::Dropped => Permit::Refuse(Refusal::Unlinked),
     }
+}
+
+// Writes event 09: an established channel, and how many bytes are held for it.
+pub fn tell_arrival(out: &mut [u8], n: ChannelNumber, held: usize)
+    requires { ⌜ (n .0 ≤ 7) × (16 ≤ length (now out)) ⌝ }
+    ensures { λ _. ⌜ now (out .exit) ≡ overlaid (arrivalTold n held) (now (out .entry)) ⌝ }
+{
+    let status = n.0 + 0x80;
+    let event = [
+        0xD6u8,
+        0x0E,
+        0x19,
+        0x01,
+        0x09,
+        0x82,
+        0x02,
+        0x82,
+        0x81,
+        0x38,
+        0x02,
+        status,
+        0x00,
+        0x37,
+        0x01,
+        told(held),
+    ];
+    octets::put(out, 0, &event);
+}
+
+// Writes event 0A: a channel whose link was dropped.
+pub fn tell_drop(out: &mut [u8], n: ChannelNumber)
+    requires { ⌜ 13 ≤ length (now out) ⌝ }
+    ensures { λ _. ⌜ now (out .exit) ≡ overlaid (dropTold n) (now (out .entry)) ⌝ }
+{
+    let event = [
+        0xD6u8,
+        0x0B,
+        0x19,
+        0x01,
+        0x0A,
+        0x82,
+        0x02,
+        0x82,
+        0x81,
+        0x38,
+        0x02,
+        n.0,
+        0x05,
+    ];
+    octets::put(out, 0, &event);
 }
