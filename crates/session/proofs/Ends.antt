@@ -5,7 +5,7 @@ use mathlib.Core.Path.{_≡_, refl, sym, ap, subst, _∙_}
 use mathlib.Core.Bool.{Bool, true, false, not, _&&_, false≢true}
 use mathlib.Core.List.{List, [], _∷_}
 use native.Mathlib.Omega.{arith}
-use lib.ListN.{length, take}
+use lib.ListN.{length, take, drop, length-append}
 use lib.Dec.{ltb, leb}
 use borrow.Author.Tests.{lt-ltb, le-ltb, leb-true}
 use Rattle.rules.specs.declared.ChannelNumber.{ChannelNumber}
@@ -31,6 +31,8 @@ use Rattle.session.specs.declared.Permit.{Permit}
 use Rattle.session.specs.declared.Permit.the-variants.{Pass, Refuse}
 use Rattle.session.specs.Picture.{shown, Shows, GoodIn}
 use Rattle.session.specs.Calls.{endedOf, writtenBy, overlaid, permitOf, arrivalTold, dropTold, Answers}
+use Rattle.session.specs.Changed.{Numbered, chanIn, entryIn, Changed}
+use Rattle.session.proofs.Facts.{Bounds, bounds}
 use Rattle.session.proofs.Permits.{permitting, arrival-by, arrival-short, taking-by, dropping-by, dropping-short}
 use Rattle.session.proofs.Views.{shows-good}
 
@@ -48,6 +50,29 @@ unfolding endedOf writtenBy
 wrote-answers x b t l p before after h e s o =
     subst (λ (y : Answer). Answers y l p (Wrote (length t)) before after) (sym e)
     (record { shows = s; good = shows-good b l p (subst (λ (y : Answer). Sound (y .state)) e h) s; ended = refl; lent = o })
+
+nothing-lent : (d : List ℕ) → d ≡ overlaid [] d
+unfolding overlaid
+nothing-lent d = refl
+
+-- one that writes nothing
+pub quiet-answers :
+    (x : Answer) (b : State) (t : List ℕ) (l : Ledger) (p out : List ℕ) → Sound (x .state) → x ≡ answered b t → t ≡ [] → Shows b l p →
+    Answers x l p (Wrote 0) out out
+quiet-answers x b t l p out h e n s = wrote-answers x b [] l p out out h (e ∙ ap (answered b) n) s (nothing-lent out)
+
+-- the calls leave a sound state
+pub arrival-sound : (a : State) (buffer : ℕ) (n : ChannelNumber) (s : List ℕ) → Sound a → Sound (arrival a buffer n s .state)
+unfolding step
+arrival-sound a buffer n s h = step-sound a (arriving buffer n s) h
+
+pub taking-sound : (a : State) (buffer : ℕ) (n : ChannelNumber) → Sound a → Sound (taking a buffer n .state)
+unfolding step
+taking-sound a buffer n h = step-sound a (takingOut buffer n) h
+
+pub dropping-sound : (a : State) (buffer : ℕ) (n : ChannelNumber) → Sound a → Sound (dropping a buffer n .state)
+unfolding step
+dropping-sound a buffer n h = step-sound a (droppingLink buffer n) h
 
 -- what a pass tells
 pub record Passed (a : State) (n : ChannelNumber) : Type 0 where
@@ -99,3 +124,111 @@ pub drop-event :
     pasted out 0 (0xD6 ∷ 0x0B ∷ 0x19 ∷ 0x01 ∷ 0x0A ∷ 0x82 ∷ 0x02 ∷ 0x82 ∷ 0x81 ∷ 0x38 ∷ 0x02 ∷ n .0 ∷ 0x05 ∷ []) ≡ overlaid (dropTold n) out
 unfolding pasted overlaid dropTold eventBytes written objectBytes statusObject statusBytes lengthBytes _⇒_else_
 drop-event out n = refl
+
+-- an arrival that passed R3 to R5
+module _ (l : Ledger) (p : List ℕ) (n : ChannelNumber) (s : List ℕ) (buffer : ℕ) (b : 16 ≤ buffer) (y : permitOf (shown l p) n ≡ Pass) where
+  abbrev a : State
+  a = shown l p
+
+  by-pass :
+      arrival a buffer n s ≡
+      (ltb (room (chan a n .grant) (chan a n .recv)) (length s) ⇒ refusal a Overfull else
+      answered (withChan a n (arrived (chan a n) s)) (arrivalEvent a n s))
+  by-pass =
+      arrival-by a buffer n s b
+      ∙ ap
+      (λ (x : Permit).
+      permitting x (refusal a)
+      (ltb (room (chan a n .grant) (chan a n .recv)) (length s) ⇒ refusal a Overfull else
+      answered (withChan a n (arrived (chan a n) s)) (arrivalEvent a n s)))
+      y
+
+  pub overfull : room (chan a n .grant) (chan a n .recv) < length s → arrival a buffer n s ≡ refusal a Overfull
+  overfull h = by-pass ∙ stop _ _ _ (lt-ltb (room (chan a n .grant) (chan a n .recv)) (length s) h)
+
+  pub fitting :
+      length s ≤ room (chan a n .grant) (chan a n .recv) →
+      arrival a buffer n s ≡ answered (withChan a n (arrived (chan a n) s)) (arrivalEvent a n s)
+  fitting h = by-pass ∙ skip _ _ _ (le-ltb (room (chan a n .grant) (chan a n .recv)) (length s) h)
+
+module _ (a : State) (n : ChannelNumber) where
+  pub quiet-empty : (s : List ℕ) → length s ≡ 0 → arrivalEvent a n s ≡ []
+  unfolding arrivalEvent isEmpty
+  quiet-empty [] e = skip _ _ _ refl
+  quiet-empty (x ∷ s) e = absurd (let z : suc (length s) ≡ 0 = e in omega arith)
+
+  unlisted : (s : List ℕ) → a .events .available ≡ false → not (isEmpty s) && a .events .available ≡ false
+  unfolding isEmpty
+  unlisted [] e = refl
+  unlisted (x ∷ s) e = e
+
+  pub quiet-unlisted : (s : List ℕ) → a .events .available ≡ false → arrivalEvent a n s ≡ []
+  unfolding arrivalEvent
+  quiet-unlisted s e = skip _ _ _ (unlisted s e)
+
+  pub told-arrival :
+      (s : List ℕ) → (length s ≡ 0 → ⊥) → a .events .available ≡ true → chan a n .link ≡ Established →
+      arrivalEvent a n s ≡ arrivalTold n (length (chan a n .recv) + length s)
+  unfolding arrivalEvent arrivalTold arrived isEmpty
+  told-arrival [] h e k = absurd (h refl)
+  told-arrival (x ∷ s) h e k =
+      stop _ _ _ e
+      ∙ (λ i. eventBytes 0x09 (statusObject n (k i) ∷ unflagged 0x37 (capped (length-append (chan a n .recv) (x ∷ s) i) ∷ []) ∷ []))
+
+-- an event's bytes are sixteen, and thirteen
+pub arrival-size : (n : ChannelNumber) (held : ℕ) → length (arrivalTold n held) ≡ 16
+unfolding arrivalTold eventBytes written objectBytes statusObject statusBytes lengthBytes _⇒_else_
+arrival-size n held = refl
+
+pub drop-size : (n : ChannelNumber) → length (dropTold n) ≡ 13
+unfolding dropTold eventBytes written objectBytes statusObject statusBytes lengthBytes _⇒_else_
+drop-size n = refl
+
+-- the arrival on a channel that may be used, case by case
+module _ (l : Ledger) (p : List ℕ) (n : ChannelNumber) (m out : List ℕ) (g : GoodIn l p) (pre : (permitOf (shown l p) n ≡ Pass) × (16 ≤ length out)) where
+  abbrev q : State
+  q = shown l p
+
+  named : Numbered l p n
+  named = let y = passed q n (pre .0) in record { good = g; low = y .low; high = y .high }
+
+  pub accept-named : Numbered l p n
+  accept-named = named
+
+  pub accept-bounds : Bounds l p n
+  accept-bounds = bounds l p n named
+
+  pub accept-overfull : entryIn l n .grant - entryIn l n .rx < length m → Answers (arrival q (length out) n m) l p (Refused Overfull) out out
+  unfolding room
+  accept-overfull h =
+      let b = accept-bounds in
+      refuse-answers _ l p out Overfull g (overfull l p n m (length out) (pre .1) (pre .0) (omega arith))
+
+  pub accept-room : length m ≤ entryIn l n .grant - entryIn l n .rx → length m ≤ room (chanIn l p n .grant) (chanIn l p n .recv)
+  unfolding room
+  accept-room h = let b = accept-bounds in omega arith
+
+  module _ (fit : length m ≤ entryIn l n .grant - entryIn l n .rx) (k : Ledger) (r : List ℕ) (s : Changed l p n (arrived (chanIn l p n) m) k r) where
+    stored-is : arrival q (length out) n m ≡ answered (withChan q n (arrived (chanIn l p n) m)) (arrivalEvent q n m)
+    stored-is = fitting l p n m (length out) (pre .1) (pre .0) (accept-room fit)
+
+    sound : Sound (arrival q (length out) n m .state)
+    sound = arrival-sound q (length out) n m (g .sound)
+
+    pub accept-empty : length m ≡ 0 → Answers (arrival q (length out) n m) k r (Wrote 0) out out
+    accept-empty e = quiet-answers _ _ _ k r out sound stored-is (quiet-empty q n m e) s
+
+    pub accept-unlisted : l .events .available ≡ false → Answers (arrival q (length out) n m) k r (Wrote 0) out out
+    unfolding shown
+    accept-unlisted e = quiet-answers _ _ _ k r out sound stored-is (quiet-unlisted q n m e) s
+
+    pub accept-told :
+        (after : List ℕ) → (length m ≡ 0 → ⊥) → l .events .available ≡ true → after ≡ overlaid (arrivalTold n (entryIn l n .rx + length m)) out →
+        Answers (arrival q (length out) n m) k r (Wrote 16) out after
+    unfolding shown
+    accept-told after some e o =
+        let b = accept-bounds in
+        let t = told-arrival q n m some e (passed q n (pre .0) .link) in
+        let held = ap (λ (x : ℕ). arrivalTold n (x + length m)) (b .rx-is) in
+        subst (λ (x : ℕ). Answers (arrival q (length out) n m) k r (Wrote x) out after) (arrival-size n (entryIn l n .rx + length m))
+        (wrote-answers _ _ (arrivalTold n (entryIn l n .rx + length m)) k r out after sound (stored-is ∙ ap (answered _) (t ∙ sym held)) s o)

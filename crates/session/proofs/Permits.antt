@@ -108,3 +108,31 @@ module _ (a : State) (buffer : ℕ) (n : ChannelNumber) where
   pub dropping-short : buffer < 16 → dropping a buffer n ≡ refusal a ShortBuffer
   unfolding dropping
   dropping-short h = stop _ _ _ (lt-ltb buffer 16 h)
+
+  -- a permit that refuses, refuses the call
+  pub arrival-refused : (s : List ℕ) (r : Refusal) → 16 ≤ buffer → permitOf a n ≡ Refuse r → arrival a buffer n s ≡ refusal a r
+  arrival-refused s r h e = arrival-by s h ∙ ap (λ (x : Permit). permitting x (refusal a) (stored s)) e
+    where
+      stored : List ℕ → Answer
+      stored s =
+          ltb (room (chan a n .grant) (chan a n .recv)) (length s) ⇒ refusal a Overfull else
+          answered (withChan a n (arrived (chan a n) s)) (arrivalEvent a n s)
+
+  pub taking-permit :
+      (x : Permit) → permitOf a n ≡ x →
+      taking a buffer n ≡
+      permitting x (refusal a)
+      (answered (withChan a n (taken (chan a n) (min buffer (chan a n .ready)))) (take (min buffer (chan a n .ready)) (chan a n .send)))
+  taking-permit x e =
+      taking-by
+      ∙ ap
+      (λ (y : Permit).
+      permitting y (refusal a)
+      (answered (withChan a n (taken (chan a n) (min buffer (chan a n .ready)))) (take (min buffer (chan a n .ready)) (chan a n .send))))
+      e
+
+  pub dropping-permit :
+      (x : Permit) → 16 ≤ buffer → permitOf a n ≡ x →
+      dropping a buffer n ≡ permitting x (refusal a) (answered (withChan a n (dropped (chan a n))) (dropEvent a n))
+  dropping-permit x h e =
+      dropping-by h ∙ ap (λ (y : Permit). permitting y (refusal a) (answered (withChan a n (dropped (chan a n))) (dropEvent a n))) e

@@ -13,6 +13,8 @@ ghost use Rattle.rules.specs.Pool.{cells, unpromised};
 ghost use Rattle.rules.specs.State.{room, establish, closed, fresh, arrived, handed, stored, readied, taken, dropped};
 ghost use Rattle.session.specs.Picture.{Good, GoodIn, Shows, shown, baseOf};
 ghost use Rattle.rules.specs.Own.{capped};
+ghost use Rattle.rules.specs.Radio.{arrival, taking, dropping};
+ghost use Rattle.session.specs.declared.Permit.the-variants.{Pass};
 ghost use Rattle.session.specs.Calls.{overlaid, permitOf, arrivalTold, dropTold, Answers};
 ghost use Rattle.session.specs.Changed.{Numbered, chanIn, Changed};
 
@@ -331,4 +333,73 @@ pub fn tell_drop(out: &mut [u8], n: ChannelNumber)
         0x05,
     ];
     octets::put(out, 0, &event);
+}
+
+// An arrival on a channel that may be used: R6, or the bytes are stored whole and event 09 tells of them.
+fn accept(
+    ledger: Ledger,
+    pool: &mut [u8; 8192],
+    n: ChannelNumber,
+    bytes: &[u8],
+    out: &mut [u8],
+) -> Lent
+    requires { ⌜ GoodIn ledger (now pool) ⌝ }
+    requires { ⌜ (permitOf (shown ledger (now pool)) n ≡ Pass) × (16 ≤ length (now out)) ⌝ }
+    ensures { λ r. ⌜ Answers (arrival (shown ledger (now (pool .entry))) (length (now (out .entry))) n (now (bytes .entry))) (r .ledger) (now (pool .exit)) (r .ended) (now (out .entry)) (now (out .exit)) ⌝ }
+{
+    let k = (n.0 - 1) as usize;
+    let c = ledger.channels[k];
+    let rx = c.rx as usize;
+    let grant = c.grant as usize;
+    if grant - rx < bytes.len() {
+        return Lent {
+            ledger,
+            ended: Ended::Refused(Refusal::Overfull),
+        };
+    }
+    let next = arrive(ledger, pool, n, bytes);
+    if bytes.len() == 0 {
+        return Lent {
+            ledger: next,
+            ended: Ended::Wrote(0),
+        };
+    }
+    let events = ledger.events;
+    if !events.available {
+        return Lent {
+            ledger: next,
+            ended: Ended::Wrote(0),
+        };
+    }
+    tell_arrival(out, n, rx + bytes.len());
+    Lent {
+        ledger: next,
+        ended: Ended::Wrote(16),
+    }
+}
+
+// The arrival call over a lent pool.
+pub fn arrival_in(
+    ledger: Ledger,
+    pool: &mut [u8; 8192],
+    n: ChannelNumber,
+    bytes: &[u8],
+    out: &mut [u8],
+) -> Lent
+    requires { ⌜ GoodIn ledger (now pool) ⌝ }
+    ensures { λ r. ⌜ Answers (arrival (shown ledger (now (pool .entry))) (length (now (out .entry))) n (now (bytes .entry))) (r .ledger) (now (pool .exit)) (r .ended) (now (out .entry)) (now (out .exit)) ⌝ }
+{
+    if out.len() < 16 {
+        return Lent {
+            ledger,
+            ended: Ended::Refused(Refusal::ShortBuffer),
+        };
+    }
+    match permitted(ledger, n) {
+        Permit::Pass => accept(ledger, pool, n, bytes, out),
+        Permit::Refuse(why) => Lent {
+            ledger,
+            ended: Ended::Refused(why),
+        },
+    }
 }
