@@ -2,7 +2,7 @@
 ghost use mathlib.Core.Path.{_≡_};
 ghost use Prim.Native.Nat.{_+_, _-_, _≤_};
 ghost use lib.ListN.{length};
-ghost use Rattle.octets.specs.Parts.{pasted, cleared, moved, cutOut, spread};
+ghost use Rattle.octets.specs.Parts.{part, pasted, cleared, moved, cutOut, spread};
 
 // Writes `s` into `d` from `at` on.
 pub fn put(d: &mut [u8], at: usize, s: &[u8])
@@ -70,4 +70,12 @@ pub fn spread_at(d: &mut [u8], at: usize, k: usize, end: usize)
 {
     move_up(d, at + k, at, end);
     clear(d, at, at + k);
+}
+
+// Writes the bytes of `s` from `from` up to `end` into `d` from `at` on.
+pub fn put_part(d: &mut [u8], at: usize, s: &[u8], from: usize, end: usize)
+    requires { ⌜ (from ≤ end) × (end ≤ length (now s)) × (at + (end - from) ≤ length (now d)) ⌝ }
+    ensures { λ _. ⌜ now (d .exit) ≡ pasted (now (d .entry)) at (part from end (now (s .entry))) ⌝ }
+{
+    put(d, at, &s[from..end]);
 }

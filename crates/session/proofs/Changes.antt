@@ -11,7 +11,8 @@ use Rattle.rules.specs.State.{State, Chan, closed, chan, withChan, room, fresh,
 use Rattle.rules.specs.Pool.{cells}
 use Rattle.rules.specs.Sound.{SoundChan, Sound}
 use Rattle.rules.proofs.Soundness.{chan-sound, closed-sound, fresh-sound, arrived-sound, handed-sound, stored-sound, readied-sound, taken-sound, dropped-sound}
-use Rattle.octets.specs.Parts.{pasted, cutOut, spread}
+use lib.Seq.{drop-at, take-append-le}
+use Rattle.octets.specs.Parts.{part, pasted, cutOut, spread}
 use Rattle.octets.proofs.Pastes.{cut-parts, spread-parts}
 use Rattle.session.specs.Picture.{space, pad, region, poolOf}
 use Rattle.session.proofs.Regions.{front, rest, used, used-fits, used-parts, pool-split, pool-with, pool-same, way-put, way-cut, length-pad, length-region, held-space}
@@ -146,3 +147,26 @@ module _ (a : State) (n : ChannelNumber) (h : Sound a) (place : n .0 - 1 < lengt
   still-pool d eg er es hd =
       pool-same a n h place d hc hd eg
       ∙ (λ i. x ++ ((pad (space (eg i)) (er i) ++ pad (space (eg i)) (es i)) ++ b)) ∙ sym (pool-split a n h place)
+
+-- what is held is read from the front of its space
+module _ (a : State) (n : ChannelNumber) (h : Sound a) (place : n .0 - 1 < length (a .chans)) (at : ℕ) (e : length (front a n h place) ≡ at) where
+  held-part : (x l w : List ℕ) (k m b : ℕ) → length x ≡ b → k ≤ length l → part b (b + k) (x ++ (pad m l ++ w)) ≡ take k l
+  unfolding pad
+  held-part x l w k m b q f =
+      let c : b + k - b ≡ k = omega arith in
+      ap (λ (j : ℕ). take j (drop b (x ++ (l ++ zeros (m - length l) ++ w)))) c
+      ∙ ap (λ (r : List ℕ). take k r) (drop-at x (l ++ zeros (m - length l) ++ w) b q ∙ append-assoc l (zeros (m - length l)) w)
+      ∙ take-append-le k l (zeros (m - length l) ++ w) f
+
+  pub recv-part : (k : ℕ) → k ≤ length (chan a n .recv) → part at (at + k) (poolOf a) ≡ take k (chan a n .recv)
+  unfolding region
+  recv-part k f =
+      ap (λ (p : List ℕ). part at (at + k) p) (pool-split a n h place ∙ recv-parts a n h place (chan a n .recv) (chan a n .send))
+      ∙ held-part (front a n h place) (chan a n .recv) _ k (space (chan a n .grant)) at e f
+
+  pub send-part : (k : ℕ) → k ≤ length (chan a n .send) → part (at + space (chan a n .grant)) (at + space (chan a n .grant) + k) (poolOf a) ≡ take k (chan a n .send)
+  unfolding region
+  send-part k f =
+      ap (λ (p : List ℕ). part (at + space (chan a n .grant)) (at + space (chan a n .grant) + k) p)
+      (pool-split a n h place ∙ send-parts a n h place (chan a n .recv) (chan a n .send))
+      ∙ held-part (x a n h place ++ pad (space (chan a n .grant)) (chan a n .recv)) (chan a n .send) (b a n h place) k (space (chan a n .grant)) (at + space (chan a n .grant)) (send-place a n h place at e) f

@@ -3,9 +3,10 @@
 use Prim.Native.Nat.{ℕ, zero, suc, _+_, _-_, _≤_, _<_, min}
 use mathlib.Core.Path.{_≡_, refl, sym, ap, subst, _∙_}
 use mathlib.Core.Bool.{Bool, true, false, not, _&&_, false≢true}
-use mathlib.Core.List.{List, [], _∷_}
+use mathlib.Core.List.{List, [], _∷_, _++_}
 use native.Mathlib.Omega.{arith}
-use lib.ListN.{length, take, drop, length-append}
+use native.Mathlib.Nat.{zero-add}
+use lib.ListN.{length, take, drop, length-append, length-take}
 use lib.Dec.{ltb, leb}
 use borrow.Author.Tests.{lt-ltb, le-ltb, leb-true}
 use Rattle.rules.specs.declared.ChannelNumber.{ChannelNumber}
@@ -24,16 +25,16 @@ use Rattle.rules.specs.Run.{arriving, takingOut, droppingLink, step}
 use Rattle.rules.specs.Sound.{Sound}
 use Rattle.rules.proofs.Laws.{branch, stop, skip, not-not, both-left, both-right}
 use Rattle.rules.proofs.Soundness.{step-sound}
-use Rattle.octets.specs.Parts.{pasted}
+use Rattle.octets.specs.Parts.{part, pasted}
 use Rattle.session.specs.declared.Ended.the-variants.{Wrote, Refused}
 use Rattle.session.specs.declared.Ledger.{Ledger}
 use Rattle.session.specs.declared.Permit.{Permit}
 use Rattle.session.specs.declared.Permit.the-variants.{Pass, Refuse}
-use Rattle.session.specs.Picture.{shown, Shows, GoodIn}
+use Rattle.session.specs.Picture.{space, baseOf, shown, Shows, GoodIn}
 use Rattle.session.specs.Calls.{endedOf, writtenBy, overlaid, permitOf, arrivalTold, dropTold, Answers}
 use Rattle.session.specs.Changed.{Numbered, chanIn, entryIn, Changed}
-use Rattle.session.proofs.Facts.{Bounds, bounds}
-use Rattle.session.proofs.Permits.{permitting, arrival-by, arrival-short, taking-by, dropping-by, dropping-short}
+use Rattle.session.proofs.Facts.{Bounds, bounds, send-read}
+use Rattle.session.proofs.Permits.{refuse-pass, permitting, arrival-by, arrival-short, taking-by, dropping-by, dropping-short, taking-permit, dropping-permit}
 use Rattle.session.proofs.Views.{shows-good}
 
 -- a refusal leaves the session and the lent bytes
@@ -86,9 +87,6 @@ unfolding isEstablished
 established-is NotYet e = absurd (false≢true e)
 established-is Established e = refl
 established-is Dropped e = absurd (false≢true e)
-
-refuse-pass : {r : Refusal} {X : Type 0} → Refuse r ≡ Pass → X
-refuse-pass e = absurd (let z : _≡_ {A = ℕ} 0 1 = cc in omega arith)
 
 pub passed : (a : State) (n : ChannelNumber) → permitOf a n ≡ Pass → Passed a n
 unfolding permitOf numbered isOpen
@@ -232,3 +230,58 @@ module _ (l : Ledger) (p : List ℕ) (n : ChannelNumber) (m out : List ℕ) (g :
         let held = ap (λ (x : ℕ). arrivalTold n (x + length m)) (b .rx-is) in
         subst (λ (x : ℕ). Answers (arrival q (length out) n m) k r (Wrote x) out after) (arrival-size n (entryIn l n .rx + length m))
         (wrote-answers _ _ (arrivalTold n (entryIn l n .rx + length m)) k r out after sound (stored-is ∙ ap (answered _) (t ∙ sym held)) s o)
+
+-- a paste at the front of a buffer lies over it
+pub front-over : (d s : List ℕ) → pasted d 0 s ≡ overlaid s d
+unfolding pasted overlaid
+front-over d s = ap (λ (k : ℕ). s ++ drop k d) (zero-add (length s))
+
+-- the take on a channel that may be used
+module _ (l : Ledger) (p : List ℕ) (n : ChannelNumber) (out : List ℕ) (g : GoodIn l p) (pass : permitOf (shown l p) n ≡ Pass) where
+  pub pass-named : Numbered l p n
+  pass-named = let y = passed (shown l p) n pass in record { good = g; low = y .low; high = y .high }
+
+  pub pass-bounds : Bounds l p n
+  pass-bounds = bounds l p n pass-named
+
+  pub hand-over :
+      (k : ℕ) (m : Ledger) (r after : List ℕ) → k ≡ min (length out) (entryIn l n .ready) → Changed l p n (taken (chanIn l p n) k) m r →
+      after ≡
+      pasted out 0
+      (part (baseOf (l .channels) (n .0 - 1) + space (entryIn l n .grant)) (baseOf (l .channels) (n .0 - 1) + space (entryIn l n .grant) + k) p) →
+      Answers (taking (shown l p) (length out) n) m r (Wrote k) out after
+  hand-over k m r after e s o =
+      let b = pass-bounds in
+      let a = shown l p in
+      let f : k ≤ length (chanIn l p n .send) = omega arith in
+      let e′ : k ≡ min (length out) (chan a n .ready) = e ∙ ap (λ (j : ℕ). min (length out) j) (b .ready-is) in
+      let size : length (take k (chan a n .send)) ≡ k = simp length-take (omega arith) in
+      let is =
+      taking-permit a (length out) n Pass pass
+      ∙ ap (λ (j : ℕ). answered (withChan a n (taken (chan a n) j)) (take j (chan a n .send))) (sym e′) in
+      subst (λ (j : ℕ). Answers (taking a (length out) n) m r (Wrote j) out after) size
+      (wrote-answers _ _ (take k (chan a n .send)) m r out after (taking-sound a (length out) n (g .sound)) is s
+      (o ∙ front-over out _ ∙ ap (λ (t : List ℕ). overlaid t out) (send-read l p n pass-named k f)))
+
+unlisted-drop : (l : Ledger) (p : List ℕ) (n : ChannelNumber) → l .events .status ≡ false → dropEvent (shown l p) n ≡ []
+unfolding dropEvent shown
+unlisted-drop l p n e = skip _ _ _ e
+
+listed-drop : (l : Ledger) (p : List ℕ) (n : ChannelNumber) → l .events .status ≡ true → dropEvent (shown l p) n ≡ dropTold n
+unfolding dropEvent dropTold dropped shown
+listed-drop l p n e = stop _ _ _ e
+
+-- the drop on a channel that may be used
+module _ (l : Ledger) (n : ChannelNumber) (out : List ℕ) (fit : 16 ≤ length out) (m : Ledger) where
+  module _ (p : List ℕ) (g : GoodIn l p) (pass : permitOf (shown l p) n ≡ Pass) (s : Changed l p n (dropped (chanIn l p n)) m p) where
+    dropped-is : dropping (shown l p) (length out) n ≡ answered (withChan (shown l p) n (dropped (chanIn l p n))) (dropEvent (shown l p) n)
+    dropped-is = dropping-permit (shown l p) (length out) n Pass fit pass
+
+    pub drop-quiet : l .events .status ≡ false → Answers (dropping (shown l p) (length out) n) m p (Wrote 0) out out
+    drop-quiet e = quiet-answers _ _ _ m p out (dropping-sound (shown l p) (length out) n (g .sound)) dropped-is (unlisted-drop l p n e) s
+
+    pub drop-told :
+        (after : List ℕ) → l .events .status ≡ true → after ≡ overlaid (dropTold n) out → Answers (dropping (shown l p) (length out) n) m p (Wrote 13) out after
+    drop-told after e o =
+        subst (λ (k : ℕ). Answers (dropping (shown l p) (length out) n) m p (Wrote k) out after) (drop-size n)
+        (wrote-answers _ _ (dropTold n) m p out after (dropping-sound (shown l p) (length out) n (g .sound)) (dropped-is ∙ ap (answered _) (listed-drop l p n e)) s o)

@@ -13,13 +13,13 @@ use Rattle.rules.specs.State.{State, Chan, closed, chan, withChan, room, fresh,
 use Rattle.rules.specs.Pool.{cells, promisedTo, promised}
 use Rattle.rules.specs.Sound.{SoundChan, Sound}
 use Rattle.rules.proofs.Soundness.{chan-sound, readied-sound, dropped-sound}
-use Rattle.octets.specs.Parts.{pasted, cutOut, spread}
+use Rattle.octets.specs.Parts.{part, pasted, cutOut, spread}
 use Rattle.session.specs.declared.Channel.{Channel}
 use Rattle.session.specs.declared.Ledger.{Ledger}
 use Rattle.session.specs.Picture.{space, pad, regions, region, poolOf, entry, ledgerOf, baseOf, shown, Shows, GoodIn}
 use Rattle.session.specs.Changed.{Numbered, chanIn, entryIn, withEntry, Changed}
 use Rattle.session.proofs.Regions.{length-regions, front, rest, used, used-fits, used-parts, length-pad, length-region, base-length, held-space}
-use Rattle.session.proofs.Changes.{arrived-pool, handed-pool, stored-pool, taken-pool, closed-pool, opened-pool, still-pool}
+use Rattle.session.proofs.Changes.{arrived-pool, handed-pool, stored-pool, taken-pool, closed-pool, opened-pool, still-pool, recv-part, send-part}
 
 -- an entry of the ledger is the entry of the channel
 map-set : (cs : List Chan) (k : ℕ) (c : Chan) → map entry (set cs k c) ≡ set (map entry cs) k (entry c)
@@ -227,3 +227,12 @@ module _ (l : Ledger) (p : List ℕ) (n : ChannelNumber) (h : Numbered l p n) wh
       changed (dropped c) _ _
       (λ i. record { grant = b .grant-is i; link = Dropped; rx = b .rx-is i; tx = b .tx-is i; ready = b .ready-is i })
       (pool-is ∙ sym (still-pool a n (h .good .sound) place (dropped c) refl refl refl (dropped-sound c s)))
+
+  -- the bytes at the front of each way are those held
+  pub recv-read : (k : ℕ) → k ≤ length (c .recv) → part at (at + k) p ≡ take k (c .recv)
+  recv-read k f = ap (λ (q : List ℕ). part at (at + k) q) pool-is ∙ recv-part a n (h .good .sound) place at front-is k f
+
+  pub send-read : (k : ℕ) → k ≤ length (c .send) → part (at + space (x .grant)) (at + space (x .grant) + k) p ≡ take k (c .send)
+  send-read k f =
+      let b = bounds in
+      (λ i. part (at + space (b .grant-is i)) (at + space (b .grant-is i) + k) (pool-is i)) ∙ send-part a n (h .good .sound) place at front-is k f

@@ -34,6 +34,10 @@ numbered-yes : (n : ChannelNumber) → 1 ≤ n .0 → n .0 ≤ 7 → not (number
 unfolding numbered
 numbered-yes n l h = λ i. not (le-leb 1 (n .0) l i && le-leb (n .0) 7 h i)
 
+-- a refusal is no pass
+pub refuse-pass : {r : Refusal} {X : Type 0} → Refuse r ≡ Pass → X
+refuse-pass e = absurd (let z : _≡_ {A = ℕ} 0 1 = cc in omega arith)
+
 -- the permit that a link gives
 abbrev pub byLink : Link → Permit
 byLink NotYet = Refuse Unlinked

@@ -6,7 +6,7 @@ use rules::Events;
 use rules::Link;
 use rules::Refusal;
 ghost use mathlib.Core.Path.{_≡_};
-ghost use Prim.Native.Nat.{ℕ, _+_, _-_, _*_, _≤_};
+ghost use Prim.Native.Nat.{ℕ, _+_, _-_, _*_, _≤_, min};
 ghost use lib.ListN.{length};
 ghost use mathlib.Core.List.{List};
 ghost use Rattle.rules.specs.Pool.{cells, unpromised};
@@ -264,6 +264,7 @@ pub fn told(count: usize) -> u8
 // R3, R4 and R5, in order.
 pub fn permitted(ledger: Ledger, n: ChannelNumber) -> Permit
     ensures { λ r. ⌜ ((p : List ℕ) → GoodIn ledger p → r ≡ permitOf (shown ledger p) n) ⌝ }
+    ensures { λ r. ⌜ (r ≡ Pass → (1 ≤ n .0) × (n .0 ≤ 7)) ⌝ }
 {
     let number = n.0;
     if number < 1 {
@@ -397,6 +398,88 @@ pub fn arrival_in(
     }
     match permitted(ledger, n) {
         Permit::Pass => accept(ledger, pool, n, bytes, out),
+        Permit::Refuse(why) => Lent {
+            ledger,
+            ended: Ended::Refused(why),
+        },
+    }
+}
+
+// The lesser of two counts.
+pub fn least(a: usize, b: usize) -> usize
+    ensures { λ r. ⌜ r ≡ min a b ⌝ }
+{
+    if a < b {
+        return a;
+    }
+    b
+}
+
+// A take on a channel that may be used: as many ready bytes as fit the buffer.
+fn hand_over(ledger: Ledger, pool: &mut [u8; 8192], n: ChannelNumber, out: &mut [u8]) -> Lent
+    requires { ⌜ GoodIn ledger (now pool) ⌝ }
+    requires { ⌜ permitOf (shown ledger (now pool)) n ≡ Pass ⌝ }
+    ensures { λ r. ⌜ Answers (taking (shown ledger (now (pool .entry))) (length (now (out .entry))) n) (r .ledger) (now (pool .exit)) (r .ended) (now (out .entry)) (now (out .exit)) ⌝ }
+{
+    let k = (n.0 - 1) as usize;
+    let channels = ledger.channels;
+    let c = channels[k];
+    let count = least(out.len(), c.ready as usize);
+    let at = base(channels, k) + Pool::space(c.grant);
+    octets::put_part(out, 0, pool, at, at + count);
+    let next = take_ready(ledger, pool, n, count);
+    Lent {
+        ledger: next,
+        ended: Ended::Wrote(count),
+    }
+}
+
+// The take over a lent pool.
+pub fn taking_in(ledger: Ledger, pool: &mut [u8; 8192], n: ChannelNumber, out: &mut [u8]) -> Lent
+    requires { ⌜ GoodIn ledger (now pool) ⌝ }
+    ensures { λ r. ⌜ Answers (taking (shown ledger (now (pool .entry))) (length (now (out .entry))) n) (r .ledger) (now (pool .exit)) (r .ended) (now (out .entry)) (now (out .exit)) ⌝ }
+{
+    match permitted(ledger, n) {
+        Permit::Pass => hand_over(ledger, pool, n, out),
+        Permit::Refuse(why) => Lent {
+            ledger,
+            ended: Ended::Refused(why),
+        },
+    }
+}
+
+// A drop on a channel that may be used: the link is dropped, and event 0A tells of it.
+fn tell_dropped(ledger: Ledger, n: ChannelNumber, out: &mut [u8]) -> Lent
+    requires { ⌜ (1 ≤ n .0) × (n .0 ≤ 7) × (16 ≤ length (now out)) ⌝ }
+    ensures { λ r. ⌜ ((p : List ℕ) → GoodIn ledger p → permitOf (shown ledger p) n ≡ Pass → Answers (dropping (shown ledger p) (length (now (out .entry))) n) (r .ledger) p (r .ended) (now (out .entry)) (now (out .exit))) ⌝ }
+{
+    let next = drop_link(ledger, n);
+    let events = ledger.events;
+    if !events.status {
+        return Lent {
+            ledger: next,
+            ended: Ended::Wrote(0),
+        };
+    }
+    tell_drop(out, n);
+    Lent {
+        ledger: next,
+        ended: Ended::Wrote(13),
+    }
+}
+
+// The drop. The pool stays, so it is not lent.
+pub fn dropping_in(ledger: Ledger, n: ChannelNumber, out: &mut [u8]) -> Lent
+    ensures { λ r. ⌜ ((p : List ℕ) → GoodIn ledger p → Answers (dropping (shown ledger p) (length (now (out .entry))) n) (r .ledger) p (r .ended) (now (out .entry)) (now (out .exit))) ⌝ }
+{
+    if out.len() < 16 {
+        return Lent {
+            ledger,
+            ended: Ended::Refused(Refusal::ShortBuffer),
+        };
+    }
+    match permitted(ledger, n) {
+        Permit::Pass => tell_dropped(ledger, n, out),
         Permit::Refuse(why) => Lent {
             ledger,
             ended: Ended::Refused(why),

@@ -25,7 +25,7 @@ enum-told c = search needs
 accept-requires : tie.Need-accept-requires
 accept-requires c κs =
     let s = c .before .before .before .before .before .before .before .before in
-    (s .pre, (sym (c .before .before .before .before .permitted .ensures _ (s .pre)) ∙ c .before .before .enum-told .given .1, c .before .before .before .before .before .if1 .left))
+    (s .pre, (sym (c .before .before .before .before .permitted .ensures .0 _ (s .pre)) ∙ c .before .before .enum-told .given .1, c .before .before .before .before .before .if1 .left))
 
 enum-known-why : tie.Need-enum-known-why
 enum-known-why c = search needs
@@ -39,7 +39,7 @@ returns-2 c = search needs
 returns-3 : tie.Need-returns-3
 returns-3 c =
     let s = c .before .before .before .before .before .before .before in
-    refuse-answers _ _ _ _ _ (s .pre) (arrival-refused _ _ _ _ _ (c .before .before .before .before .if1 .left) (sym (c .before .before .before .permitted .ensures _ (s .pre)) ∙ c .before .why .given .1))
+    refuse-answers _ _ _ _ _ (s .pre) (arrival-refused _ _ _ _ _ (c .before .before .before .before .if1 .left) (sym (c .before .before .before .permitted .ensures .0 _ (s .pre)) ∙ c .before .why .given .1))
 
 pub arrival-in-spec : {M : Type 1} → statement M
 arrival-in-spec =
