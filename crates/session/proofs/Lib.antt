@@ -5,3 +5,4 @@ pub mod Views
 pub mod Facts
 pub mod Permits
 pub mod Ends
+pub mod Starts

@@ -10,8 +10,8 @@ ghost use Prim.Native.Nat.{ℕ, _+_, _-_, _*_, _≤_, min};
 ghost use lib.ListN.{length};
 ghost use mathlib.Core.List.{List};
 ghost use Rattle.rules.specs.Pool.{cells, unpromised};
-ghost use Rattle.rules.specs.State.{room, establish, closed, fresh, arrived, handed, stored, readied, taken, dropped};
-ghost use Rattle.session.specs.Picture.{Good, GoodIn, Shows, shown, baseOf};
+ghost use Rattle.rules.specs.State.{start, room, establish, closed, fresh, arrived, handed, stored, readied, taken, dropped};
+ghost use Rattle.session.specs.Picture.{Good, GoodIn, Shows, ledgerOf, shown, view, baseOf};
 ghost use Rattle.rules.specs.Own.{capped};
 ghost use Rattle.rules.specs.Radio.{arrival, taking, dropping};
 ghost use Rattle.session.specs.declared.Permit.the-variants.{Pass};
@@ -484,5 +484,88 @@ pub fn dropping_in(ledger: Ledger, n: ChannelNumber, out: &mut [u8]) -> Lent
             ledger,
             ended: Ended::Refused(why),
         },
+    }
+}
+
+// The ledger of a fresh session: no channel and no event, and the 13 bytes of the profile in which every place lies.
+pub fn fresh_ledger(profile: &[u8]) -> Ledger
+    ensures { λ r. ⌜ r ≡ ledgerOf (start (now (profile .entry))) ⌝ }
+{
+    let mut kept = [0u8; 13];
+    octets::put_part(&mut kept, 0, profile, 0, least(profile.len(), 13));
+    let none = Channel {
+        grant: 0,
+        link: Link::NotYet,
+        rx: 0,
+        tx: 0,
+        ready: 0,
+    };
+    Ledger {
+        profile: kept,
+        events: Events {
+            available: false,
+            status: false,
+        },
+        channels: [none; 7],
+    }
+}
+
+// A fresh session from profile bytes of any length. Starting anew is a card reset.
+pub fn start(profile: &[u8]) -> Session
+    ensures { λ r. ⌜ Shows (start (now (profile .entry))) (r .ledger) (r .pool) ⌝ }
+    ensures { λ r. ⌜ Good r ⌝ }
+{
+    let ledger = fresh_ledger(profile);
+    Session {
+        ledger,
+        pool: [0u8; 8192],
+    }
+}
+
+// The radio brings bytes for a channel.
+pub fn arrival(s: Session, n: ChannelNumber, bytes: &[u8], out: &mut [u8]) -> Answered
+    requires { ⌜ Good s ⌝ }
+    ensures { λ r. ⌜ Answers (arrival (view s) (length (now (out .entry))) n (now (bytes .entry))) (r .session .ledger) (r .session .pool) (r .ended) (now (out .entry)) (now (out .exit)) ⌝ }
+{
+    let ledger = s.ledger;
+    let mut pool = s.pool;
+    let lent = arrival_in(ledger, &mut pool, n, bytes, out);
+    let next = lent.ledger;
+    let ended = lent.ended;
+    Answered {
+        session: Session { ledger: next, pool },
+        ended,
+    }
+}
+
+// The radio takes the bytes of a channel that are ready, as many as fit.
+pub fn take(s: Session, n: ChannelNumber, out: &mut [u8]) -> Answered
+    requires { ⌜ Good s ⌝ }
+    ensures { λ r. ⌜ Answers (taking (view s) (length (now (out .entry))) n) (r .session .ledger) (r .session .pool) (r .ended) (now (out .entry)) (now (out .exit)) ⌝ }
+{
+    let ledger = s.ledger;
+    let mut pool = s.pool;
+    let lent = taking_in(ledger, &mut pool, n, out);
+    let next = lent.ledger;
+    let ended = lent.ended;
+    Answered {
+        session: Session { ledger: next, pool },
+        ended,
+    }
+}
+
+// The radio tells that the link of a channel was dropped.
+pub fn drop(s: Session, n: ChannelNumber, out: &mut [u8]) -> Answered
+    requires { ⌜ Good s ⌝ }
+    ensures { λ r. ⌜ Answers (dropping (view s) (length (now (out .entry))) n) (r .session .ledger) (r .session .pool) (r .ended) (now (out .entry)) (now (out .exit)) ⌝ }
+{
+    let ledger = s.ledger;
+    let pool = s.pool;
+    let lent = dropping_in(ledger, n, out);
+    let next = lent.ledger;
+    let ended = lent.ended;
+    Answered {
+        session: Session { ledger: next, pool },
+        ended,
     }
 }

@@ -1,0 +1,67 @@
+-- A fresh session: what is kept of the profile, and an empty pool.
+-- Assumes nothing.
+use Prim.Native.Nat.{ℕ, zero, suc, _+_, _-_, _≤_, min}
+use mathlib.Core.Path.{_≡_, refl, sym, ap, _∙_}
+use mathlib.Core.Bool.{Bool, true, false}
+use mathlib.Core.List.{List, [], _∷_, _++_, append-nil}
+use native.Mathlib.Omega.{arith}
+use native.Mathlib.Nat.{le-of-suc-le-suc, not-suc-le-zero}
+use lib.Dec.{leb}
+use borrow.Author.Tests.{leb-true, leb-false}
+use lib.ListN.{length, take, drop, replicate, length-take}
+use lib.Seq.{take-all, take-append-le, take-append-add}
+use Rattle.rules.specs.Profile.{kept}
+use Rattle.rules.specs.Pool.{cells}
+use Rattle.rules.specs.State.{start, closed}
+use Rattle.octets.specs.Parts.{part, pasted}
+use Rattle.session.specs.Picture.{space, pad, region, regions, poolOf}
+
+zeros-drop : (a n : ℕ) → a ≤ n → drop a (replicate {A = ℕ} n 0) ≡ replicate (n - a) 0
+zeros-drop zero n h = ap (λ (k : ℕ). replicate k 0) (let e : n ≡ n - 0 = omega arith in e)
+zeros-drop (suc a) zero h = absurd (not-suc-le-zero h)
+zeros-drop (suc a) (suc n) h =
+    zeros-drop a n (le-of-suc-le-suc h) ∙ ap (λ (k : ℕ). replicate k 0) (let e : n - a ≡ suc n - suc a = omega arith in e)
+
+zeros-take : (a n : ℕ) → a ≤ n → take a (replicate {A = ℕ} n 0) ≡ replicate a 0
+zeros-take zero n h = refl
+zeros-take (suc a) zero h = absurd (not-suc-le-zero h)
+zeros-take (suc a) (suc n) h = ap (λ (l : List ℕ). 0 ∷ l) (zeros-take a n (le-of-suc-le-suc h))
+
+short-kept : (p : List ℕ) → length p ≤ 13 → p ++ drop (length p) (replicate 13 0) ≡ kept p
+unfolding kept
+short-kept p h =
+    let e : length p + (13 - length p) ≡ 13 = omega arith in
+    ap (λ (l : List ℕ). p ++ l) (zeros-drop (length p) 13 h ∙ sym (zeros-take (13 - length p) 13 (omega arith)))
+    ∙ sym (take-append-add p (replicate 13 0) (13 - length p)) ∙ ap (λ (k : ℕ). take k (p ++ replicate 13 0)) e
+
+long-kept : (p : List ℕ) → 13 ≤ length p → take 13 p ≡ kept p
+unfolding kept
+long-kept p h = sym (take-append-le 13 p (replicate 13 0) h)
+
+-- the front of a profile, put over 13 zeros
+pub kept-is : (p : List ℕ) (m : ℕ) → m ≡ min (length p) 13 → pasted (replicate 13 0) 0 (part 0 m p) ≡ kept p
+unfolding pasted
+kept-is p m e = by (leb (length p) 13) refl
+  where
+    short : length p ≤ 13 → pasted (replicate 13 0) 0 (part 0 m p) ≡ kept p
+    short h =
+        let k : m - 0 ≡ length p = omega arith in
+        let whole : part 0 m p ≡ p = ap (λ (j : ℕ). take j p) k ∙ take-all (length p) p (omega arith) in
+        let n : 0 + length p ≡ length p = omega arith in
+        ap (λ (s : List ℕ). pasted (replicate 13 0) 0 s) whole ∙ ap (λ (j : ℕ). p ++ drop j (replicate 13 0)) n ∙ short-kept p h
+
+    long : 13 ≤ length p → pasted (replicate 13 0) 0 (part 0 m p) ≡ kept p
+    long h =
+        let k : m - 0 ≡ 13 = omega arith in
+        let cut : part 0 m p ≡ take 13 p = ap (λ (j : ℕ). take j p) k in
+        let n : 0 + length (take 13 p) ≡ 13 = simp length-take (omega arith) in
+        ap (λ (s : List ℕ). pasted (replicate 13 0) 0 s) cut ∙ ap (λ (j : ℕ). take 13 p ++ drop j (replicate 13 0)) n ∙ append-nil (take 13 p) ∙ long-kept p h
+
+    by : (b : Bool) → leb (length p) 13 ≡ b → pasted (replicate 13 0) 0 (part 0 m p) ≡ kept p
+    by true q = short (leb-true (length p) 13 q)
+    by false q = long (let h = leb-false (length p) 13 q in omega arith)
+
+-- nothing is held, so the pool is empty
+pub empty-pool : (p : List ℕ) → replicate 8192 0 ≡ poolOf (start p)
+unfolding poolOf start pad regions region closed space cells
+empty-pool p = refl

@@ -1,0 +1,22 @@
+-- `session::take` meets its contract: that of the call over a lent pool.
+-- Assumes nothing.
+use Rattle.session.specs.Picture.{view}
+use borrow.Author.Needs.{needs}
+use Rattle.session.proofs.take.Statement.{statement}
+use Rattle.session.proofs.take.Tie as tie
+use Rattle.session.proofs.take.Reads as reads
+use Rattle.session.proofs.take.Lts as lts
+use Rattle.session.proofs.taking_in.Reads as taking-in-reads
+
+taking-in-requires : tie.Need-taking-in-requires
+taking-in-requires c κs = search needs
+
+same-length : tie.Need-same-length
+same-length c = search needs
+
+returns : tie.Need-returns
+unfolding view
+returns c = c .before .before .before .taking-in .ensures
+
+pub take-spec : {M : Type 1} → statement M
+take-spec = tie.close (tie.spec taking-in-requires same-length returns)
