@@ -6,3 +6,4 @@ pub mod Facts
 pub mod Permits
 pub mod Ends
 pub mod Starts
+pub mod Owners
