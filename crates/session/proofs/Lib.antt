@@ -3,7 +3,6 @@ pub mod Regions
 pub mod Changes
 pub mod Views
 pub mod Facts
-pub mod Permits
-pub mod Ends
+pub mod Answers
 pub mod Starts
 pub mod Owners
