@@ -6,3 +6,4 @@ pub mod Soundness
 pub mod Sizes
 pub mod Octets
 pub mod Told
+pub mod Walks

@@ -76,16 +76,17 @@ object-octets [] h = tt
 object-octets (t ∷ s) h = branch ObjectOctets _ _ _ (λ _. value-octets t (lengthAt s) (length-octets s (h .1))) (λ _. tt)
 
 onward-octets :
-    (r : ObjectRead) (k : List ℕ → Walk) → ObjectOctets r → ((s : List ℕ) → Bytes s → Each Holds (k s .objects)) → Each Holds (onward r k .objects)
+    (b : List ℕ) (r : ObjectRead) (k : List ℕ → Walk) → ObjectOctets r → ((s : List ℕ) → Bytes s → Each Holds (k s .objects)) →
+    Each Holds (onward b r k .objects)
 unfolding onward
-onward-octets (faulty e) k h f = tt
-onward-octets (object o s) k h f = (h .0, f s (h .1))
+onward-octets b (faulty e) k h f = tt
+onward-octets b (object o s) k h f = (h .0, f s (h .1))
 
 walk-octets : (n : ℕ) (s : List ℕ) → Bytes s → Each Holds (walkUpTo n s .objects)
 unfolding walkUpTo
 walk-octets zero s h = tt
 walk-octets (suc n) [] h = tt
-walk-octets (suc n) (b ∷ s) h = onward-octets (objectAt (b ∷ s)) (walkUpTo n) (object-octets (b ∷ s) h) (walk-octets n)
+walk-octets (suc n) (b ∷ s) h = onward-octets (b ∷ s) (objectAt (b ∷ s)) (walkUpTo n) (object-octets (b ∷ s) h) (walk-octets n)
 
 following-octets : (l : LengthRead) → LengthBytes l → Bytes (following l)
 unfolding following

@@ -96,8 +96,8 @@ some-contents e = ap isEmpty e
 
 faulty-walk : {s r : List ℕ} {b : ℕ} {e : Ending} → s ≡ b ∷ r → objectAt (b ∷ r) ≡ faulty e → isEmpty (walk s .objects) ≡ true
 unfolding walk walkUpTo onward isEmpty
-faulty-walk {s} {r} c o =
-    ap (λ (t : List ℕ). isEmpty (walk t .objects)) c ∙ ap (λ (x : ObjectRead). isEmpty (onward x (walkUpTo (length r)) .objects)) o
+faulty-walk {s} {r} {b} c o =
+    ap (λ (t : List ℕ). isEmpty (walk t .objects)) c ∙ ap (λ (x : ObjectRead). isEmpty (onward (b ∷ r) x (walkUpTo (length r)) .objects)) o
 
 -- step 3: no object at all, a first object that is faulty, and one that is whole and no details
 module _ (p s : List ℕ) (f : framed s ≡ true) where

@@ -57,21 +57,22 @@ unfoldable pub objectAt : List ℕ → ObjectRead
 objectAt [] = faulty BadTag
 objectAt (t ∷ s) = goodTag t ⇒ valueAfter t (lengthAt s) else faulty BadTag
 
--- what a walk found: the objects before the end or the first fault, and which of these it met
+-- what a walk found: the objects before the end or the first fault, which of these it met, and the bytes from there on
 pub record Walk : Type 0 where
   pub objects : List Object
   pub ending : Ending
+  pub rest : List ℕ
 
--- one object more, or the stop
-unfoldable pub onward : ObjectRead → (List ℕ → Walk) → Walk
-onward (faulty e) k = record { objects = []; ending = e }
-onward (object o s) k = let w = k s in record { objects = o ∷ w .objects; ending = w .ending }
+-- one object more, or the stop at the bytes s
+unfoldable pub onward : List ℕ → ObjectRead → (List ℕ → Walk) → Walk
+onward s (faulty e) k = record { objects = []; ending = e; rest = s }
+onward s (object o r) k = let w = k r in record { objects = o ∷ w .objects; ending = w .ending; rest = w .rest }
 
 -- the walk, over at most so many objects
 unfoldable pub walkUpTo : ℕ → List ℕ → Walk
-walkUpTo zero s = record { objects = []; ending = End }
-walkUpTo (suc n) [] = record { objects = []; ending = End }
-walkUpTo (suc n) (b ∷ s) = onward (objectAt (b ∷ s)) (walkUpTo n)
+walkUpTo zero s = record { objects = []; ending = End; rest = s }
+walkUpTo (suc n) [] = record { objects = []; ending = End; rest = [] }
+walkUpTo (suc n) (b ∷ s) = onward (b ∷ s) (objectAt (b ∷ s)) (walkUpTo n)
 
 -- the walk stops at the first fault; bytes are never fewer than objects
 unfoldable pub walk : List ℕ → Walk
