@@ -10,15 +10,16 @@ use Rattle.rules.specs.declared.ChannelNumber.{ChannelNumber}
 use Rattle.rules.specs.declared.Link.{Link}
 use Rattle.rules.specs.declared.Link.the-variants.{NotYet, Dropped}
 use Rattle.rules.specs.State.{State, Chan, closed, chan, withChan, room, fresh, arrived, handed, stored, readied, taken, dropped, establish}
-use Rattle.rules.specs.Pool.{cells, promisedTo, promised}
+use Rattle.rules.specs.Pool.{cells, promisedTo, promised, unpromised}
 use Rattle.rules.specs.Sound.{SoundChan, Sound}
-use Rattle.rules.proofs.Soundness.{chan-sound, readied-sound, dropped-sound}
+use Rattle.rules.proofs.Soundness.{chan-sound, closed-sound, fresh-sound, stored-sound, readied-sound, dropped-sound, with-sound}
 use Rattle.octets.specs.Parts.{part, pasted, cutOut, spread}
 use Rattle.session.specs.declared.Channel.{Channel}
 use Rattle.session.specs.declared.Ledger.{Ledger}
 use Rattle.session.specs.Picture.{space, pad, regions, region, poolOf, entry, ledgerOf, baseOf, shown, Shows, GoodIn}
 use Rattle.session.specs.Changed.{Numbered, chanIn, entryIn, withEntry, Changed}
 use Rattle.session.proofs.Regions.{length-regions, front, rest, used, used-fits, used-parts, length-pad, length-region, base-length, held-space}
+use Rattle.session.proofs.Views.{shows-good}
 use Rattle.session.proofs.Changes.{arrived-pool, handed-pool, stored-pool, taken-pool, closed-pool, opened-pool, still-pool, recv-part, send-part}
 
 -- an entry of the ledger is the entry of the channel
@@ -236,3 +237,27 @@ module _ (l : Ledger) (p : List ℕ) (n : ChannelNumber) (h : Numbered l p n) wh
   send-read k f =
       let b = bounds in
       (λ i. part (at + space (b .grant-is i)) (at + space (b .grant-is i) + k) (pool-is i)) ∙ send-part a n (h .good .sound) place at front-is k f
+
+  -- what a change leaves is good again
+  pub opened-good :
+      (g : ℕ) (k : Link) (m : Ledger) (r : List ℕ) → g ≤ 1500 → 2 * cells g ≤ unpromised a → Changed l p n (fresh g k) m r → GoodIn m r
+  unfolding fresh
+  opened-good g k m r cap f s =
+      shows-good (withChan a n (fresh g k)) m r (with-sound a n (fresh g k) (h .good .sound) place (fresh-sound g k cap) (omega arith)) s
+
+  pub closed-good : (m : Ledger) (r : List ℕ) → Changed l p n closed m r → GoodIn m r
+  unfolding closed cells
+  closed-good m r s = shows-good (withChan a n closed) m r (with-sound a n closed (h .good .sound) place closed-sound (omega arith)) s
+
+  same-good : (d : Chan) (m : Ledger) (r : List ℕ) → SoundChan d → d .grant ≡ c .grant → Changed l p n d m r → GoodIn m r
+  same-good d m r hd e s =
+      let k = ap cells e in
+      shows-good (withChan a n d) m r (with-sound a n d (h .good .sound) place hd (omega arith)) s
+
+  pub stored-good : (t : List ℕ) (m : Ledger) (r : List ℕ) → length t ≤ room (c .grant) (c .send) → Changed l p n (stored c t) m r → GoodIn m r
+  unfolding stored
+  stored-good t m r f s = same-good (stored c t) m r (stored-sound c (chan-sound a n (h .good .sound)) t f) refl s
+
+  pub readied-good : (m : Ledger) (r : List ℕ) → Changed l p n (readied c) m r → GoodIn m r
+  unfolding readied
+  readied-good m r s = same-good (readied c) m r (readied-sound c (chan-sound a n (h .good .sound))) refl s

@@ -6,7 +6,7 @@ use rules::Events;
 use rules::Link;
 use rules::Refusal;
 ghost use mathlib.Core.Path.{_≡_};
-ghost use Prim.Native.Nat.{ℕ, _+_, _-_, _*_, _≤_, min};
+ghost use Prim.Native.Nat.{ℕ, _+_, _-_, _*_, _/_, _≤_, min};
 ghost use lib.ListN.{length};
 ghost use mathlib.Core.List.{List};
 ghost use Rattle.rules.specs.Pool.{cells, unpromised};
@@ -68,6 +68,14 @@ pub fn base(channels: [Channel; 7], k: usize) -> usize
         i += 1;
     }
     at
+}
+
+// The cells that are not promised to any channel.
+pub fn free_cells(channels: [Channel; 7]) -> usize
+    requires { ⌜ (length channels ≡ 7) × (baseOf channels 7 ≤ 8192) ⌝ }
+    ensures { λ r. ⌜ r ≡ 256 - baseOf channels 7 / 32 ⌝ }
+{
+    Pool::CELLS - base(channels, 7) / Pool::CELL_SIZE
 }
 
 // Bytes arrive: they stand behind those held for receive.
