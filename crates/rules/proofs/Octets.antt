@@ -128,18 +128,18 @@ unfolding bearerBytes bearerIn
 bearer-octets v h = (byte-at v h 0, each-drop Byte 1 v h)
 
 module _ (s : List ℕ) (h : Bytes s) where
-  objects-octets : Each Holds (walk (contents s) .objects)
+  objects-octets : Each Holds (walk s .objects)
   unfolding walk
-  objects-octets = walk-octets (length (contents s)) (contents s) (contents-octets s h)
+  objects-octets = walk-octets (length s) s h
 
   value-of-octets : (n : ℕ) → Bytes (valueOf n (counted s))
-  value-of-octets n = valued-octets n (counted s) (sift-octets _ [] (walk (contents s) .objects) objects-octets)
+  value-of-octets n = valued-octets n (counted s) (sift-octets _ [] (walk s .objects) objects-octets)
 
   details-octets : Bytes (detailsBytes (detailsRead s))
   unfolding detailsBytes detailsIn
   details-octets =
-      let v = valueOf 0x01 (walk (contents s) .objects) in
-      let b = valued-octets 0x01 (walk (contents s) .objects) objects-octets in
+      let v = valueOf 0x01 (walk s .objects) in
+      let b = valued-octets 0x01 (walk s .objects) objects-octets in
       (byte-at v b 0, (byte-at v b 1, (byte-at v b 2, tt)))
 
   body-octets : BodyBytes (commandIn (detailsRead s) (counted s) .body)
@@ -356,16 +356,18 @@ pub record Ends (r : Answer) : Type 0 where
 meant-octets : (a : State) (s : List ℕ) → Sound a → Octets a → Bytes s → Ends (answered (meantBy a (reading (a .profile) s) .state) (responseBytes (meantBy a (reading (a .profile) s) .response)))
 unfolding meantBy zeros detailsBytes
 meant-octets a s h o b =
+    let os = contents s in
+    let bo = contents-octets s b in
     reading-cases (λ (r : Reading). Ends (answered (meantBy a r .state) (responseBytes (meantBy a r .response)))) (a .profile) s
     (λ e t. record { state = o; outcome = response-octets zeros (error e) (omega arith, (omega arith, (omega arith, tt))) (error-octet _ e t) })
-    (λ e t. record { state = o; outcome = response-octets _ (error e) (details-octets s b) (error-octet _ e t) })
+    (λ e t. record { state = o; outcome = response-octets _ (error e) (details-octets os bo) (error-octet _ e t) })
     (λ r i.
-    let c = commandIn (detailsRead s) (counted s) in
-    let t = own-octets a c (c .body) i h o (bearer-read (a .profile) s r) (body-octets s b) in
+    let c = commandIn (detailsRead os) (counted os) in
+    let t = own-octets a c (c .body) i h o (bearer-read (a .profile) os r) (body-octets os bo) in
     record {
       state = t .state;
       outcome =
-          response-octets (detailsOf c) _ (subst (λ (d : Details). Bytes (detailsBytes d)) (sym (details-told (detailsRead s) (counted s))) (details-octets s b)) (t .result);
+          response-octets (detailsOf c) _ (subst (λ (d : Details). Bytes (detailsBytes d)) (sym (details-told (detailsRead os) (counted os))) (details-octets os bo)) (t .result);
     })
 
 -- the events are bytes

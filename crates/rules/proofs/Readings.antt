@@ -13,17 +13,17 @@ use Rattle.rules.specs.Checks.{_⇒_else_, isEmpty, every, some-of, memb
 use Rattle.rules.specs.Frames.{Object, walk, contents}
 use Rattle.rules.specs.Table.{table, known, rowOf, rowAmong, sift, present, valueOf, complete, measured, lengthFits}
 use Rattle.rules.specs.Profile.{allowsType}
-use Rattle.rules.specs.Reading.{Reading, Body, moreTime, eventList, openChannel, closeChannel, receiveData, sendData, channelStatus, other, bearerIn, pairIn, transportIn, wrong, asked, zeros, detailsIn, commandIn, bodyIn, kindOf, detailsOf, addressed, reading}
+use Rattle.rules.specs.Reading.{Reading, Body, moreTime, eventList, openChannel, closeChannel, receiveData, sendData, channelStatus, other, bearerIn, pairIn, transportIn, wrong, asked, zeros, detailsIn, commandIn, bodyIn, kindOf, detailsOf, addressed, readObjects, reading}
 use Rattle.rules.specs.Bench.{errorProper}
 use Rattle.rules.specs.Written.{detailsBytes}
 use Rattle.rules.proofs.Laws.{branch, not-not, both-left, both-right}
 
--- the details and the objects that count, of the bytes of a command
+-- the details and the objects that count, of the bytes of a command's objects
 abbrev pub detailsRead : List ℕ → Details
-detailsRead s = detailsIn (valueOf 0x01 (walk (contents s) .objects))
+detailsRead s = detailsIn (valueOf 0x01 (walk s .objects))
 
 abbrev pub counted : List ℕ → List Object
-counted s = sift (rowOf (detailsRead s .kind)) [] (walk (contents s) .objects) .counting
+counted s = sift (rowOf (detailsRead s .kind)) [] (walk s .objects) .counting
 
 -- what is known of a command that was read
 pub record Read (p s : List ℕ) : Type 0 where
@@ -56,15 +56,15 @@ zeros-36 : errorProper zeros 0x36 ≡ true
 unfolding errorProper _⇒_else_ zeros known table member some-of detailsBytes same
 zeros-36 = refl
 
-module _ (Q : Reading → Type 0) (p s : List ℕ) where
-  pub reading-cases :
+module _ (Q : Reading → Type 0) (p : List ℕ) where
+  pub objects-cases :
+      (s : List ℕ) →
       ((e : ℕ) → errorProper zeros e ≡ true → Q (wrong zeros e)) →
       ((e : ℕ) → errorProper (detailsRead s) e ≡ true → Q (wrong (detailsRead s) e)) →
       (Read p s → (i : Bool) → Q (asked (commandIn (detailsRead s) (counted s)) i)) →
-      Q (reading p s)
-  unfolding reading
-  reading-cases blank told f =
-      branch Q _ _ _ (λ _. blank 0x32 (error-32 zeros)) (λ _.
+      Q (readObjects p s)
+  unfolding readObjects
+  objects-cases s blank told f =
       branch Q _ _ _ (λ _. blank 0x36 zeros-36) (λ _.
       branch Q _ _ _ (λ _. blank 0x32 (error-32 zeros)) (λ _.
       branch Q _ _ _ (λ _. blank 0x36 zeros-36) (λ _.
@@ -75,7 +75,16 @@ module _ (Q : Reading → Type 0) (p s : List ℕ) where
       branch Q _ _ _ (λ _. told 0x36 (error-36 _ (not-not _ e₁))) (λ e₃.
       branch Q _ _ _ (λ _. told 0x32 (error-32 _)) (λ e₄.
       branch Q _ _ _ (λ _. told 0x32 (error-32 _)) (λ e₅.
-      f (record { kind = not-not _ e₁; allowed = not-not _ e₂; whole = not-not _ e₃; lengths = not-not _ e₄; devices = not-not _ e₅ }) _)))))))))))
+      f (record { kind = not-not _ e₁; allowed = not-not _ e₂; whole = not-not _ e₃; lengths = not-not _ e₄; devices = not-not _ e₅ }) _))))))))))
+
+  pub reading-cases :
+      (s : List ℕ) →
+      ((e : ℕ) → errorProper zeros e ≡ true → Q (wrong zeros e)) →
+      ((e : ℕ) → errorProper (detailsRead (contents s)) e ≡ true → Q (wrong (detailsRead (contents s)) e)) →
+      (Read p (contents s) → (i : Bool) → Q (asked (commandIn (detailsRead (contents s)) (counted (contents s))) i)) →
+      Q (reading p s)
+  unfolding reading
+  reading-cases s blank told f = branch Q _ _ _ (λ _. blank 0x32 (error-32 zeros)) (λ _. objects-cases (contents s) blank told f)
 
 -- the values of a type, by the type
 module _ (Q : Body → Type 0) (t : ℕ) (os : List Object) where

@@ -14,7 +14,7 @@ use Rattle.rules.specs.declared.Link.{Link}
 use Rattle.rules.specs.declared.Link.the-variants.{NotYet, Established, Dropped}
 use Rattle.rules.specs.Checks.{_⇒_else_, isEmpty, every}
 use Rattle.rules.specs.Words.{channelOf}
-use Rattle.rules.specs.Frames.{Object, lengthBytes, objectBytes, written}
+use Rattle.rules.specs.Frames.{Object, contents, lengthBytes, objectBytes, written}
 use Rattle.rules.specs.Table.{table, rowAmong, rowOf, complete, present, valueOf, bearerFits, lengthFits}
 use Rattle.rules.specs.Profile.{allowsBearer02}
 use Rattle.rules.specs.State.{State, Chan, chan}
@@ -211,7 +211,7 @@ unfolding meantBy
 meant-short a s h =
     reading-cases (λ (r : Reading). length (responseBytes (meantBy a r .response)) ≤ 255) (a .profile) s
     (λ e _. response-short _ (error e) tt) (λ e _. response-short _ (error e) tt)
-    (λ r i. response-short _ _ (own-short a (commandIn (detailsRead s) (counted s)) _ i h (bearer-read (a .profile) s r)))
+    (λ r i. response-short _ _ (own-short a (commandIn (detailsRead (contents s)) (counted (contents s))) _ i h (bearer-read (a .profile) (contents s) r)))
 
 abbrev Fits : ℕ → Answer → Type 0
 Fits k r = Within k (r .outcome)

@@ -14,10 +14,10 @@ use Rattle.rules.specs.declared.DeviceIdentity.{DeviceIdentity}
 use Rattle.rules.specs.declared.Ending.{Ending}
 use Rattle.rules.specs.Checks.{_⇒_else_, isEmpty}
 use Rattle.rules.specs.Words.{identityOf, channelOf}
-use Rattle.rules.specs.Frames.{Object, ObjectRead, faulty, objectAt, onward, walkUpTo, walk, framed, contents}
+use Rattle.rules.specs.Frames.{Object, ObjectRead, faulty, objectAt, onward, walkUpTo, walk}
 use Rattle.rules.specs.Profile.{bit, kept}
 use Rattle.rules.specs.State.{State, Chan, closed, isOpen, chan, withChan, room, arrived, stored, readied}
-use Rattle.rules.specs.Reading.{reading, wrong, zeros}
+use Rattle.rules.specs.Reading.{readObjects, wrong, zeros}
 use Rattle.rules.specs.Own.{Reply, Result, done, problem, sent, capped, sending}
 use Rattle.rules.specs.Command.{Answer, wrote, answered, refusal}
 use Rattle.rules.specs.Radio.{arrival}
@@ -86,25 +86,15 @@ room-told a q n s i x r =
     (λ _ _ e. cc) q n s i
     (λ c _ o _ _ e. rw (open-changed a n c o) (cc))
 
-empty-contents : {s : List ℕ} → s ≡ [] → isEmpty s ≡ true
-unfolding isEmpty
-empty-contents e = ap isEmpty e
-
-some-contents : {s r : List ℕ} {b : ℕ} → s ≡ b ∷ r → isEmpty s ≡ false
-unfolding isEmpty
-some-contents e = ap isEmpty e
-
-faulty-walk : {s r : List ℕ} {b : ℕ} {e : Ending} → s ≡ b ∷ r → objectAt (b ∷ r) ≡ faulty e → isEmpty (walk s .objects) ≡ true
+faulty-walk : (b : ℕ) (r : List ℕ) (e : Ending) → objectAt (b ∷ r) ≡ faulty e → isEmpty (walk (b ∷ r) .objects) ≡ true
 unfolding walk walkUpTo onward isEmpty
-faulty-walk {s} {r} {b} c o =
-    ap (λ (t : List ℕ). isEmpty (walk t .objects)) c ∙ ap (λ (x : ObjectRead). isEmpty (onward (b ∷ r) x (walkUpTo (length r)) .objects)) o
+faulty-walk b r e o = ap (λ (x : ObjectRead). isEmpty (onward (b ∷ r) x (walkUpTo (length r)) .objects)) o
 
--- step 3: no object at all, a first object that is faulty, and one that is whole and no details
-module _ (p s : List ℕ) (f : framed s ≡ true) where
-  pub no-object : contents s ≡ [] → reading p s ≡ wrong zeros 0x36
-  unfolding reading
-  no-object e = skip _ _ _ (ap not f) ∙ stop _ _ _ (empty-contents e)
+-- step 3: no object at all, and a first object that is faulty
+pub no-object : (p : List ℕ) → readObjects p [] ≡ wrong zeros 0x36
+unfolding readObjects isEmpty
+no-object p = stop _ _ _ refl
 
-  pub faulty-object : (b : ℕ) (r : List ℕ) (e : Ending) → contents s ≡ b ∷ r → objectAt (b ∷ r) ≡ faulty e → reading p s ≡ wrong zeros 0x32
-  unfolding reading
-  faulty-object b r e c o = skip _ _ _ (ap not f) ∙ skip _ _ _ (some-contents c) ∙ stop _ _ _ (faulty-walk c o)
+pub faulty-object : (p : List ℕ) (b : ℕ) (r : List ℕ) (e : Ending) → objectAt (b ∷ r) ≡ faulty e → readObjects p (b ∷ r) ≡ wrong zeros 0x32
+unfolding readObjects isEmpty
+faulty-object p b r e o = skip _ _ _ refl ∙ stop _ _ _ (faulty-walk b r e o)

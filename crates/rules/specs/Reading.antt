@@ -129,18 +129,16 @@ pub data Reading : Type 0 where
   wrong : Details → ℕ → Reading
   asked : Command → Bool → Reading
 
--- steps 2 to 8, in the paper's order
-unfoldable pub reading : List ℕ → List ℕ → Reading
-reading p s =
-    let w = walk (contents s) in
+-- steps 3 to 8, in the paper's order, of the bytes s of a command's objects
+unfoldable pub readObjects : List ℕ → List ℕ → Reading
+readObjects p s =
+    let w = walk s in
     let d = detailsIn (valueOf 0x01 (w .objects)) in
     let r = rowOf (d .kind) in
     let o = sift r [] (w .objects) in
     let c = commandIn d (o .counting) in
-    -- 2
-    not (framed s) ⇒ wrong zeros 0x32 else
     -- 3
-    isEmpty (contents s) ⇒ wrong zeros 0x36 else
+    isEmpty s ⇒ wrong zeros 0x36 else
     isEmpty (w .objects) ⇒ wrong zeros 0x32 else
     not (startsWithDetails (w .objects)) ⇒ wrong zeros 0x36 else
     -- 4
@@ -156,3 +154,9 @@ reading p s =
     -- 8
     not (addressed (d .kind) (c .source) (c .destination)) ⇒ wrong d 0x32 else
     asked c (not (isEmpty (o .unexpected)))
+
+-- step 2, and then the objects
+unfoldable pub reading : List ℕ → List ℕ → Reading
+reading p s =
+    not (framed s) ⇒ wrong zeros 0x32 else
+    readObjects p (contents s)
