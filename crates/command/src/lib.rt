@@ -1,10 +1,14 @@
 // From the bytes of a command to what is asked: the type's plan, the profile, and steps 2 to 8.
+use objects::Cursor;
+use objects::Found;
 ghost use mathlib.Core.Path.{_≡_};
 ghost use Prim.Native.Nat.{_+_, _-_, _^_, _≤_};
 ghost use lib.ListN.{length};
 ghost use Rattle.rules.specs.Profile.{bit};
-ghost use Rattle.rules.specs.Table.{times, rowOf};
+ghost use Rattle.rules.specs.Table.{times, rowOf, bearerFits, lengthFits};
+ghost use Rattle.octets.specs.Parts.{part};
 ghost use Rattle.command.specs.Plans.{handlerKind, Plans};
+ghost use Rattle.command.specs.Surveys.{noted, Surveyed};
 
 // What is done for a type.
 pub enum Handler {
@@ -155,5 +159,90 @@ fn usual(number: u8) -> u8
     match number {
         0x05 | 0x1E => 1,
         _ => always(number),
+    }
+}
+
+// Whether a bearer, object 35, has the length of its type.
+fn bearer_fits(s: &[u8], start: usize, len: usize) -> bool
+    requires { ⌜ start + len ≤ length (now s) ⌝ }
+    ensures { λ r. ⌜ r ≡ bearerFits (part start (start + len) (now (s .entry))) ⌝ }
+{
+    if len == 0 {
+        return false;
+    }
+    let kind = s[start];
+    match kind {
+        0x02 => len == 7,
+        0x03 => len == 1,
+        _ => true,
+    }
+}
+
+// Whether the value of an object has the length of its number.
+pub fn fits(number: u8, s: &[u8], start: usize, len: usize) -> bool
+    requires { ⌜ start + len ≤ length (now s) ⌝ }
+    ensures { λ r. ⌜ r ≡ lengthFits number (part start (start + len) (now (s .entry))) ⌝ }
+{
+    match number {
+        0x01 | 0x3C => len == 3,
+        0x02 | 0x04 | 0x1E | 0x39 => len == 2,
+        0x37 => len == 1,
+        0x35 => bearer_fits(s, start, len),
+        _ => true,
+    }
+}
+
+// What a survey of the objects found: a flagged unexpected one, any unexpected one, one that counts and has a wrong length.
+pub struct Survey {
+    pub flagged: bool,
+    pub ignored: bool,
+    pub misfit: bool,
+}
+
+impl Survey {
+    // One object more: whether it counts, whether it has its length, and whether it is flagged.
+    fn note(self, counts: bool, fit: bool, flag: bool) -> Survey
+        ensures { λ r. ⌜ r ≡ noted self counts fit flag ⌝ }
+    {
+        if counts {
+            return Survey {
+                flagged: self.flagged,
+                ignored: self.ignored,
+                misfit: self.misfit || !fit,
+            };
+        }
+        Survey {
+            flagged: self.flagged || flag,
+            ignored: true,
+            misfit: self.misfit,
+        }
+    }
+}
+
+// Goes through the objects of a command whose type has this handler.
+pub fn go_through(s: &[u8], handler: Handler) -> Survey
+    requires { ⌜ length (now s) ≤ 256 ⌝ }
+    ensures { λ r. ⌜ Surveyed r (now (s .entry)) handler ⌝ }
+{
+    let mut counts = [0u8; 128];
+    let mut found = Survey {
+        flagged: false,
+        ignored: false,
+        misfit: false,
+    };
+    let mut c = Cursor { at: 0 };
+    loop {
+        match c.object(s) {
+            Found::Object(tag, start, len, next) => {
+                let number = tag % 128;
+                let k = number as usize;
+                let seen = counts[k];
+                counts[k] = seen + 1;
+                let counted = seen < times(handler, number);
+                found = found.note(counted, fits(number, s, start, len), 127 < tag);
+                c = next;
+            }
+            Found::Fault(_) => break found,
+        }
     }
 }
