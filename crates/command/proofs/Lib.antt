@@ -1,3 +1,4 @@
 pub mod Tables
 pub mod Sifting
 pub mod Lengths
+pub mod Framing

@@ -1,6 +1,10 @@
 // From the bytes of a command to what is asked: the type's plan, the profile, and steps 2 to 8.
 use objects::Cursor;
 use objects::Found;
+use objects::Sized;
+use objects::length_at;
+use rules::Details;
+use rules::DeviceIdentity;
 ghost use mathlib.Core.Path.{_≡_};
 ghost use Prim.Native.Nat.{_+_, _-_, _^_, _≤_};
 ghost use lib.ListN.{length};
@@ -9,6 +13,7 @@ ghost use Rattle.rules.specs.Table.{times, rowOf, bearerFits, lengthFits};
 ghost use Rattle.octets.specs.Parts.{part};
 ghost use Rattle.command.specs.Plans.{handlerKind, Plans};
 ghost use Rattle.command.specs.Surveys.{noted, Surveyed};
+ghost use Rattle.command.specs.Requests.{Frames, ownNumber};
 
 // What is done for a type.
 pub enum Handler {
@@ -244,5 +249,66 @@ pub fn go_through(s: &[u8], handler: Handler) -> Survey
             }
             Found::Fault(_) => break found,
         }
+    }
+}
+
+// Where a command's objects start, or that its outer frame is wrong.
+pub enum Framed {
+    At(usize),
+    Not,
+}
+
+// The outer frame: D0, a length, and exactly that many bytes.
+pub fn frame_start(s: &[u8]) -> Framed
+    ensures { λ r. ⌜ Frames r (now (s .entry)) ⌝ }
+{
+    if s.len() == 0 {
+        return Framed::Not;
+    }
+    let first = s[0];
+    if first != 0xD0 {
+        return Framed::Not;
+    }
+    match length_at(s, 1) {
+        Sized::By(len, start) => {
+            if s.len() - start == len {
+                return Framed::At(start);
+            }
+            Framed::Not
+        }
+        Sized::Not => Framed::Not,
+    }
+}
+
+// What is asked: the details, the handler, where it goes, whether an object was ignored; the place of the type's own value; and for OPEN the size and whether its transport level, if it stands, is TCP.
+pub struct Request {
+    pub details: Details,
+    pub handler: Handler,
+    pub destination: DeviceIdentity,
+    pub ignored: bool,
+    pub start: usize,
+    pub len: usize,
+    pub size: u16,
+    pub tcp: bool,
+}
+
+// The reading of a command's objects: an error with its details, or what is asked.
+pub enum Read {
+    Wrong(Details, u8),
+    Asked(Request),
+}
+
+// The object that a type requires besides 01 and 02; 02 again where there is none.
+fn value_number(handler: Handler) -> u8
+    ensures { λ r. ⌜ r ≡ ownNumber handler ⌝ }
+{
+    match handler {
+        Handler::MoreTime => 0x02,
+        Handler::EventList => 0x19,
+        Handler::Open => 0x35,
+        Handler::Close => 0x02,
+        Handler::Receive => 0x37,
+        Handler::Send => 0x36,
+        Handler::Status => 0x02,
     }
 }

@@ -1,0 +1,76 @@
+-- What a reading hands on: an error with its details, or what is asked, with places in the bytes of the objects.
+use Prim.Native.Nat.{ℕ, _+_, _≤_}
+use mathlib.Core.Path.{_≡_}
+use mathlib.Core.Bool.{Bool, true, false}
+use mathlib.Core.List.{List, []}
+use mathlib.Core.Option.{Option}
+use lib.ListN.{length, drop, getD}
+use Rattle.rules.specs.declared.Details.{Details}
+use Rattle.rules.specs.Frames.{framed, contents, walk}
+use Rattle.rules.specs.Table.{rowOf, sift, valueOf, bearerFits}
+use Rattle.rules.specs.Reading.{Reading, wrong, asked, Command, Body, Transport, moreTime, eventList, openChannel, closeChannel, receiveData, sendData, channelStatus, bearerIn, detailsIn, commandIn, addressed, readObjects}
+use Rattle.rules.specs.Own.{isTcp}
+use Rattle.octets.specs.Parts.{part}
+use Rattle.command.specs.declared.Framed.{Framed}
+use Rattle.command.specs.declared.Framed.the-variants.{At, Not}
+use Rattle.command.specs.declared.Handler.{Handler}
+use Rattle.command.specs.declared.Handler.the-variants.{MoreTime, EventList, Open, Close, Receive, Send, Status}
+use Rattle.command.specs.declared.Request.{Request}
+use Rattle.command.specs.declared.Read.{Read}
+use Rattle.command.specs.declared.Read.the-variants.{Wrong, Asked}
+use Rattle.command.specs.Plans.{handlerKind}
+
+-- the frame is right, and the objects start there
+pub record FramedAt (s : List ℕ) (start : ℕ) : Type 0 where
+  pub is : framed s ≡ true
+  pub objects : contents s ≡ drop start s
+  pub within : start ≤ length s
+
+abbrev pub Frames : Framed → List ℕ → Type 0
+Frames (At start) s = FramedAt s start
+Frames Not s = framed s ≡ false
+
+-- the required object that carries a type's own value; 02 where there is none
+abbrev pub ownNumber : Handler → ℕ
+ownNumber MoreTime = 0x02
+ownNumber EventList = 0x19
+ownNumber Open = 0x35
+ownNumber Close = 0x02
+ownNumber Receive = 0x37
+ownNumber Send = 0x36
+ownNumber Status = 0x02
+
+-- the details and the command of the bytes of a command's objects
+abbrev pub theDetails : List ℕ → Details
+theDetails s = detailsIn (valueOf 0x01 (walk s .objects))
+
+abbrev pub theCommand : List ℕ → Command
+theCommand s = commandIn (theDetails s) (sift (rowOf (theDetails s .kind)) [] (walk s .objects) .counting)
+
+-- the values of a request stand in the bytes, at its places
+abbrev pub own : Request → List ℕ → List ℕ
+own q s = part (q .start) (q .start + q .len) s
+
+abbrev pub BodyIs : Handler → Request → List ℕ → Body → Type 0
+BodyIs MoreTime q s b = b ≡ moreTime
+BodyIs EventList q s b = b ≡ eventList (own q s)
+BodyIs Open q s b =
+    (t : Option Transport) × (b ≡ openChannel (bearerIn (own q s)) (q .size) t) × (isTcp t ≡ q .tcp) × (bearerFits (own q s) ≡ true)
+BodyIs Close q s b = b ≡ closeChannel
+BodyIs Receive q s b = (b ≡ receiveData (getD s (q .start) 0)) × (q .len ≡ 1)
+BodyIs Send q s b = b ≡ sendData (own q s)
+BodyIs Status q s b = b ≡ channelStatus
+
+-- a request is what the bytes ask
+pub record AskedFor (q : Request) (p s : List ℕ) : Type 0 where
+  pub is : readObjects p s ≡ asked (theCommand s) (q .ignored)
+  pub details : theDetails s ≡ q .details
+  pub kind : q .details .kind ≡ handlerKind (q .handler)
+  pub destination : theCommand s .destination ≡ q .destination
+  pub devices : addressed (theDetails s .kind) (theCommand s .source) (theCommand s .destination) ≡ true
+  pub body : BodyIs (q .handler) q s (theCommand s .body)
+  pub within : q .start + q .len ≤ length s
+
+abbrev pub Reads : Read → List ℕ → List ℕ → Type 0
+Reads (Wrong d e) p s = readObjects p s ≡ wrong d e
+Reads (Asked q) p s = AskedFor q p s
