@@ -87,19 +87,19 @@ pub record Seeks (s : List ℕ) (number at : ℕ) : Type 0 where
 pub seeks-start : (s : List ℕ) (number : ℕ) → Seeks s number 0
 seeks-start s number = record { within = omega arith; there = refl; value = refl }
 
-present-first : (n : ℕ) (o : Object) (os : List Object) → n ≡ o .number → present n (o ∷ os) ≡ true
+pub present-first : (n : ℕ) (o : Object) (os : List Object) → n ≡ o .number → present n (o ∷ os) ≡ true
 unfolding present member some-of
 present-first n o os e = ap (λ (b : Bool). b || present n os) (eq-eqb n (o .number) e)
 
-present-later : (n : ℕ) (o : Object) (os : List Object) → (n ≡ o .number → ⊥) → present n (o ∷ os) ≡ present n os
+pub present-later : (n : ℕ) (o : Object) (os : List Object) → (n ≡ o .number → ⊥) → present n (o ∷ os) ≡ present n os
 unfolding present member some-of
 present-later n o os e = ap (λ (b : Bool). b || present n os) (ne-eqb n (o .number) e)
 
-value-first : (n : ℕ) (o : Object) (os : List Object) → n ≡ o .number → valueOf n (o ∷ os) ≡ o .value
+pub value-first : (n : ℕ) (o : Object) (os : List Object) → n ≡ o .number → valueOf n (o ∷ os) ≡ o .value
 unfolding valueOf
 value-first n o os e = stop _ _ _ (eq-eqb n (o .number) e)
 
-value-later : (n : ℕ) (o : Object) (os : List Object) → (n ≡ o .number → ⊥) → valueOf n (o ∷ os) ≡ valueOf n os
+pub value-later : (n : ℕ) (o : Object) (os : List Object) → (n ≡ o .number → ⊥) → valueOf n (o ∷ os) ≡ valueOf n os
 unfolding valueOf
 value-later n o os e = skip _ _ _ (ne-eqb n (o .number) e)
 
