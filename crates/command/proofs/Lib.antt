@@ -5,3 +5,4 @@ pub mod Framing
 pub mod Counting
 pub mod Steps
 pub mod Required
+pub mod Known

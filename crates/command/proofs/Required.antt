@@ -13,18 +13,8 @@ use Rattle.rules.specs.Checks.{occurrences}
 use Rattle.command.specs.declared.Handler.{Handler}
 use Rattle.command.specs.declared.Handler.the-variants.{MoreTime, EventList, Open, Close, Receive, Send, Status}
 use Rattle.command.specs.Plans.{handlerKind}
-use Rattle.command.specs.Requests.{ownNumber}
+use Rattle.command.specs.Requests.{ownNumber, lastNumber}
 use Rattle.command.proofs.Counting.{Alike, alike}
-
--- the further object that a type requires; 02 again where there is none
-abbrev pub lastNumber : Handler → ℕ
-lastNumber MoreTime = 0x02
-lastNumber EventList = 0x02
-lastNumber Open = 0x39
-lastNumber Close = 0x02
-lastNumber Receive = 0x02
-lastNumber Send = 0x02
-lastNumber Status = 0x02
 
 -- 01, 02, the type's own object and its further one may stand
 pub may-01 : (h : Handler) → 1 ≤ times (rowOf (handlerKind h)) 0x01

@@ -40,6 +40,16 @@ ownNumber Receive = 0x37
 ownNumber Send = 0x36
 ownNumber Status = 0x02
 
+-- the further object that a type requires; 02 again where there is none
+abbrev pub lastNumber : Handler → ℕ
+lastNumber MoreTime = 0x02
+lastNumber EventList = 0x02
+lastNumber Open = 0x39
+lastNumber Close = 0x02
+lastNumber Receive = 0x02
+lastNumber Send = 0x02
+lastNumber Status = 0x02
+
 -- the details and the command of the bytes of a command's objects
 abbrev pub theDetails : List ℕ → Details
 theDetails s = detailsIn (valueOf 0x01 (walk s .objects))
@@ -74,3 +84,9 @@ pub record AskedFor (q : Request) (p s : List ℕ) : Type 0 where
 abbrev pub Reads : Read → List ℕ → List ℕ → Type 0
 Reads (Wrong d e) p s = readObjects p s ≡ wrong d e
 Reads (Asked q) p s = AskedFor q p s
+
+-- a command whose details are d and whose type has the handler h
+pub record Begun (s : List ℕ) (d : Details) (h : Handler) : Type 0 where
+  pub details : theDetails s ≡ d
+  pub kind : d .kind ≡ handlerKind h
+  pub small : length s ≤ 256
