@@ -25,8 +25,8 @@ use Rattle.command.specs.declared.Handler.{Handler}
 use Rattle.command.specs.declared.Survey.{Survey}
 use Rattle.command.specs.Plans.{handlerKind}
 use Rattle.command.specs.Surveys.{sifted, Surveyed}
-use Rattle.command.specs.Requests.{theDetails, theCommand, ownNumber, lastNumber, Begun}
-use Rattle.command.proofs.Steps.{sorted, Typed, read-flagged, read-incomplete, read-misfit, read-misaddressed, read-asked}
+use Rattle.command.specs.Requests.{theDetails, theCommand, ownNumber, lastNumber, Begun, Began, Typed}
+use Rattle.command.proofs.Steps.{sorted, read-flagged, read-incomplete, read-misfit, read-misaddressed, read-asked}
 use Rattle.command.proofs.Counting.{Alike}
 use Rattle.command.proofs.Lengths.{part-size, part-first}
 use Rattle.command.proofs.Required.{may-01, may-02, may-own, may-last, complete-yes, complete-02, complete-own, complete-last, alike-of}

@@ -6,3 +6,5 @@ pub mod Counting
 pub mod Steps
 pub mod Required
 pub mod Known
+pub mod Settling
+pub mod Opening

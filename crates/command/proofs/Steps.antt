@@ -10,24 +10,11 @@ use Rattle.rules.specs.Table.{known, rowOf, Sifted, sift, complete, measured}
 use Rattle.rules.specs.Profile.{allowsType}
 use Rattle.rules.specs.Reading.{Reading, wrong, asked, zeros, startsWithDetails, isFault, addressed, readObjects}
 use Rattle.rules.proofs.Laws.{stop, skip}
-use Rattle.command.specs.Requests.{theDetails, theCommand}
+use Rattle.command.specs.Requests.{theDetails, theCommand, Began, Typed}
 
 -- the sifted objects of a command
 abbrev pub sorted : List ℕ → Sifted
 sorted s = sift (rowOf (theDetails s .kind)) [] (walk s .objects)
-
--- step 3 is passed
-pub record Began (s : List ℕ) : Type 0 where
-  pub bytes : isEmpty s ≡ false
-  pub objects : isEmpty (walk s .objects) ≡ false
-  pub details : startsWithDetails (walk s .objects) ≡ true
-
--- steps 3 to 5 are passed
-pub record Typed (p s : List ℕ) : Type 0 where
-  pub began : Began s
-  pub whole : isFault (walk s .ending) ≡ false
-  pub kind : known (theDetails s .kind) ≡ true
-  pub allowed : allowsType p (theDetails s .kind) ≡ true
 
 module _ (p s : List ℕ) where
   pub read-none : isEmpty s ≡ true → readObjects p s ≡ wrong zeros 0x36

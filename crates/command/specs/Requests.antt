@@ -1,16 +1,20 @@
 -- What a reading hands on: an error with its details, or what is asked, with places in the bytes of the objects.
-use Prim.Native.Nat.{ℕ, _+_, _≤_}
+use Prim.Native.Nat.{ℕ, _+_, _*_, _≤_}
 use mathlib.Core.Path.{_≡_}
 use mathlib.Core.Bool.{Bool, true, false}
 use mathlib.Core.List.{List, []}
 use mathlib.Core.Option.{Option}
 use lib.ListN.{length, drop, getD}
 use Rattle.rules.specs.declared.Details.{Details}
+use Rattle.rules.specs.Checks.{isEmpty}
 use Rattle.rules.specs.Frames.{framed, contents, walk}
-use Rattle.rules.specs.Table.{rowOf, sift, valueOf, bearerFits}
-use Rattle.rules.specs.Reading.{Reading, wrong, asked, Command, Body, Transport, moreTime, eventList, openChannel, closeChannel, receiveData, sendData, channelStatus, bearerIn, detailsIn, commandIn, addressed, readObjects}
+use lib.Dec.{eqb}
+use Rattle.rules.specs.Profile.{allowsType}
+use Rattle.rules.specs.Table.{known, rowOf, sift, present, valueOf, bearerFits}
+use Rattle.rules.specs.Reading.{Reading, wrong, asked, Command, Body, Transport, moreTime, eventList, openChannel, closeChannel, receiveData, sendData, channelStatus, bearerIn, detailsIn, commandIn, startsWithDetails, isFault, addressed, readObjects}
 use Rattle.rules.specs.Own.{isTcp}
 use Rattle.octets.specs.Parts.{part}
+use Rattle.objects.specs.Places.{First}
 use Rattle.command.specs.declared.Framed.{Framed}
 use Rattle.command.specs.declared.Framed.the-variants.{At, Not}
 use Rattle.command.specs.declared.Handler.{Handler}
@@ -18,7 +22,10 @@ use Rattle.command.specs.declared.Handler.the-variants.{MoreTime, EventL
 use Rattle.command.specs.declared.Request.{Request}
 use Rattle.command.specs.declared.Read.{Read}
 use Rattle.command.specs.declared.Read.the-variants.{Wrong, Asked}
+use Rattle.command.specs.declared.Span.{Span}
+use Rattle.command.specs.declared.Survey.{Survey}
 use Rattle.command.specs.Plans.{handlerKind}
+use Rattle.command.specs.Surveys.{Surveyed}
 
 -- the frame is right, and the objects start there
 pub record FramedAt (s : List ℕ) (start : ℕ) : Type 0 where
@@ -61,11 +68,17 @@ theCommand s = commandIn (theDetails s) (sift (rowOf (theDetails s .kind)) [] (w
 abbrev pub own : Request → List ℕ → List ℕ
 own q s = part (q .start) (q .start + q .len) s
 
+-- a transport level is TCP by the first byte of 3C, where one stands
+pub record TcpBy (s : List ℕ) (t : Option Transport) : Type 0 where
+  pub absent : present 0x3C (walk s .objects) ≡ false → isTcp t ≡ true
+  pub stands : (at n : ℕ) → First s 0x3C at n → (isTcp t ≡ eqb (getD s at 0) 0x02) × (1 ≤ n)
+
 abbrev pub BodyIs : Handler → Request → List ℕ → Body → Type 0
 BodyIs MoreTime q s b = b ≡ moreTime
 BodyIs EventList q s b = b ≡ eventList (own q s)
 BodyIs Open q s b =
-    (t : Option Transport) × (b ≡ openChannel (bearerIn (own q s)) (q .size) t) × (isTcp t ≡ q .tcp) × (bearerFits (own q s) ≡ true)
+    (t : Option Transport) × (b ≡ openChannel (bearerIn (own q s)) (256 * getD s (q .last) 0 + getD s (q .last + 1) 0) t) ×
+    (bearerFits (own q s) ≡ true) × (q .last + 2 ≤ length s) × TcpBy s t
 BodyIs Close q s b = b ≡ closeChannel
 BodyIs Receive q s b = (b ≡ receiveData (getD s (q .start) 0)) × (q .len ≡ 1)
 BodyIs Send q s b = b ≡ sendData (own q s)
@@ -89,4 +102,43 @@ Reads (Asked q) p s = AskedFor q p s
 pub record Begun (s : List ℕ) (d : Details) (h : Handler) : Type 0 where
   pub details : theDetails s ≡ d
   pub kind : d .kind ≡ handlerKind h
+  pub small : length s ≤ 256
+
+-- a survey that found nothing flagged, and the devices at their place
+pub record Named (s : List ℕ) (d : Details) (h : Handler) (v : Survey) (devices : Span) : Type 0 where
+  pub begun : Begun s d h
+  pub surveyed : Surveyed v s h
+  pub unflagged : v .flagged ≡ false
+  pub first-02 : First s 0x02 (devices .at) (devices .len)
+
+-- the three objects that settle a reading stand at these places
+pub record Settled (s : List ℕ) (d : Details) (h : Handler) (v : Survey) (devices own last : Span) : Type 0 where
+  pub begun : Begun s d h
+  pub surveyed : Surveyed v s h
+  pub unflagged : v .flagged ≡ false
+  pub first-02 : First s 0x02 (devices .at) (devices .len)
+  pub first-own : First s (ownNumber h) (own .at) (own .len)
+  pub first-last : First s (lastNumber h) (last .at) (last .len)
+
+-- step 3 is passed
+pub record Began (s : List ℕ) : Type 0 where
+  pub bytes : isEmpty s ≡ false
+  pub objects : isEmpty (walk s .objects) ≡ false
+  pub details : startsWithDetails (walk s .objects) ≡ true
+
+-- steps 3 to 5 are passed
+pub record Typed (p s : List ℕ) : Type 0 where
+  pub began : Began s
+  pub whole : isFault (walk s .ending) ≡ false
+  pub kind : known (theDetails s .kind) ≡ true
+  pub allowed : allowsType p (theDetails s .kind) ≡ true
+
+-- step 8, with the type's handler and two bytes
+abbrev pub addressedBy : Handler → ℕ → ℕ → Bool
+addressedBy h from to = addressed (handlerKind h) (record { 0 = from }) (record { 0 = to })
+
+-- step 3 is passed, with these details
+pub record Detailed (s : List ℕ) (d : Details) : Type 0 where
+  pub began : Began s
+  pub details : theDetails s ≡ d
   pub small : length s ≤ 256

@@ -2,18 +2,28 @@
 use objects::Cursor;
 use objects::Found;
 use objects::Sized;
+use objects::Where;
+use objects::find;
 use objects::length_at;
+use objects::walk;
 use rules::Details;
 use rules::DeviceIdentity;
+use rules::Ending;
 ghost use mathlib.Core.Path.{_≡_};
-ghost use Prim.Native.Nat.{_+_, _-_, _^_, _≤_};
+ghost use Prim.Native.Nat.{ℕ, _+_, _-_, _^_, _≤_};
 ghost use lib.ListN.{length};
+ghost use lib.Dec.{leb};
+ghost use mathlib.Core.Bool.{_&&_};
+ghost use mathlib.Core.List.{List};
 ghost use Rattle.rules.specs.Profile.{bit};
 ghost use Rattle.rules.specs.Table.{times, rowOf, bearerFits, lengthFits};
 ghost use Rattle.octets.specs.Parts.{part};
 ghost use Rattle.command.specs.Plans.{handlerKind, Plans};
 ghost use Rattle.command.specs.Surveys.{noted, Surveyed};
-ghost use Rattle.command.specs.Requests.{Frames, ownNumber};
+ghost use Rattle.command.specs.Requests.{Frames, ownNumber, lastNumber, addressedBy, Settled, Named, Detailed, Typed, Begun, Reads};
+ghost use mathlib.Core.Bool.{false};
+ghost use Rattle.rules.specs.Frames.{walk};
+ghost use Rattle.rules.specs.Reading.{isFault};
 
 // What is done for a type.
 pub enum Handler {
@@ -280,7 +290,13 @@ pub fn frame_start(s: &[u8]) -> Framed
     }
 }
 
-// What is asked: the details, the handler, where it goes, whether an object was ignored; the place of the type's own value; and for OPEN the size and whether its transport level, if it stands, is TCP.
+// Where a value stands, and how long it is.
+pub struct Span {
+    pub at: usize,
+    pub len: usize,
+}
+
+// What is asked: the details, the handler, where it goes, whether an object was ignored, and the places of the type's own value and of OPEN's size.
 pub struct Request {
     pub details: Details,
     pub handler: Handler,
@@ -288,8 +304,7 @@ pub struct Request {
     pub ignored: bool,
     pub start: usize,
     pub len: usize,
-    pub size: u16,
-    pub tcp: bool,
+    pub last: usize,
 }
 
 // The reading of a command's objects: an error with its details, or what is asked.
@@ -310,5 +325,180 @@ fn value_number(handler: Handler) -> u8
         Handler::Receive => 0x37,
         Handler::Send => 0x36,
         Handler::Status => 0x02,
+    }
+}
+
+// The further object that a type requires; 02 again where there is none.
+fn last_number(handler: Handler) -> u8
+    ensures { λ r. ⌜ r ≡ lastNumber handler ⌝ }
+{
+    match handler {
+        Handler::MoreTime => 0x02,
+        Handler::EventList => 0x02,
+        Handler::Open => 0x39,
+        Handler::Close => 0x02,
+        Handler::Receive => 0x02,
+        Handler::Send => 0x02,
+        Handler::Status => 0x02,
+    }
+}
+
+// Whether a device is a channel, 21 to 27.
+fn is_channel(to: u8) -> bool
+    ensures { λ r. ⌜ r ≡ leb 33 to && leb to 39 ⌝ }
+{
+    if to < 0x21 {
+        return false;
+    }
+    to <= 0x27
+}
+
+// Step 8: from the card, to the modem or to a channel.
+fn devices_fit(handler: Handler, from: u8, to: u8) -> bool
+    ensures { λ r. ⌜ r ≡ addressedBy handler from to ⌝ }
+{
+    if from != 0x81 {
+        return false;
+    }
+    match handler {
+        Handler::MoreTime => to == 0x82,
+        Handler::EventList => to == 0x82,
+        Handler::Open => to == 0x82,
+        Handler::Close => is_channel(to),
+        Handler::Receive => is_channel(to),
+        Handler::Send => is_channel(to),
+        Handler::Status => to == 0x82,
+    }
+}
+
+// Steps 7 and 8 once the required objects are found: the lengths, the devices, and what is asked.
+fn settle(
+    s: &[u8],
+    d: Details,
+    handler: Handler,
+    v: Survey,
+    devices: Span,
+    own: Span,
+    last: Span,
+) -> Read
+    requires { ⌜ Settled (now s) d handler v devices own last ⌝ }
+    ensures { λ r. ⌜ ((p : List ℕ) → Typed p (now (s .entry)) → Reads r p (now (s .entry))) ⌝ }
+{
+    if v.misfit {
+        return Read::Wrong(d, 0x32);
+    }
+    let at = devices.at;
+    let from = s[at];
+    let to = s[at + 1];
+    if !devices_fit(handler, from, to) {
+        return Read::Wrong(d, 0x32);
+    }
+    Read::Asked(Request {
+        details: d,
+        handler,
+        destination: DeviceIdentity(to),
+        ignored: v.ignored,
+        start: own.at,
+        len: own.len,
+        last: last.at,
+    })
+}
+
+// Steps 6 to 8 of a command whose type has this handler.
+fn read_known(s: &[u8], d: Details, handler: Handler) -> Read
+    requires { ⌜ Begun (now s) d handler ⌝ }
+    ensures { λ r. ⌜ ((p : List ℕ) → Typed p (now (s .entry)) → Reads r p (now (s .entry))) ⌝ }
+{
+    let v = go_through(s, handler);
+    if v.flagged {
+        return Read::Wrong(d, 0x32);
+    }
+    match find(s, 0x02) {
+        Where::At(at, len) => read_own(s, d, handler, v, Span { at, len }),
+        Where::Nowhere => Read::Wrong(d, 0x36),
+    }
+}
+
+// Steps 7 and 8 once the devices are found.
+fn read_own(s: &[u8], d: Details, handler: Handler, v: Survey, devices: Span) -> Read
+    requires { ⌜ Named (now s) d handler v devices ⌝ }
+    ensures { λ r. ⌜ ((p : List ℕ) → Typed p (now (s .entry)) → Reads r p (now (s .entry))) ⌝ }
+{
+    match find(s, value_number(handler)) {
+        Where::At(at, len) => {
+            let own = Span { at, len };
+            match find(s, last_number(handler)) {
+                Where::At(at, len) => settle(s, d, handler, v, devices, own, Span { at, len }),
+                Where::Nowhere => Read::Wrong(d, 0x36),
+            }
+        }
+        Where::Nowhere => Read::Wrong(d, 0x36),
+    }
+}
+
+// Steps 4 and 5, and those behind them, once the details are known.
+fn read_typed(profile: [u8; 13], s: &[u8], d: Details) -> Read
+    requires { ⌜ Detailed (now s) d ⌝ }
+    ensures { λ r. ⌜ Reads r profile (now (s .entry)) ⌝ }
+{
+    let stop = walk(s);
+    let ending = stop.ending;
+    match ending {
+        Ending::End => read_planned(profile, s, d),
+        Ending::BadTag => Read::Wrong(d, 0x32),
+        Ending::BadLength => Read::Wrong(d, 0x32),
+        Ending::CutValue => Read::Wrong(d, 0x32),
+    }
+}
+
+// Step 5, and those behind it, of a command whose objects are whole.
+fn read_planned(profile: [u8; 13], s: &[u8], d: Details) -> Read
+    requires { ⌜ Detailed (now s) d × (isFault (walk (now s) .ending) ≡ false) ⌝ }
+    ensures { λ r. ⌜ Reads r profile (now (s .entry)) ⌝ }
+{
+    let kind = d.kind;
+    match plan_of(kind) {
+        Planned::Of(plan) => {
+            let place = plan.place;
+            if !allowed(profile, place) {
+                return Read::Wrong(d, 0x30);
+            }
+            let handler = plan.handler;
+            read_known(s, d, handler)
+        }
+        Planned::Unknown => Read::Wrong(d, 0x31),
+    }
+}
+
+// Reads the bytes of a command's objects: steps 3 to 8.
+pub fn read_objects(profile: [u8; 13], s: &[u8]) -> Read
+    requires { ⌜ length (now s) ≤ 256 ⌝ }
+    ensures { λ r. ⌜ Reads r profile (now (s .entry)) ⌝ }
+{
+    let none = Details {
+        number: 0,
+        kind: 0,
+        qualifier: 0,
+    };
+    if s.len() == 0 {
+        return Read::Wrong(none, 0x36);
+    }
+    let c = Cursor { at: 0 };
+    match c.object(s) {
+        Found::Object(tag, start, len, _) => {
+            if tag % 128 != 0x01 {
+                return Read::Wrong(none, 0x36);
+            }
+            if len != 3 {
+                return Read::Wrong(none, 0x36);
+            }
+            let d = Details {
+                number: s[start],
+                kind: s[start + 1],
+                qualifier: s[start + 2],
+            };
+            read_typed(profile, s, d)
+        }
+        Found::Fault(_) => Read::Wrong(none, 0x32),
     }
 }

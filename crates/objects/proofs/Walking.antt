@@ -16,7 +16,8 @@ use Rattle.rules.specs.Table.{present, valueOf}
 use Rattle.rules.proofs.Laws.{stop, skip}
 use Rattle.rules.proofs.Walks.{walk-end, walk-fault, walk-object}
 use Rattle.octets.specs.Parts.{part}
-use Rattle.objects.specs.Places.{Stands, First}
+use Rattle.objects.specs.declared.Where.{Where}
+use Rattle.objects.specs.Places.{Stands, First, Finds}
 use Rattle.objects.proofs.Reading.{cons-at}
 
 -- the object that stands at a place
@@ -130,3 +131,7 @@ module _ (s : List ℕ) (number at : ℕ) (w : Seeks s number at) where
           there = w .there ∙ ap (λ (x : Walk). present number (x .objects)) k ∙ present-later number _ _ (λ q. e (sym q));
           value = w .value ∙ ap (λ (x : Walk). valueOf number (x .objects)) k ∙ value-later number _ _ (λ q. e (sym q));
         }
+
+-- what was found, of a number that is another one's name
+pub found-as : {r x : Where} (s : List ℕ) {k m : ℕ} → r ≡ x → k ≡ m → Finds r s k → Finds x s m
+found-as {r} s {m = m} e q w = subst (λ (y : Where). Finds y s m) e (subst (λ (j : ℕ). Finds r s j) q w)
