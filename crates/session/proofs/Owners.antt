@@ -1,6 +1,6 @@
 -- Each held byte lies in a cell promised to its channel and way, and no cell is promised to two.
 -- Assumes nothing.
-use Prim.Native.Nat.{ℕ, zero, suc, _+_, _-_, _*_, _/_, _≤_, _<_}
+use Prim.Native.Nat.{ℕ, zero, suc, _+_, _-_, _*_, _/_, _≤_, _<_, min}
 use mathlib.Core.Path.{_≡_, refl, sym, ap, _∙_}
 use mathlib.Core.Bool.{Bool, true, false}
 use mathlib.Core.List.{List, [], _∷_}
@@ -12,9 +12,9 @@ use lib.Dec.{ltb, eqb}
 use borrow.Author.Tests.{ltb-true, ltb-false, eqb-true, eqb-false}
 use Rattle.rules.specs.declared.ChannelNumber.{ChannelNumber}
 use Rattle.rules.specs.State.{State, Chan, closed, chan, withChan}
-use Rattle.rules.specs.Pool.{cells, promisedTo, promised, unpromised}
+use Rattle.rules.specs.Pool.{cells, promisedTo, promised, unpromised, grantFor}
 use Rattle.rules.specs.Sound.{Each, SoundChan, Sound}
-use Rattle.rules.proofs.Grants.{promised-set}
+use Rattle.rules.proofs.Grants.{promised-set, grant-whole}
 use Rattle.rules.proofs.Soundness.{chan-sound, start-sound}
 use Rattle.rules.proofs.Told.{chan-other}
 use Rattle.rules.specs.State.{start}
@@ -134,3 +134,11 @@ pub others-keep : (a : State) (n m : ChannelNumber) (c : Chan) (w : Way) → (m 
 unfolding held
 others-keep a n m c receive h = ap (λ (d : Chan). d .recv) (chan-other a n m c h)
 others-keep a n m c send h = ap (λ (d : Chan). d .send) (chan-other a n m c h)
+
+-- so a later opening can have them: it is granted in full what fits the free cells and those of the closed channel together
+pub freed-granted :
+    (a : State) (n : ChannelNumber) (size : ℕ) → Sound a → n .0 - 1 < length (a .chans) →
+    2 * cells (min size 1500) ≤ unpromised a + 2 * cells (chan a n .grant) → grantFor size (unpromised (withChan a n closed)) ≡ min size 1500
+freed-granted a n size h place fit =
+    let e = closing-frees a n h place in
+    grant-whole size (unpromised (withChan a n closed)) (omega arith)
