@@ -30,7 +30,7 @@ use Rattle.rules.proofs.Cases.{Opens, Linked, arrival-cases, taking-cas
 use Rattle.rules.proofs.Readings.{Read, detailsRead, counted, reading-cases, body-cases, value-fits}
 
 -- a length takes at most two bytes, so an object at most three more than its value
-length-bytes : (n : ℕ) → length (lengthBytes n) ≤ 2
+pub length-bytes : (n : ℕ) → length (lengthBytes n) ≤ 2
 unfolding lengthBytes
 length-bytes n = branch (λ (s : List ℕ). length s ≤ 2) _ _ _ (λ _. omega arith) (λ _. omega arith)
 

@@ -1,0 +1,199 @@
+-- Responses put together in a buffer: the head, and what follows it.
+-- Assumes nothing.
+use Prim.Native.Nat.{ℕ, suc, _+_, _-_, _≤_, _<_, _/_, _%_}
+use mathlib.Core.Path.{_≡_, refl, sym, ap, subst, _∙_}
+use mathlib.Core.List.{List, [], _∷_, _++_, append-assoc}
+use native.Mathlib.Omega.{arith}
+use native.Mathlib.Nat.{zero-add}
+use lib.ListN.{length, drop, getD, length-append, length-take, length-drop}
+use Rattle.rules.specs.declared.ChannelNumber.{ChannelNumber}
+use Rattle.rules.specs.declared.Details.{Details}
+use Rattle.rules.specs.declared.Link.{Link}
+use Rattle.rules.specs.declared.Link.the-variants.{NotYet, Established, Dropped}
+use Rattle.rules.specs.Checks.{_⇒_else_}
+use Rattle.rules.specs.Frames.{lengthBytes, objectBytes, written}
+use Rattle.rules.specs.Reading.{Bearer}
+use Rattle.rules.specs.Own.{Further, error, problem, done, opened, received, sent}
+use Rattle.rules.specs.Written.{unflagged, detailsBytes, bearerBytes, pairBytes, statusBytes, statusObject, furtherObjects, resultBytes, resultObjects, responseObjects, responseBytes}
+use Rattle.rules.proofs.Laws.{stop, skip}
+use Rattle.rules.proofs.Sizes.{length-bytes}
+use borrow.Author.Tests.{lt-ltb, le-ltb}
+use Rattle.octets.specs.Parts.{part, pasted}
+use Rattle.octets.proofs.Pastes.{paste-after, length-pasted}
+use Rattle.session.specs.Calls.{overlaid}
+use Rattle.session.proofs.Answers.{front-over}
+use Rattle.responses.specs.Stands.{response, Stands}
+
+-- the head of a response, and that of one with a cause
+pub head-stands :
+    (d : Details) (x : ℕ) (out after : List ℕ) →
+    after ≡ pasted out 0 (0x81 ∷ 0x03 ∷ d .number ∷ d .kind ∷ d .qualifier ∷ 0x82 ∷ 0x02 ∷ 0x82 ∷ 0x81 ∷ 0x83 ∷ 0x01 ∷ x ∷ []) →
+    Stands (response d (error x)) 12 out after
+unfolding responseBytes responseObjects resultBytes resultObjects detailsBytes written objectBytes lengthBytes _⇒_else_
+head-stands d x out after e = record { lent = e ∙ front-over out _; counted = refl }
+
+pub problem-stands :
+    (d : Details) (x : ℕ) (out after : List ℕ) →
+    after ≡ pasted out 0 (0x81 ∷ 0x03 ∷ d .number ∷ d .kind ∷ d .qualifier ∷ 0x82 ∷ 0x02 ∷ 0x82 ∷ 0x81 ∷ 0x83 ∷ 0x02 ∷ 0x3A ∷ x ∷ []) →
+    Stands (response d (problem x)) 13 out after
+unfolding responseBytes responseObjects resultBytes resultObjects detailsBytes written objectBytes lengthBytes _⇒_else_
+problem-stands d x out after e = record { lent = e ∙ front-over out _; counted = refl }
+
+-- the head has twelve bytes
+pub head-size : (d : Details) (x : ℕ) → length (response d (error x)) ≡ 12
+unfolding responseBytes responseObjects resultBytes resultObjects detailsBytes written objectBytes lengthBytes _⇒_else_
+head-size d x = refl
+
+-- what follows a result stands behind its head
+pub behind-head : (d : Details) (x : ℕ) (f : Further) → response d (done x f) ≡ response d (error x) ++ written (furtherObjects f)
+unfolding responseBytes responseObjects resultBytes resultObjects detailsBytes written objectBytes lengthBytes _⇒_else_
+behind-head d x f = refl
+
+-- more bytes, put behind those that stand
+pub more :
+    (t s : List ℕ) (n m : ℕ) (before out after : List ℕ) → Stands t n before out → m ≡ n + length s → m ≤ length before →
+    after ≡ pasted out n s → Stands (t ++ s) m before after
+more t s n m before out after h c w e =
+    let l = h .counted in
+    record {
+      lent =
+          e
+          ∙ ap (λ (x : List ℕ). pasted x n s) (h .lent ∙ sym (front-over before t))
+          ∙ ap (λ (k : ℕ). pasted (pasted before 0 t) k s) (l ∙ sym (zero-add (length t)))
+          ∙ paste-after before 0 t (omega arith) s
+          ∙ front-over before (t ++ s);
+      counted = c ∙ ap (λ (k : ℕ). k + length s) l ∙ sym (length-append t s);
+    }
+
+-- what fits behind them in the buffer as it was still fits
+pub fits-behind :
+    (t : List ℕ) (n k : ℕ) (before out : List ℕ) → Stands t n before out → n + k ≤ length before → n + k ≤ length out
+fits-behind t n k before out h w =
+    let l = h .counted in
+    let e = ap length (h .lent ∙ sym (front-over before t)) ∙ length-pasted before 0 t (omega arith) in
+    omega arith
+
+-- the head has twelve bytes, so many fit behind it
+pub after-head :
+    (d : Details) (x n : ℕ) (before out : List ℕ) (k : ℕ) → Stands (response d (error x)) n before out → 12 + k ≤ length before →
+    n + k ≤ length out
+after-head d x n before out k h w =
+    let z = h .counted ∙ head-size d x in
+    fits-behind (response d (error x)) n k before out h (omega arith)
+
+-- the room behind the head of an answer to SEND DATA
+pub sent-stands :
+    (d : Details) (x room n : ℕ) (before out after : List ℕ) → Stands (response d (error x)) n before out → 15 ≤ length before →
+    after ≡ pasted out n (0x37 ∷ 0x01 ∷ room ∷ []) → Stands (response d (done x (sent room))) (n + 3) before after
+unfolding furtherObjects written objectBytes lengthBytes _⇒_else_
+sent-stands d x room n before out after h w e =
+    let z = h .counted ∙ head-size d x in
+    subst (λ (t : List ℕ). Stands t (n + 3) before after) (sym (behind-head d x (sent room)))
+    (more (response d (error x)) (0x37 ∷ 0x01 ∷ room ∷ []) n (n + 3) before out after h refl (omega arith) e)
+
+-- the two forms of a length
+pub short-length : (n : ℕ) → n < 128 → lengthBytes n ≡ n ∷ []
+unfolding lengthBytes
+short-length n h = stop _ _ _ (lt-ltb n 128 h)
+
+pub long-length : (n : ℕ) → 128 ≤ n → lengthBytes n ≡ 0x81 ∷ n ∷ []
+unfolding lengthBytes
+long-length n h = skip _ _ _ (le-ltb n 128 h)
+
+-- a tag and a length, put at a place
+pub form-put :
+    (out after : List ℕ) (at tag n k : ℕ) (l : List ℕ) → lengthBytes n ≡ l → after ≡ pasted out at (tag ∷ l) → k ≡ at + length (tag ∷ l) →
+    (after ≡ pasted out at (tag ∷ lengthBytes n)) × (k ≡ at + length (tag ∷ lengthBytes n))
+form-put out after at tag n k l e p c =
+    (p ∙ ap (λ (x : List ℕ). pasted out at (tag ∷ x)) (sym e), c ∙ ap (λ (x : List ℕ). at + length (tag ∷ x)) (sym e))
+
+-- three pieces behind a head: a up to m, then s of k bytes, then z
+module _ (d : Details) (x n m k : ℕ) (a s z before out after : List ℕ) (h : Stands (response d (error x)) n before out) (y : length s ≡ k)
+    (w : 12 + length a + k + length z ≤ length before) (c : m ≡ n + length a) (e : after ≡ pasted out n a) where
+  pub first-end : m ≡ 12 + length a
+  first-end = c ∙ ap (λ (j : ℕ). j + length a) (h .counted ∙ head-size d x)
+
+  first-stands : Stands (response d (error x) ++ a) m before after
+  first-stands = let i = first-end in more (response d (error x)) a n m before out after h c (omega arith) e
+
+  pub second-fits : m + k ≤ length after
+  second-fits = let i = first-end in fits-behind (response d (error x) ++ a) m k before after first-stands (omega arith)
+
+  module _ (filled : List ℕ) (f : filled ≡ pasted after m s) where
+    second-stands : Stands ((response d (error x) ++ a) ++ s) (m + k) before filled
+    second-stands =
+        let i = first-end in
+        more (response d (error x) ++ a) s m (m + k) before after filled first-stands (ap (λ (j : ℕ). m + j) (sym y)) (omega arith) f
+
+    pub third-fits : m + k + length z ≤ length filled
+    third-fits =
+        let i = first-end in
+        fits-behind ((response d (error x) ++ a) ++ s) (m + k) (length z) before filled second-stands (omega arith)
+
+    pub three-stand :
+        (last t : List ℕ) → last ≡ pasted filled (m + k) z → t ≡ response d (error x) ++ (a ++ (s ++ z)) →
+        Stands t (m + k + length z) before last
+    three-stand last t g b =
+        let i = first-end in
+        subst (λ (l : List ℕ). Stands l (m + k + length z) before last)
+        (append-assoc (response d (error x) ++ a) s z ∙ append-assoc (response d (error x)) a (s ++ z) ∙ sym b)
+        (more ((response d (error x) ++ a) ++ s) z (m + k) (m + k + length z) before filled last second-stands refl (omega arith) g)
+
+-- the pieces of an answer to RECEIVE DATA
+pub received-pieces :
+    (d : Details) (x left k : ℕ) (s : List ℕ) → length s ≡ k →
+    response d (done x (received s left)) ≡ response d (error x) ++ ((0x36 ∷ lengthBytes k) ++ (s ++ (0x37 ∷ 0x01 ∷ left ∷ [])))
+unfolding furtherObjects written objectBytes lengthBytes _⇒_else_
+received-pieces d x left k s y =
+    behind-head d x (received s left)
+    ∙ ap (λ (l : List ℕ). response d (error x) ++ (0x36 ∷ l))
+    (append-assoc (lengthBytes (length s)) s (0x37 ∷ 0x01 ∷ left ∷ [])
+    ∙ ap (λ (j : ℕ). lengthBytes j ++ (s ++ (0x37 ∷ 0x01 ∷ left ∷ []))) y)
+
+pub received-size : (k b : ℕ) → 18 + k ≤ b → 12 + length (0x36 ∷ lengthBytes k) + k + 3 ≤ b
+received-size k b w = let l = length-bytes k in let e : length (0x36 ∷ lengthBytes k) ≡ suc (length (lengthBytes k)) = refl in omega arith
+
+-- those of an answer to OPEN CHANNEL
+opened-by :
+    (d : Details) (x g : ℕ) (n : ChannelNumber) (l : Link) (b : Bearer) →
+    response d (done x (opened (record { number = n; link = l }) b g)) ≡
+    response d (error x) ++
+    (0x38 ∷
+    0x02 ∷
+    getD (statusBytes n l) 0 0 ∷
+    getD (statusBytes n l) 1 0 ∷
+    0x35 ∷
+    ((lengthBytes (length (bearerBytes b)) ++ bearerBytes b) ++ (0x39 ∷ 0x02 ∷ (g / 256) ∷ (g % 256) ∷ [])))
+unfolding furtherObjects statusObject statusBytes pairBytes written objectBytes lengthBytes _⇒_else_
+opened-by d x g n NotYet b = behind-head d x (opened (record { number = n; link = NotYet }) b g)
+opened-by d x g n Established b = behind-head d x (opened (record { number = n; link = Established }) b g)
+opened-by d x g n Dropped b = behind-head d x (opened (record { number = n; link = Dropped }) b g)
+
+short-value : (s : List ℕ) → length s < 128 → lengthBytes (length s) ++ s ≡ length s ∷ s
+short-value s w = ap (λ (l : List ℕ). l ++ s) (short-length (length s) w)
+
+pub opened-size : (k b : ℕ) → 22 + k ≤ b → 18 + k + 4 ≤ b
+opened-size k b w = omega arith
+
+pub opened-pieces :
+    (d : Details) (x g : ℕ) (n : ChannelNumber) (l : Link) (b : Bearer) (s pair : List ℕ) → bearerBytes b ≡ s → length s < 128 →
+    pair ≡ statusBytes n l →
+    response d (done x (opened (record { number = n; link = l }) b g)) ≡
+    response d (error x) ++
+    ((0x38 ∷ 0x02 ∷ getD pair 0 0 ∷ getD pair 1 0 ∷ 0x35 ∷ length s ∷ []) ++ (s ++ (0x39 ∷ 0x02 ∷ (g / 256) ∷ (g % 256) ∷ [])))
+opened-pieces d x g n l b s pair e w p =
+    opened-by d x g n l b
+    ∙ ap (λ (q : List ℕ). told q (lengthBytes (length (bearerBytes b)) ++ bearerBytes b)) (sym p)
+    ∙ ap (told pair) (ap (λ (v : List ℕ). lengthBytes (length v) ++ v) e ∙ short-value s w)
+  where
+    told : List ℕ → List ℕ → List ℕ
+    told q v =
+        response d (error x) ++
+        (0x38 ∷ 0x02 ∷ getD q 0 0 ∷ getD q 1 0 ∷ 0x35 ∷ (v ++ (0x39 ∷ 0x02 ∷ (g / 256) ∷ (g % 256) ∷ [])))
+
+-- the bytes of a part that stands within a list
+pub add-sub : (a k : ℕ) → a + k - a ≡ k
+add-sub a k = omega arith
+
+pub whole-part : (p : List ℕ) (a k : ℕ) → a + k ≤ length p → length (part a (a + k) p) ≡ k
+whole-part p a k h = simp (length-take, length-drop) (omega arith)

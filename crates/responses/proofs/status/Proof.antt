@@ -1,0 +1,36 @@
+-- `responses::status` meets its contract: a case for each link.
+-- Assumes nothing.
+use Rattle.rules.specs.Written.{statusBytes}
+use borrow.Author.Needs.{needs}
+use Rattle.responses.proofs.status.Statement.{statement}
+use Rattle.responses.proofs.status.Tie as tie
+use Rattle.responses.proofs.status.Reads as reads
+use Rattle.responses.proofs.status.Lts as lts
+
+enum-told : tie.Need-enum-told
+enum-told c = search needs
+
+enum-told-2 : tie.Need-enum-told-2
+enum-told-2 c = search needs
+
+add-t4 : tie.Need-add-t4
+add-t4 c = search needs
+
+enum-told-3 : tie.Need-enum-told-3
+enum-told-3 c = search needs
+
+returns : tie.Need-returns
+unfolding statusBytes
+returns c = rw (c .enum-told .given .1)
+
+returns-2 : tie.Need-returns-2
+unfolding statusBytes
+returns-2 c = rw (c .before .enum-told2 .given .1)
+
+returns-3 : tie.Need-returns-3
+unfolding statusBytes
+returns-3 c = rw (c .enum-told3 .given .1)
+
+pub status-spec : {M : Type 1} → statement M
+status-spec =
+    tie.close (tie.spec enum-told enum-told-2 add-t4 enum-told-3 returns returns-2 returns-3)

@@ -1,0 +1,149 @@
+// The responses, written straight into the buffer that the host lends.
+use octets;
+use rules::ChannelNumber;
+use rules::Details;
+use rules::Link;
+ghost use mathlib.Core.Path.{_≡_};
+ghost use mathlib.Core.List.{_∷_};
+ghost use Prim.Native.Nat.{_+_, _-_, _≤_, _<_};
+ghost use lib.ListN.{length};
+ghost use Rattle.octets.specs.Parts.{part, pasted};
+ghost use Rattle.rules.specs.Frames.{lengthBytes};
+ghost use Rattle.rules.specs.Reading.{Bearer};
+ghost use Rattle.rules.specs.Own.{error, problem, done, opened, received, sent};
+ghost use Rattle.rules.specs.Written.{bearerBytes, statusBytes};
+ghost use Rattle.responses.specs.Stands.{response, Stands};
+
+// Writes a result that nothing follows, and tells the count of bytes.
+pub fn tell_result(out: &mut [u8], d: Details, result: u8) -> usize
+    requires { ⌜ 12 ≤ length (now out) ⌝ }
+    ensures { λ r. ⌜ Stands (response d (error result)) r (now (out .entry)) (now (out .exit)) ⌝ }
+{
+    let head = [
+        0x81u8,
+        0x03,
+        d.number,
+        d.kind,
+        d.qualifier,
+        0x82,
+        0x02,
+        0x82,
+        0x81,
+        0x83,
+        0x01,
+        result,
+    ];
+    octets::put(out, 0, &head);
+    12
+}
+
+// Writes the result 3A with its cause, and tells the count of bytes.
+pub fn tell_problem(out: &mut [u8], d: Details, cause: u8) -> usize
+    requires { ⌜ 13 ≤ length (now out) ⌝ }
+    ensures { λ r. ⌜ Stands (response d (problem cause)) r (now (out .entry)) (now (out .exit)) ⌝ }
+{
+    let head = [
+        0x81u8,
+        0x03,
+        d.number,
+        d.kind,
+        d.qualifier,
+        0x82,
+        0x02,
+        0x82,
+        0x81,
+        0x83,
+        0x02,
+        0x3A,
+        cause,
+    ];
+    octets::put(out, 0, &head);
+    13
+}
+
+// Writes the answer to SEND DATA: a result and the room that is left.
+pub fn tell_sent(out: &mut [u8], d: Details, result: u8, room: u8) -> usize
+    requires { ⌜ 15 ≤ length (now out) ⌝ }
+    ensures { λ r. ⌜ Stands (response d (done result (sent room))) r (now (out .entry)) (now (out .exit)) ⌝ }
+{
+    let at = tell_result(out, d, result);
+    let further = [0x37u8, 0x01, room];
+    octets::put(out, at, &further);
+    at + 3
+}
+
+// Writes the tag and the length of an object, in the shortest form, and tells the place behind them.
+fn tell_length(out: &mut [u8], at: usize, tag: u8, len: u8) -> usize
+    requires { ⌜ at + 3 ≤ length (now out) ⌝ }
+    ensures { λ r. ⌜ now (out .exit) ≡ pasted (now (out .entry)) at (tag ∷ lengthBytes len) ⌝ }
+    ensures { λ r. ⌜ r ≡ at + length (tag ∷ lengthBytes len) ⌝ }
+{
+    if len < 0x80 {
+        let short = [tag, len];
+        octets::put(out, at, &short);
+        return at + 2;
+    }
+    let long = [tag, 0x81, len];
+    octets::put(out, at, &long);
+    at + 3
+}
+
+// Writes the answer to RECEIVE DATA: a result, bytes straight from the pool, and the count of those left.
+pub fn tell_received(
+    out: &mut [u8],
+    d: Details,
+    result: u8,
+    pool: &[u8],
+    from: usize,
+    count: u8,
+    left: u8,
+) -> usize
+    requires { ⌜ (18 + count ≤ length (now out)) × (from + count ≤ length (now pool)) ⌝ }
+    ensures { λ r. ⌜ Stands (response d (done result (received (part from (from + count) (now (pool .entry))) left))) r (now (out .entry)) (now (out .exit)) ⌝ }
+{
+    let head = tell_result(out, d, result);
+    let at = tell_length(out, head, 0x36, count);
+    let end = from + count as usize;
+    octets::put_part(out, at, pool, from, end);
+    let behind = at + count as usize;
+    let further = [0x37u8, 0x01, left];
+    octets::put(out, behind, &further);
+    behind + 3
+}
+
+// The two bytes that tell of a channel and its link.
+pub fn status(n: ChannelNumber, link: Link) -> [u8; 2]
+    requires { ⌜ n .0 ≤ 7 ⌝ }
+    ensures { λ r. ⌜ r ≡ statusBytes n link ⌝ }
+{
+    match link {
+        Link::NotYet => [n.0, 0x00],
+        Link::Established => [n.0 + 0x80, 0x00],
+        Link::Dropped => [n.0, 0x05],
+    }
+}
+
+// Writes the answer to OPEN CHANNEL: a result, the status, the bearer as received, and the grant.
+pub fn tell_opened(
+    out: &mut [u8],
+    d: Details,
+    result: u8,
+    n: ChannelNumber,
+    link: Link,
+    bearer: &[u8],
+    grant: u16,
+) -> usize
+    requires { ⌜ (n .0 ≤ 7) × (length (now bearer) < 128) × (22 + length (now bearer) ≤ length (now out)) ⌝ }
+    ensures { λ r. ⌜ ((b : Bearer) → bearerBytes b ≡ now (bearer .entry) → Stands (response d (done result (opened (record { number = n; link = link }) b grant))) r (now (out .entry)) (now (out .exit))) ⌝ }
+{
+    let head = tell_result(out, d, result);
+    let pair = status(n, link);
+    let first = [0x38u8, 0x02, pair[0], pair[1], 0x35, bearer.len() as u8];
+    octets::put(out, head, &first);
+    let at = head + 6;
+    octets::put(out, at, bearer);
+    let behind = at + bearer.len();
+    let further = [0x39u8, 0x02, (grant / 256) as u8, (grant % 256) as u8];
+    octets::put(out, behind, &further);
+    behind + 4
+}
