@@ -3,15 +3,17 @@ use octets;
 use rules::ChannelNumber;
 use rules::Details;
 use rules::Link;
+use session::Channel;
 ghost use mathlib.Core.Path.{_≡_};
-ghost use mathlib.Core.List.{_∷_};
-ghost use Prim.Native.Nat.{_+_, _-_, _≤_, _<_};
+ghost use mathlib.Core.List.{List, _∷_};
+ghost use Prim.Native.Nat.{ℕ, _+_, _-_, _≤_, _<_};
 ghost use lib.ListN.{length};
 ghost use Rattle.octets.specs.Parts.{part, pasted};
-ghost use Rattle.rules.specs.Frames.{lengthBytes};
+ghost use Rattle.rules.specs.Frames.{lengthBytes, objectBytes};
 ghost use Rattle.rules.specs.Reading.{Bearer};
-ghost use Rattle.rules.specs.Own.{error, problem, done, opened, received, sent};
-ghost use Rattle.rules.specs.Written.{bearerBytes, statusBytes};
+ghost use Rattle.rules.specs.Own.{error, problem, done, opened, received, sent, statuses, statusesFrom};
+ghost use Rattle.rules.specs.Written.{bearerBytes, statusBytes, statusObject};
+ghost use Rattle.session.specs.Picture.{chansIn};
 ghost use Rattle.responses.specs.Stands.{response, Stands};
 
 // Writes a result that nothing follows, and tells the count of bytes.
@@ -146,4 +148,40 @@ pub fn tell_opened(
     let further = [0x39u8, 0x02, (grant / 256) as u8, (grant % 256) as u8];
     octets::put(out, behind, &further);
     behind + 4
+}
+
+// Writes the status of one channel, and tells the place behind it.
+fn tell_status(out: &mut [u8], at: usize, n: ChannelNumber, link: Link) -> usize
+    requires { ⌜ (n .0 ≤ 7) × (at + 4 ≤ length (now out)) ⌝ }
+    ensures { λ r. ⌜ now (out .exit) ≡ pasted (now (out .entry)) at (objectBytes (statusObject n link)) ⌝ }
+    ensures { λ r. ⌜ r ≡ at + 4 ⌝ }
+{
+    let pair = status(n, link);
+    let object = [0x38u8, 0x02, pair[0], pair[1]];
+    octets::put(out, at, &object);
+    at + 4
+}
+
+// Writes the answer to GET CHANNEL STATUS: a result and a status for each open channel, rising; none open: 00 00.
+pub fn tell_statuses(out: &mut [u8], d: Details, result: u8, channels: [Channel; 7]) -> usize
+    requires { ⌜ (length channels ≡ 7) × (40 ≤ length (now out)) ⌝ }
+    ensures { λ r. ⌜ ((p : List ℕ) → Stands (response d (done result (statuses (statusesFrom 1 (chansIn channels p))))) r (now (out .entry)) (now (out .exit))) ⌝ }
+{
+    let head = tell_result(out, d, result);
+    let mut at = head;
+    let mut k: usize = 0;
+    while k < 7 {
+        let c = channels[k];
+        let link = c.link;
+        k += 1;
+        if 0 < c.grant {
+            at = tell_status(out, at, ChannelNumber(k as u8), link);
+        }
+    }
+    if head < at {
+        return at;
+    }
+    let none = [0x38u8, 0x02, 0x00, 0x00];
+    octets::put(out, at, &none);
+    at + 4
 }
