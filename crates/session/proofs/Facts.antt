@@ -12,7 +12,7 @@ use Rattle.rules.specs.declared.Link.the-variants.{NotYet, Dropped}
 use Rattle.rules.specs.State.{State, Chan, closed, chan, withChan, room, fresh, arrived, handed, stored, readied, taken, dropped, establish}
 use Rattle.rules.specs.Pool.{cells, promisedTo, promised, unpromised}
 use Rattle.rules.specs.Sound.{SoundChan, Sound}
-use Rattle.rules.proofs.Soundness.{chan-sound, closed-sound, fresh-sound, stored-sound, readied-sound, dropped-sound, with-sound}
+use Rattle.rules.proofs.Soundness.{chan-sound, closed-sound, fresh-sound, handed-sound, stored-sound, readied-sound, dropped-sound, with-sound}
 use Rattle.octets.specs.Parts.{part, pasted, cutOut, spread}
 use Rattle.session.specs.declared.Channel.{Channel}
 use Rattle.session.specs.declared.Ledger.{Ledger}
@@ -253,6 +253,10 @@ module _ (l : Ledger) (p : List ℕ) (n : ChannelNumber) (h : Numbered l p n) wh
   same-good d m r hd e s =
       let k = ap cells e in
       shows-good (withChan a n d) m r (with-sound a n d (h .good .sound) place hd (omega arith)) s
+
+  pub handed-good : (k : ℕ) (m : Ledger) (r : List ℕ) → Changed l p n (handed c k) m r → GoodIn m r
+  unfolding handed
+  handed-good k m r s = same-good (handed c k) m r (handed-sound c (chan-sound a n (h .good .sound)) k) refl s
 
   pub stored-good : (t : List ℕ) (m : Ledger) (r : List ℕ) → length t ≤ room (c .grant) (c .send) → Changed l p n (stored c t) m r → GoodIn m r
   unfolding stored
