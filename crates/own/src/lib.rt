@@ -105,7 +105,8 @@ pub fn receive(
     let held = c.rx as usize;
     let handed = least(request as usize, least(held, 237));
     let result = short_or(handed < request as usize, 0x02, ignored);
-    let left = told(held - handed);
+    let rest = held - handed;
+    let left = told(rest);
     let at = base(channels, k);
     let count = tell_received(out, d, result, pool, at, handed as u8, left);
     let next = hand(ledger, pool, n, handed);
@@ -178,7 +179,8 @@ pub fn send(
     }
     let stored = store(ledger, pool, n, bytes);
     let next = send_on(stored, n, d.qualifier);
-    let count = tell_sent(out, d, plain(ignored), told(room - bytes.len()));
+    let rest = room - bytes.len();
+    let count = tell_sent(out, d, plain(ignored), told(rest));
     Lent {
         ledger: next,
         ended: Ended::Wrote(count),

@@ -53,8 +53,8 @@ least-requires-2 c κs = search needs
 short-or-requires : tie.Need-short-or-requires
 short-or-requires c κs = search needs
 
-sub-told : tie.Need-sub-told
-sub-told c = search needs
+sub-rest : tie.Need-sub-rest
+sub-rest c = search needs
 
 told-requires : tie.Need-told-requires
 told-requires c κs = search needs
@@ -100,7 +100,7 @@ receive-spec =
     least-requires
     least-requires-2
     short-or-requires
-    sub-told
+    sub-rest
     told-requires
     base-requires
     cast-tell-received

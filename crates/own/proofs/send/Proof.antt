@@ -84,8 +84,8 @@ send-on-requires c κs = search needs
 plain-requires : tie.Need-plain-requires
 plain-requires c κs = search needs
 
-sub-told : tie.Need-sub-told
-sub-told c = search needs
+sub-rest : tie.Need-sub-rest
+sub-rest c = search needs
 
 told-requires : tie.Need-told-requires
 told-requires c κs = search needs
@@ -126,8 +126,8 @@ send-spec =
     returns-3
     store-requires
     send-on-requires
+    sub-rest
     plain-requires
-    sub-told
     told-requires
     tell-sent-requires
     same-length-4
