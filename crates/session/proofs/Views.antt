@@ -9,6 +9,8 @@ use lib.Seq.{take-at, drop-at}
 use Rattle.rules.specs.State.{State, Chan}
 use Rattle.rules.specs.Sound.{Each, SoundChan, Sound}
 use Rattle.session.specs.declared.Ledger.{Ledger}
+use Rattle.rules.specs.declared.Events.{Events}
+use Rattle.session.specs.Changed.{withEvents}
 use Rattle.session.specs.Picture.{space, pad, region, regions, poolOf, entry, ledgerOf, picture, chansIn, shown, view, Shows, GoodIn, Good}
 use Rattle.session.proofs.Regions.{length-pad, length-region, held-space}
 
@@ -70,3 +72,14 @@ pub shows-good : (a : State) (l : Ledger) (p : List ℕ) → Sound a → Shows a
 shows-good a l p h s =
     let e = sym (shows-back a l p h s) in
     record { sound = subst Sound e h; shows = subst (λ (b : State). Shows b l p) e s }
+
+-- another event list, and the rest of the picture as it was
+pub events-shown :
+    (l : Ledger) (p : List ℕ) (e : Events) → GoodIn l p →
+    Shows (withEvents (shown l p) e) (record { profile = l .profile; events = e; channels = l .channels }) p
+unfolding ledgerOf poolOf
+events-shown l p e g =
+    record {
+      ledger = ap (λ (m : Ledger). record { profile = m .profile; events = e; channels = m .channels }) (g .shows .ledger);
+      pool = g .shows .pool;
+    }

@@ -2,6 +2,7 @@
 use Prim.Native.Nat.{ℕ, _-_, _≤_}
 use mathlib.Core.List.{List}
 use lib.ListN.{getD, set}
+use Rattle.rules.specs.declared.Events.{Events}
 use Rattle.rules.specs.declared.Link.the-variants.{NotYet}
 use Rattle.rules.specs.declared.ChannelNumber.{ChannelNumber}
 use Rattle.rules.specs.State.{State, Chan, chan, withChan}
@@ -30,3 +31,7 @@ withEntry l n e = record { profile = l .profile; events = l .events; channels = 
 -- the session is what it was, with the channel c in the place of that number
 abbrev pub Changed : Ledger → List ℕ → ChannelNumber → Chan → Ledger → List ℕ → Type 0
 Changed l p n c l′ p′ = Shows (withChan (shown l p) n c) l′ p′
+
+-- the state with another event list
+abbrev pub withEvents : State → Events → State
+withEvents a e = record { profile = a .profile; events = e; chans = a .chans }

@@ -13,7 +13,7 @@ ghost use Rattle.rules.specs.Pool.{cells, unpromised};
 ghost use Rattle.rules.specs.State.{start, room, establish, closed, fresh, arrived, handed, stored, readied, taken, dropped};
 ghost use Rattle.session.specs.Picture.{Good, GoodIn, Shows, ledgerOf, shown, view, baseOf};
 ghost use Rattle.rules.specs.Own.{capped};
-ghost use Rattle.session.specs.Changed.{Numbered, chanIn, Changed};
+ghost use Rattle.session.specs.Changed.{Numbered, chanIn, Changed, withEvents};
 
 // A channel: its grant (0 where it is not open), its link, how many bytes are held each way, and how many of those to send are ready.
 pub struct Channel {
@@ -247,6 +247,15 @@ pub fn drop_link(ledger: Ledger, n: ChannelNumber) -> Ledger
         tx: c.tx,
         ready: c.ready,
     };
+    next
+}
+
+// The event list is replaced. The channels and the pool stay.
+pub fn set_events(ledger: Ledger, events: Events) -> Ledger
+    ensures { λ r. ⌜ ((p : List ℕ) → GoodIn ledger p → Shows (withEvents (shown ledger p) events) r p) ⌝ }
+{
+    let mut next = ledger;
+    next.events = events;
     next
 }
 
