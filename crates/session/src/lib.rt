@@ -251,9 +251,10 @@ pub fn drop_link(ledger: Ledger, n: ChannelNumber) -> Ledger
 }
 
 // The event list is replaced. The channels and the pool stay.
-pub fn set_events(ledger: Ledger, events: Events) -> Ledger
-    ensures { λ r. ⌜ ((p : List ℕ) → GoodIn ledger p → Shows (withEvents (shown ledger p) events) r p) ⌝ }
+pub fn set_events(ledger: Ledger, available: bool, status: bool) -> Ledger
+    ensures { λ r. ⌜ ((p : List ℕ) → GoodIn ledger p → Shows (withEvents (shown ledger p) (record { available = available; status = status })) r p) ⌝ }
 {
+    let events = Events { available, status };
     let mut next = ledger;
     next.events = events;
     next
