@@ -86,9 +86,6 @@ module _ (l : Ledger) (p : List ℕ) (n : ChannelNumber) (h : Numbered l p n) wh
     pub handed-few : k ≤ 237
     handed-few = omega arith
 
-    pub handed-held : k ≤ entryIn l n .rx
-    handed-held = omega arith
-
     pub handed-received : k ≤ length (chanIn l p n .recv)
     handed-received = let b = bounds l p n h .rx-is in omega arith
 

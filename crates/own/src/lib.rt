@@ -29,7 +29,7 @@ ghost use Rattle.session.specs.Changed.{Numbered, chanIn, Changed};
 ghost use Rattle.own.specs.Replies.{told};
 
 // The result of a command that was done: 01 if an unexpected object was ignored, else 00.
-pub fn plain(ignored: bool) -> u8
+fn plain(ignored: bool) -> u8
     ensures { λ r. ⌜ r ≡ plain ignored ⌝ }
 {
     if ignored {

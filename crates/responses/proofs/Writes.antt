@@ -192,8 +192,5 @@ opened-pieces d x g n l b s pair e w p =
         (0x38 ∷ 0x02 ∷ getD q 0 0 ∷ getD q 1 0 ∷ 0x35 ∷ (v ++ (0x39 ∷ 0x02 ∷ (g / 256) ∷ (g % 256) ∷ [])))
 
 -- the bytes of a part that stands within a list
-pub add-sub : (a k : ℕ) → a + k - a ≡ k
-add-sub a k = omega arith
-
 pub whole-part : (p : List ℕ) (a k : ℕ) → a + k ≤ length p → length (part a (a + k) p) ≡ k
 whole-part p a k h = simp (length-take, length-drop) (omega arith)

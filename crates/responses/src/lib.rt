@@ -114,7 +114,7 @@ pub fn tell_received(
 }
 
 // The two bytes that tell of a channel and its link.
-pub fn status(n: ChannelNumber, link: Link) -> [u8; 2]
+fn status(n: ChannelNumber, link: Link) -> [u8; 2]
     requires { ⌜ n .0 ≤ 7 ⌝ }
     ensures { λ r. ⌜ r ≡ statusBytes n link ⌝ }
 {
