@@ -135,7 +135,7 @@ pub fn tell_opened(
     bearer: &[u8],
     grant: u16,
 ) -> usize
-    requires { ⌜ (n .0 ≤ 7) × (length (now bearer) < 128) × (22 + length (now bearer) ≤ length (now out)) ⌝ }
+    requires { ⌜ (n .0 ≤ 7) × (length (now bearer) < 128) × (22 + length (now bearer) ≤ length (now out)) × (1 ≤ length (now bearer)) ⌝ }
     ensures { λ r. ⌜ ((b : Bearer) → bearerBytes b ≡ now (bearer .entry) → Stands (response d (done result (opened (record { number = n; link = link }) b grant))) r (now (out .entry)) (now (out .exit))) ⌝ }
 {
     let head = tell_result(out, d, result);
