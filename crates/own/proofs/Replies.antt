@@ -11,19 +11,29 @@ use borrow.Author.Tests.{le-leb, lt-leb}
 use Rattle.rules.specs.declared.ChannelNumber.{ChannelNumber}
 use Rattle.rules.specs.declared.Details.{Details}
 use Rattle.rules.specs.Checks.{_⇒_else_}
+use Rattle.rules.specs.Sound.{Sound}
+use Rattle.rules.specs.Command.{Answer}
 use Rattle.rules.specs.State.{State, Chan, chan, withChan, closed, isOpen, handed}
-use Rattle.rules.specs.Own.{Reply, Result, reply, error, problem, done, nothing, received, capped, plain, closing, receiving}
+use Rattle.rules.specs.Own.{Reply, Result, Further, reply, error, problem, done, nothing, received, capped, plain, closing, receiving}
 use Rattle.rules.specs.Written.{resultBytes, resultObjects, responseObjects, responseBytes, furtherObjects}
 use Rattle.rules.proofs.Laws.{stop, skip}
 use Rattle.octets.specs.Parts.{part}
+use Rattle.session.specs.declared.Ended.{Ended}
 use Rattle.session.specs.declared.Ended.the-variants.{Wrote}
 use Rattle.session.specs.declared.Ledger.{Ledger}
 use Rattle.session.specs.Picture.{Shows, GoodIn, shown, baseOf, space}
 use Rattle.session.specs.Calls.{endedOf, writtenBy, Answers}
 use Rattle.session.specs.Changed.{Numbered, chanIn, entryIn, Changed}
-use Rattle.session.proofs.Facts.{Bounds, bounds, recv-read, closed-good, handed-good}
+use Rattle.session.proofs.Facts.{Bounds, bounds, recv-read, handed-good}
+use Rattle.session.proofs.Views.{shows-back, shows-good}
 use Rattle.responses.specs.Stands.{response, Stands}
 use Rattle.own.specs.Replies.{told}
+
+-- an answer by a reply is one by what the reply comes to
+pub as-told :
+    (d : Details) (r x : Reply) (l : Ledger) (p : List ℕ) (e : Ended) (before after : List ℕ) → r ≡ x → Answers (told d x) l p e before after →
+    Answers (told d r) l p e before after
+as-told d r x l p e before after q t = subst (λ (y : Reply). Answers (told d y) l p e before after) (sym q) t
 
 -- a reply with this state, shown by the session, and this result, which stands in the buffer
 pub told-answers :
@@ -31,19 +41,28 @@ pub told-answers :
     Shows b l p → GoodIn l p → Stands (response d x) k before after → Answers (told d r) l p (Wrote k) before after
 unfolding endedOf writtenBy
 told-answers d r b x l p k before after e s g t =
-    subst (λ (y : Reply). Answers (told d y) l p (Wrote k) before after) (sym e)
-    (record { shows = s; good = g; ended = ap Wrote (t .counted); lent = t .lent })
-
--- a reply that leaves the session
-pub stays-answers :
-    (d : Details) (r : Reply) (x : Result) (l : Ledger) (p : List ℕ) (k : ℕ) (before after : List ℕ) → r ≡ reply (shown l p) x →
-    GoodIn l p → Stands (response d x) k before after → Answers (told d r) l p (Wrote k) before after
-stays-answers d r x l p k before after e g t = told-answers d r (shown l p) x l p k before after e (g .shows) g t
+    as-told d r (reply b x) l p (Wrote k) before after e (record { shows = s; good = g; ended = ap Wrote (t .counted); lent = t .lent })
 
 -- a result that nothing follows has the bytes of an error
-pub plain-bytes : (d : Details) (x : ℕ) → response d (error x) ≡ response d (done x nothing)
+pub plain-told : (d : Details) (b : State) (x : ℕ) (i : Bool) → x ≡ plain i → told d (reply b (error x)) ≡ told d (reply b (done (plain i) nothing))
 unfolding responseBytes responseObjects resultBytes resultObjects furtherObjects
-plain-bytes d x = refl
+plain-told d b x i e = ap (λ (y : ℕ). told d (reply b (done y nothing))) e
+
+-- the state was changed to a sound one, and the result that nothing follows is told
+pub changed-answers :
+    (d : Details) (r : Reply) (b : State) (x : ℕ) (i : Bool) (m : Ledger) (q : List ℕ) (l : Ledger) (e : Ended) (before after : List ℕ) →
+    r ≡ reply b (done (plain i) nothing) → Sound b → Shows b m q → x ≡ plain i →
+    (GoodIn m q → Answers (told d (reply (shown m q) (error x))) l q e before after) → Answers (told d r) l q e before after
+changed-answers d r b x i m q l e before after u h s v f =
+    as-told d r (reply b (done (plain i) nothing)) l q e before after u
+    (subst (λ (y : Answer). Answers y l q e before after) (ap (λ (c : State). told d (reply c (error x))) (shows-back b m q h s) ∙ plain-told d b x i v)
+    (f (shows-good b m q h s)))
+
+-- the result in front of the statuses
+pub statuses-stand :
+    (d : Details) (x : ℕ) (i : Bool) (f : Further) (k : ℕ) (before after : List ℕ) → x ≡ plain i →
+    Stands (response d (done x f)) k before after → Stands (response d (done (plain i) f)) k before after
+statuses-stand d x i f k before after e t = subst (λ (y : ℕ). Stands (response d (done y f)) k before after) e t
 
 -- whether the entry has a grant is whether the channel is open
 module _ (l : Ledger) (p : List ℕ) (n : ChannelNumber) (h : Numbered l p n) where
@@ -58,28 +77,18 @@ module _ (l : Ledger) (p : List ℕ) (n : ChannelNumber) (h : Numbered l p n) wh
       ap (λ (g : ℕ). not (leb 1 g)) (sym (bounds l p n h .grant-is)) ∙ ap not (le-leb 1 (entryIn l n .grant) o)
 
   -- CLOSE CHANNEL
-  pub close-problem :
-      (d : Details) (i : Bool) (k : ℕ) (before after : List ℕ) → entryIn l n .grant < 1 → Stands (response d (problem 0x03)) k before after →
-      Answers (told d (closing (shown l p) n i)) l p (Wrote k) before after
+  pub close-unopened : (i : Bool) → entryIn l n .grant < 1 → closing (shown l p) n i ≡ reply (shown l p) (problem 0x03)
   unfolding closing
-  close-problem d i k before after o t = stays-answers d (closing (shown l p) n i) (problem 0x03) l p k before after (stop _ _ _ (unopened o)) (h .good) t
+  close-unopened i o = stop _ _ _ (unopened o)
 
-  pub close-done :
-      (d : Details) (i : Bool) (k x : ℕ) (m : Ledger) (q before after : List ℕ) → 1 ≤ entryIn l n .grant → Changed l p n closed m q →
-      x ≡ plain i → Stands (response d (error x)) k before after → Answers (told d (closing (shown l p) n i)) m q (Wrote k) before after
+  pub close-open : (i : Bool) → 1 ≤ entryIn l n .grant → closing (shown l p) n i ≡ reply (withChan (shown l p) n closed) (done (plain i) nothing)
   unfolding closing
-  close-done d i k x m q before after o s e t =
-      told-answers d (closing (shown l p) n i) (withChan (shown l p) n closed) (done (plain i) nothing) m q k before after
-      (skip _ _ _ (unclosed o)) s (closed-good l p n h m q s)
-      (subst (λ (y : List ℕ). Stands y k before after) (plain-bytes d x ∙ ap (λ (y : ℕ). response d (done y nothing)) e) t)
+  close-open i o = skip _ _ _ (unclosed o)
 
   -- RECEIVE DATA
-  pub receive-problem :
-      (d : Details) (w : ℕ) (i : Bool) (k : ℕ) (before after : List ℕ) → entryIn l n .grant < 1 → Stands (response d (problem 0x03)) k before after →
-      Answers (told d (receiving (shown l p) n w i)) l p (Wrote k) before after
+  pub receive-unopened : (w : ℕ) (i : Bool) → entryIn l n .grant < 1 → receiving (shown l p) n w i ≡ reply (shown l p) (problem 0x03)
   unfolding receiving
-  receive-problem d w i k before after o t =
-      stays-answers d (receiving (shown l p) n w i) (problem 0x03) l p k before after (stop _ _ _ (unopened o)) (h .good) t
+  receive-unopened w i o = stop _ _ _ (unopened o)
 
   -- what is handed out: at a place within the pool, and held
   module _ (w k at : ℕ) (y : k ≡ min w (min (entryIn l n .rx) 237)) where

@@ -27,7 +27,7 @@ use Rattle.session.proofs.Facts.{bounds}
 use Rattle.session.proofs.Views.{shows-back, shows-good}
 use Rattle.responses.specs.Stands.{response, Stands}
 use Rattle.own.specs.Replies.{told}
-use Rattle.own.proofs.Replies.{told-answers, stays-answers, unopened, unclosed}
+use Rattle.own.proofs.Replies.{told-answers, unopened, unclosed}
 
 -- a channel put back where it stands, and one put over another
 set-back : (cs : List Chan) (k : ℕ) (d : Chan) → set cs k (getD cs k d) ≡ cs
@@ -68,38 +68,29 @@ module _ (l : Ledger) (p : List ℕ) (n : ChannelNumber) (h : Numbered l p n) (d
   abbrev c : Chan
   c = chan a n
 
-  pub send-unopened :
-      (k : ℕ) (before after : List ℕ) → entryIn l n .grant < 1 → Stands (response d (problem 0x03)) k before after →
-      Answers (told d (sending a (d .qualifier) n s i)) l p (Wrote k) before after
+  pub send-unopened : entryIn l n .grant < 1 → sending a (d .qualifier) n s i ≡ reply a (problem 0x03)
   unfolding sending
-  send-unopened k before after o t =
-      stays-answers d (sending a (d .qualifier) n s i) (problem 0x03) l p k before after (stop _ _ _ (unopened l p n h o)) (h .good) t
+  send-unopened o = stop _ _ _ (unopened l p n h o)
 
   link-dropped : (b : Bool) → isDropped (entryIn l n .link) ≡ b → isDropped (c .link) ≡ b
   link-dropped b e = ap isDropped (sym (bounds l p n h .link-is)) ∙ e
 
   pub send-dropped :
-      (k : ℕ) (before after : List ℕ) → 1 ≤ entryIn l n .grant → isDropped (entryIn l n .link) ≡ true →
-      Stands (response d (problem 0x02)) k before after → Answers (told d (sending a (d .qualifier) n s i)) l p (Wrote k) before after
+      1 ≤ entryIn l n .grant → isDropped (entryIn l n .link) ≡ true → sending a (d .qualifier) n s i ≡ reply a (problem 0x02)
   unfolding sending
-  send-dropped k before after o e t =
-      stays-answers d (sending a (d .qualifier) n s i) (problem 0x02) l p k before after
-      (skip _ _ _ (unclosed l p n h o) ∙ stop _ _ _ (link-dropped true e)) (h .good) t
+  send-dropped o e = skip _ _ _ (unclosed l p n h o) ∙ stop _ _ _ (link-dropped true e)
 
   pub room-is : entryIn l n .grant - entryIn l n .tx ≡ room (c .grant) (c .send)
   unfolding room
   room-is = λ j. bounds l p n h .grant-is j - bounds l p n h .tx-is j
 
   pub send-overfull :
-      (k : ℕ) (before after : List ℕ) → 1 ≤ entryIn l n .grant → isDropped (entryIn l n .link) ≡ false →
-      entryIn l n .grant - entryIn l n .tx < length s → Stands (response d (problem 0x04)) k before after →
-      Answers (told d (sending a (d .qualifier) n s i)) l p (Wrote k) before after
+      1 ≤ entryIn l n .grant → isDropped (entryIn l n .link) ≡ false → entryIn l n .grant - entryIn l n .tx < length s →
+      sending a (d .qualifier) n s i ≡ reply a (problem 0x04)
   unfolding sending
-  send-overfull k before after o e f t =
-      stays-answers d (sending a (d .qualifier) n s i) (problem 0x04) l p k before after
-      (skip _ _ _ (unclosed l p n h o) ∙ skip _ _ _ (link-dropped false e)
-      ∙ stop _ _ _ (lt-ltb (room (c .grant) (c .send)) (length s) (subst (λ (r : ℕ). r < length s) room-is f)))
-      (h .good) t
+  send-overfull o e f =
+      skip _ _ _ (unclosed l p n h o) ∙ skip _ _ _ (link-dropped false e)
+      ∙ stop _ _ _ (lt-ltb (room (c .grant) (c .send)) (length s) (subst (λ (r : ℕ). r < length s) room-is f))
 
   -- the bytes fit
   module _ (o : 1 ≤ entryIn l n .grant) (f : length s ≤ entryIn l n .grant - entryIn l n .tx) where

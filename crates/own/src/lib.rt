@@ -1,8 +1,11 @@
 // Step 9: the own checks of each command, one change of state, and the response.
+use command::Place;
+use command::allowed;
 use responses::tell_problem;
 use responses::tell_received;
 use responses::tell_result;
 use responses::tell_sent;
+use responses::tell_statuses;
 use rules::ChannelNumber;
 use rules::Details;
 use rules::Link;
@@ -14,22 +17,24 @@ use session::close_channel;
 use session::hand;
 use session::least;
 use session::make_ready;
+use session::set_events;
 use session::store;
 use session::told;
 ghost use mathlib.Core.Path.{_≡_};
 ghost use mathlib.Core.List.{List};
 ghost use Prim.Native.Nat.{ℕ, _≤_};
 ghost use lib.ListN.{length};
-ghost use Rattle.rules.specs.Checks.{_⇒_else_};
+ghost use Rattle.rules.specs.Checks.{_⇒_else_, every, member};
+ghost use Rattle.rules.specs.Profile.{allowsEvent};
 ghost use Rattle.rules.specs.State.{isDropped, readied};
-ghost use Rattle.rules.specs.Own.{bit1, plain, closing, receiving, sending};
+ghost use Rattle.rules.specs.Own.{bit1, error, problem, done, nothing, statuses, statusesFrom, reply, plain, listing, closing, receiving, sending};
 ghost use Rattle.session.specs.Picture.{GoodIn, shown};
 ghost use Rattle.session.specs.Calls.{Answers};
 ghost use Rattle.session.specs.Changed.{Numbered, chanIn, Changed};
 ghost use Rattle.own.specs.Replies.{told};
 
 // The result of a command that was done: 01 if an unexpected object was ignored, else 00.
-fn plain(ignored: bool) -> u8
+pub fn plain(ignored: bool) -> u8
     ensures { λ r. ⌜ r ≡ plain ignored ⌝ }
 {
     if ignored {
@@ -39,13 +44,111 @@ fn plain(ignored: bool) -> u8
 }
 
 // The result of a command that was done: that for less than asked, if so, else the plain one.
-fn short_or(short: bool, result: u8, ignored: bool) -> u8
+pub fn short_or(short: bool, result: u8, ignored: bool) -> u8
     ensures { λ r. ⌜ r ≡ (short ⇒ result else plain ignored) ⌝ }
 {
     if short {
         return result;
     }
     plain(ignored)
+}
+
+// A result that nothing follows is told, and the ledger goes back as it came.
+pub fn end_with(ledger: Ledger, out: &mut [u8], d: Details, result: u8) -> Lent
+    requires { ⌜ 255 ≤ length (now out) ⌝ }
+    ensures { λ r. ⌜ ((p : List ℕ) → GoodIn ledger p → Answers (told d (reply (shown ledger p) (error result))) (r .ledger) p (r .ended) (now (out .entry)) (now (out .exit))) ⌝ }
+{
+    let count = tell_result(out, d, result);
+    Lent {
+        ledger,
+        ended: Ended::Wrote(count),
+    }
+}
+
+// A problem, 3A, is told with its cause, and the ledger goes back as it came.
+pub fn end_problem(ledger: Ledger, out: &mut [u8], d: Details, cause: u8) -> Lent
+    requires { ⌜ 255 ≤ length (now out) ⌝ }
+    ensures { λ r. ⌜ ((p : List ℕ) → GoodIn ledger p → Answers (told d (reply (shown ledger p) (problem cause))) (r .ledger) p (r .ended) (now (out .entry)) (now (out .exit))) ⌝ }
+{
+    let count = tell_problem(out, d, cause);
+    Lent {
+        ledger,
+        ended: Ended::Wrote(count),
+    }
+}
+
+// MORE TIME: nothing is done.
+pub fn more_time(ledger: Ledger, d: Details, ignored: bool, out: &mut [u8]) -> Lent
+    requires { ⌜ 255 ≤ length (now out) ⌝ }
+    ensures { λ r. ⌜ ((p : List ℕ) → GoodIn ledger p → Answers (told d (reply (shown ledger p) (done (plain ignored) nothing))) (r .ledger) p (r .ended) (now (out .entry)) (now (out .exit))) ⌝ }
+{
+    end_with(ledger, out, d, plain(ignored))
+}
+
+// Whether an event may be listed: it is 09 or 0A, and the profile allows it.
+fn allows_event(profile: [u8; 13], event: u8) -> bool
+    ensures { λ r. ⌜ r ≡ allowsEvent profile event ⌝ }
+{
+    match event {
+        0x09 => allowed(profile, Place { byte: 6, bit: 3 }),
+        0x0A => allowed(profile, Place { byte: 6, bit: 4 }),
+        _ => false,
+    }
+}
+
+// Whether each of the events may be listed.
+fn all_allowed(profile: [u8; 13], events: &[u8]) -> bool
+    ensures { λ r. ⌜ r ≡ every (allowsEvent profile) (now (events .entry)) ⌝ }
+{
+    let mut i: usize = 0;
+    while i < events.len() {
+        if !allows_event(profile, events[i]) {
+            return false;
+        }
+        i += 1;
+    }
+    true
+}
+
+// Whether an event stands in the list.
+fn lists(events: &[u8], event: u8) -> bool
+    ensures { λ r. ⌜ r ≡ member event (now (events .entry)) ⌝ }
+{
+    let mut i: usize = 0;
+    while i < events.len() {
+        if event == events[i] {
+            return true;
+        }
+        i += 1;
+    }
+    false
+}
+
+// SET UP EVENT LIST: each value must be allowed, or the list stays; it replaces the old one.
+pub fn list_events(ledger: Ledger, events: &[u8], d: Details, ignored: bool, out: &mut [u8]) -> Lent
+    requires { ⌜ 255 ≤ length (now out) ⌝ }
+    ensures { λ r. ⌜ ((p : List ℕ) → GoodIn ledger p → Answers (told d (listing (shown ledger p) (now (events .entry)) ignored)) (r .ledger) p (r .ended) (now (out .entry)) (now (out .exit))) ⌝ }
+{
+    let profile = ledger.profile;
+    if !all_allowed(profile, events) {
+        return end_with(ledger, out, d, 0x30);
+    }
+    let next = set_events(ledger, lists(events, 0x09), lists(events, 0x0A));
+    end_with(next, out, d, plain(ignored))
+}
+
+// GET CHANNEL STATUS: a status for each open channel.
+pub fn tell_channels(ledger: Ledger, d: Details, ignored: bool, out: &mut [u8]) -> Lent
+    requires { ⌜ length (ledger .channels) ≡ 7 ⌝ }
+    requires { ⌜ 255 ≤ length (now out) ⌝ }
+    ensures { λ r. ⌜ ((p : List ℕ) → GoodIn ledger p → Answers (told d (reply (shown ledger p) (done (plain ignored) (statuses (statusesFrom 1 (shown ledger p .chans)))))) (r .ledger) p (r .ended) (now (out .entry)) (now (out .exit))) ⌝ }
+{
+    let channels = ledger.channels;
+    let count = tell_statuses(out, d, plain(ignored), channels);
+    Lent {
+        ledger,
+        ended: Ended::Wrote(count),
+    }
 }
 
 // CLOSE CHANNEL: the channel ends, held bytes are discarded.
@@ -64,18 +167,10 @@ pub fn close(
     let k = (n.0 - 1) as usize;
     let c = ledger.channels[k];
     if c.grant < 1 {
-        let count = tell_problem(out, d, 0x03);
-        return Lent {
-            ledger,
-            ended: Ended::Wrote(count),
-        };
+        return end_problem(ledger, out, d, 0x03);
     }
     let next = close_channel(ledger, pool, n);
-    let count = tell_result(out, d, plain(ignored));
-    Lent {
-        ledger: next,
-        ended: Ended::Wrote(count),
-    }
+    end_with(next, out, d, plain(ignored))
 }
 
 // RECEIVE DATA: the least of the request, the bytes held and 237 is handed out; 02 if that is fewer than asked.
@@ -96,11 +191,7 @@ pub fn receive(
     let channels = ledger.channels;
     let c = channels[k];
     if c.grant < 1 {
-        let count = tell_problem(out, d, 0x03);
-        return Lent {
-            ledger,
-            ended: Ended::Wrote(count),
-        };
+        return end_problem(ledger, out, d, 0x03);
     }
     let held = c.rx as usize;
     let handed = least(request as usize, least(held, 237));
@@ -155,27 +246,15 @@ pub fn send(
     let k = (n.0 - 1) as usize;
     let c = ledger.channels[k];
     if c.grant < 1 {
-        let count = tell_problem(out, d, 0x03);
-        return Lent {
-            ledger,
-            ended: Ended::Wrote(count),
-        };
+        return end_problem(ledger, out, d, 0x03);
     }
     let link = c.link;
     if is_dropped(link) {
-        let count = tell_problem(out, d, 0x02);
-        return Lent {
-            ledger,
-            ended: Ended::Wrote(count),
-        };
+        return end_problem(ledger, out, d, 0x02);
     }
     let room = (c.grant - c.tx) as usize;
     if room < bytes.len() {
-        let count = tell_problem(out, d, 0x04);
-        return Lent {
-            ledger,
-            ended: Ended::Wrote(count),
-        };
+        return end_problem(ledger, out, d, 0x04);
     }
     let stored = store(ledger, pool, n, bytes);
     let next = send_on(stored, n, d.qualifier);

@@ -245,9 +245,12 @@ module _ (l : Ledger) (p : List ℕ) (n : ChannelNumber) (h : Numbered l p n) wh
   opened-good g k m r cap f s =
       shows-good (withChan a n (fresh g k)) m r (with-sound a n (fresh g k) (h .good .sound) place (fresh-sound g k cap) (omega arith)) s
 
-  pub closed-good : (m : Ledger) (r : List ℕ) → Changed l p n closed m r → GoodIn m r
+  pub closed-state : Sound (withChan a n closed)
   unfolding closed cells
-  closed-good m r s = shows-good (withChan a n closed) m r (with-sound a n closed (h .good .sound) place closed-sound (omega arith)) s
+  closed-state = with-sound a n closed (h .good .sound) place closed-sound (omega arith)
+
+  pub closed-good : (m : Ledger) (r : List ℕ) → Changed l p n closed m r → GoodIn m r
+  closed-good m r s = shows-good (withChan a n closed) m r closed-state s
 
   same-good : (d : Chan) (m : Ledger) (r : List ℕ) → SoundChan d → d .grant ≡ c .grant → Changed l p n d m r → GoodIn m r
   same-good d m r hd e s =

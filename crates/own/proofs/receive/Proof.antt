@@ -1,17 +1,17 @@
--- `own::receive` meets its contract: the law of the receive, at what the functions that it calls ensure.
+-- `own::receive` meets its contract: the laws of the receive, at what the functions that it calls ensure.
 -- Assumes nothing.
 use Prim.Native.Nat.{min}
 use mathlib.Core.Path.{ap, _∙_}
 use native.Mathlib.Omega.{arith}
 use Rattle.session.proofs.Facts.{bounds}
-use Rattle.own.proofs.Replies.{receive-problem, handed-few, handed-within, handed-received, receive-done}
+use Rattle.own.proofs.Replies.{as-told, receive-unopened, handed-few, handed-within, handed-received, receive-done}
 use borrow.Author.Needs.{needs}
 use Rattle.own.proofs.receive.Statement.{statement}
 use Rattle.own.proofs.receive.Tie as tie
 use Rattle.own.proofs.receive.Reads as reads
 use Rattle.own.proofs.receive.Lts as lts
+use Rattle.own.proofs.end_problem.Reads as end-problem-reads
 use Rattle.own.proofs.short_or.Reads as short-or-reads
-use Rattle.responses.proofs.tell_problem.Reads as tell-problem-reads
 use Rattle.responses.proofs.tell_received.Reads as tell-received-reads
 use Rattle.session.proofs.base.Reads as base-reads
 use Rattle.session.proofs.hand.Reads as hand-reads
@@ -30,16 +30,14 @@ mul-c c = search needs
 array-copy-out-c : tie.Need-array-copy-out-c
 array-copy-out-c c = search needs
 
-tell-problem-requires : tie.Need-tell-problem-requires
-tell-problem-requires c κs = search needs
+end-problem-requires : tie.Need-end-problem-requires
+end-problem-requires c κs = search needs
 
 same-length : tie.Need-same-length
 same-length c = search needs
 
 returns : tie.Need-returns
-returns c =
-    let s = c .before .before .before .before .before .before .before .before .before .before in
-    receive-problem _ _ _ (s .pre .0) (s .args .d) (s .args .request) (s .args .ignored) _ _ _ (c .before .before .before .before .if1 .taken) (c .before .before .tell-problem .ensures)
+returns c = as-told _ _ _ _ _ _ _ _ (receive-unopened _ _ _ (c .before .before .before .before .before .before .before .before .before .before .pre .0) (c .before .before .before .before .before .before .before .before .before .before .args .request) (c .before .before .before .before .before .before .before .before .before .before .args .ignored) (c .before .before .before .before .if1 .taken)) (c .before .before .end-problem .ensures _ (c .before .before .before .before .before .before .before .before .before .before .pre .0 .good))
 
 cast-held : tie.Need-cast-held
 cast-held c = search needs
@@ -60,30 +58,22 @@ told-requires : tie.Need-told-requires
 told-requires c κs = search needs
 
 base-requires : tie.Need-base-requires
-base-requires c κs =
-    let s = c .before .before .before .before .before .before .before .before .before .before .before in
-    (omega (arith, s .pre .0 .high), bounds _ _ _ (s .pre .0) .seven)
+base-requires c κs = (omega (arith, c .before .before .before .before .before .before .before .before .before .before .before .pre .0 .high), bounds _ _ _ (c .before .before .before .before .before .before .before .before .before .before .before .pre .0) .seven)
 
 cast-tell-received : tie.Need-cast-tell-received
 cast-tell-received c = search needs
 
 tell-received-requires : tie.Need-tell-received-requires
-tell-received-requires c κs =
-    let s = c .before .before .before .before .before .before .before .before .before .before .before .before .before .before .before in
-    (omega (arith, handed-few _ _ _ (s .pre .0) _ _ 0 (c .before .before .before .before .before .before .least2 .ensures ∙ ap (min (s .args .request)) (c .before .before .before .before .before .before .before .least .ensures)), s .pre .1), handed-within _ _ _ (s .pre .0) _ _ _ (c .before .before .before .before .before .before .least2 .ensures ∙ ap (min (s .args .request)) (c .before .before .before .before .before .before .before .least .ensures)) (c .before .before .before .base .ensures))
+tell-received-requires c κs = (omega (arith, handed-few _ _ _ (c .before .before .before .before .before .before .before .before .before .before .before .before .before .before .before .pre .0) _ _ 0 (c .before .before .before .before .before .before .least2 .ensures ∙ ap (min (c .before .before .before .before .before .before .before .before .before .before .before .before .before .before .before .args .request)) (c .before .before .before .before .before .before .before .least .ensures)), c .before .before .before .before .before .before .before .before .before .before .before .before .before .before .before .pre .1), handed-within _ _ _ (c .before .before .before .before .before .before .before .before .before .before .before .before .before .before .before .pre .0) _ _ _ (c .before .before .before .before .before .before .least2 .ensures ∙ ap (min (c .before .before .before .before .before .before .before .before .before .before .before .before .before .before .before .args .request)) (c .before .before .before .before .before .before .before .least .ensures)) (c .before .before .before .base .ensures))
 
 hand-requires : tie.Need-hand-requires
-hand-requires c κs =
-    let s = c .before .before .before .before .before .before .before .before .before .before .before .before .before .before .before .before .before .before .before in
-    (s .pre .0, handed-received _ _ _ (s .pre .0) (s .args .request) _ 0 (c .before .before .before .before .before .before .before .before .before .before .least2 .ensures ∙ ap (min (s .args .request)) (c .before .before .before .before .before .before .before .before .before .before .before .least .ensures)))
+hand-requires c κs = (c .before .before .before .before .before .before .before .before .before .before .before .before .before .before .before .before .before .before .before .pre .0, handed-received _ _ _ (c .before .before .before .before .before .before .before .before .before .before .before .before .before .before .before .before .before .before .before .pre .0) (c .before .before .before .before .before .before .before .before .before .before .before .before .before .before .before .before .before .before .before .args .request) _ 0 (c .before .before .before .before .before .before .before .before .before .before .least2 .ensures ∙ ap (min (c .before .before .before .before .before .before .before .before .before .before .before .before .before .before .before .before .before .before .before .args .request)) (c .before .before .before .before .before .before .before .before .before .before .before .least .ensures)))
 
 same-length-2 : tie.Need-same-length-2
 same-length-2 c = search needs
 
 returns-2 : tie.Need-returns-2
-returns-2 c =
-    let s = c .before .before .before .before .before .before .before .before .before .before .before .before .before .before .before .before .before .before .before .before in
-    receive-done _ _ _ (s .pre .0) (s .args .request) _ _ (c .before .before .before .before .before .before .before .before .before .before .before .least2 .ensures ∙ ap (min (s .args .request)) (c .before .before .before .before .before .before .before .before .before .before .before .before .least .ensures)) (s .args .d) (s .args .ignored) _ _ _ _ _ _ _ (c .before .before .before .before .before .before .before .before .before .before .before .before .before .before .if1 .left) (c .before .before .before .before .before .before .before .before .base .ensures) (c .hand .ensures) (c .before .before .before .before .before .before .before .before .before .before .short-or .ensures) (c .before .before .before .before .before .before .before .before .before .told .ensures) (c .before .before .before .before .tell-received .ensures)
+returns-2 c = receive-done _ _ _ (c .before .before .before .before .before .before .before .before .before .before .before .before .before .before .before .before .before .before .before .before .pre .0) (c .before .before .before .before .before .before .before .before .before .before .before .before .before .before .before .before .before .before .before .before .args .request) _ _ (c .before .before .before .before .before .before .before .before .before .before .before .least2 .ensures ∙ ap (min (c .before .before .before .before .before .before .before .before .before .before .before .before .before .before .before .before .before .before .before .before .args .request)) (c .before .before .before .before .before .before .before .before .before .before .before .before .least .ensures)) (c .before .before .before .before .before .before .before .before .before .before .before .before .before .before .before .before .before .before .before .before .args .d) (c .before .before .before .before .before .before .before .before .before .before .before .before .before .before .before .before .before .before .before .before .args .ignored) _ _ _ _ _ _ _ (c .before .before .before .before .before .before .before .before .before .before .before .before .before .before .if1 .left) (c .before .before .before .before .before .before .before .before .base .ensures) (c .hand .ensures) (c .before .before .before .before .before .before .before .before .before .before .short-or .ensures) (c .before .before .before .before .before .before .before .before .before .told .ensures) (c .before .before .before .before .tell-received .ensures)
 
 pub receive-spec : {M : Type 1} → statement M
 receive-spec =
@@ -93,7 +83,7 @@ receive-spec =
     cast-k
     mul-c
     array-copy-out-c
-    tell-problem-requires
+    end-problem-requires
     same-length
     returns
     cast-held
