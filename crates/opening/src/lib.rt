@@ -1,0 +1,123 @@
+// Step 9 of OPEN CHANNEL: its own checks, the opening and the response.
+use command::Place;
+use command::allowed;
+use own::end_problem;
+use own::end_with;
+use own::short_or;
+use pool::Pool;
+use responses::tell_opened;
+use rules::ChannelNumber;
+use rules::Details;
+use rules::Link;
+use session::Channel;
+use session::Ended;
+use session::Ledger;
+use session::Lent;
+use session::free_cells;
+use session::open_channel;
+ghost use mathlib.Core.Path.{_≡_};
+ghost use mathlib.Core.Bool.{true};
+ghost use mathlib.Core.List.{List};
+ghost use mathlib.Core.Option.{Option};
+ghost use Prim.Native.Nat.{ℕ, _≤_};
+ghost use lib.ListN.{length};
+ghost use Rattle.rules.specs.declared.Link.the-variants.{NotYet, Established};
+ghost use Rattle.rules.specs.Checks.{_⇒_else_};
+ghost use Rattle.rules.specs.Profile.{channels};
+ghost use Rattle.rules.specs.Table.{bearerFits};
+ghost use Rattle.rules.specs.Reading.{Bearer, Transport, bearerIn};
+ghost use Rattle.rules.specs.Own.{bit1, served, isTcp, openBefore, opening};
+ghost use Rattle.session.specs.Picture.{GoodIn, shown, chansIn};
+ghost use Rattle.session.specs.Calls.{Answers};
+ghost use Rattle.own.specs.Replies.{told};
+
+// The number N of channels that the profile allows.
+fn channels_of(profile: [u8; 13]) -> usize
+    ensures { λ r. ⌜ r ≡ channels profile ⌝ }
+{
+    (profile[12] / 32 % 8) as usize
+}
+
+// Whether a bearer of this type is served: 03, or 02 if the profile allows it.
+fn serves(profile: [u8; 13], kind: u8) -> bool
+    ensures { λ r. ⌜ ((b : Bearer) → b .kind ≡ kind → r ≡ served profile b) ⌝ }
+{
+    match kind {
+        0x03 => true,
+        0x02 => allowed(profile, Place { byte: 13, bit: 2 }),
+        _ => false,
+    }
+}
+
+// How many channels, of the first n, stand open before the first that does not; n where none is unused.
+fn open_before(channels: [Channel; 7], n: usize) -> usize
+    requires { ⌜ (length channels ≡ 7) × (n ≤ 7) ⌝ }
+    ensures { λ r. ⌜ ((p : List ℕ) → r ≡ openBefore n (chansIn channels p)) ⌝ }
+{
+    let mut k: usize = 0;
+    while k < n {
+        let c = channels[k];
+        if c.grant < 1 {
+            return k;
+        }
+        k += 1;
+    }
+    k
+}
+
+// The link of a channel that is opened: established if qualifier bit 1 is set, else not yet.
+fn link_of(qualifier: u8) -> Link
+    ensures { λ r. ⌜ r ≡ (bit1 qualifier ⇒ Established else NotYet) ⌝ }
+{
+    if qualifier % 2 == 1 {
+        return Link::Established;
+    }
+    Link::NotYet
+}
+
+// OPEN CHANNEL: the lowest unused number is opened; 07 if it grants less than asked.
+pub fn open(
+    ledger: Ledger,
+    pool: &mut [u8; 8192],
+    bearer: &[u8],
+    size: u16,
+    tcp: bool,
+    d: Details,
+    ignored: bool,
+    out: &mut [u8],
+) -> Lent
+    requires { ⌜ GoodIn ledger (now pool) ⌝ }
+    requires { ⌜ (255 ≤ length (now out)) × (bearerFits (now bearer) ≡ true) ⌝ }
+    ensures { λ r. ⌜ ((t : Option Transport) → isTcp t ≡ tcp → Answers (told d (opening (shown ledger (now (pool .entry))) (d .qualifier) (bearerIn (now (bearer .entry))) size t ignored)) (r .ledger) (now (pool .exit)) (r .ended) (now (out .entry)) (now (out .exit))) ⌝ }
+{
+    let profile = ledger.profile;
+    let channels = ledger.channels;
+    if !serves(profile, bearer[0]) {
+        return end_with(ledger, out, d, 0x30);
+    }
+    if !tcp {
+        return end_problem(ledger, out, d, 0x06);
+    }
+    if size < 1 {
+        return end_problem(ledger, out, d, 0x04);
+    }
+    let n = channels_of(profile);
+    let k = open_before(channels, n);
+    if k == n {
+        return end_problem(ledger, out, d, 0x01);
+    }
+    let free = free_cells(channels);
+    if free < 2 {
+        return end_problem(ledger, out, d, 0x04);
+    }
+    let grant = Pool::grant(size, free);
+    let number = ChannelNumber((k + 1) as u8);
+    let link = link_of(d.qualifier);
+    let next = open_channel(ledger, pool, number, grant, link);
+    let result = short_or(grant < size, 0x07, ignored);
+    let count = tell_opened(out, d, result, number, link, bearer, grant);
+    Lent {
+        ledger: next,
+        ended: Ended::Wrote(count),
+    }
+}
