@@ -1,0 +1,246 @@
+// Lines of text: gathered from chunks, read as frames and calls, and printed.
+use octets;
+use rules::ChannelNumber;
+use rules::Refusal;
+use session::Ended;
+ghost use mathlib.Core.Path.{_≡_};
+ghost use mathlib.Core.Bool.{true};
+ghost use Prim.Native.Nat.{_+_, _*_, _≤_, _<_};
+ghost use lib.ListN.{length, getD};
+ghost use Rattle.rules.specs.Command.{wrote, refused};
+ghost use Rattle.rules.specs.Lines.{isDigit, digitValue, digitOf, bytesOf, frameOf, callOf, hex};
+ghost use Rattle.octets.specs.Parts.{pasted};
+ghost use Rattle.session.specs.Calls.{overlaid};
+ghost use Rattle.text.specs.Frames.{readable, frameTold, frameBytes};
+ghost use Rattle.text.specs.Calls.{callSpoken};
+ghost use Rattle.text.specs.Prints.{countOf, outcomeOf, lineOf};
+ghost use Rattle.text.specs.Gathers.{Gathers};
+
+// A line as a frame: so many bytes, or unreadable.
+pub enum Frame {
+    Bytes(usize),
+    Unreadable,
+}
+
+// The call that a frame asks for.
+pub enum Spoken {
+    Command,
+    Arrival(ChannelNumber),
+    Take(ChannelNumber, usize),
+    Drop(ChannelNumber),
+    Nothing,
+}
+
+// A line so far: how many of its bytes are kept, the place in the chunk behind what was read, and whether the line is whole.
+pub struct Gathered {
+    pub len: usize,
+    pub next: usize,
+    pub whole: bool,
+}
+
+// Whether a character is a hexadecimal digit, in either case.
+fn is_digit(c: u8) -> bool
+    ensures { λ r. ⌜ r ≡ isDigit c ⌝ }
+{
+    match c {
+        48..=57 => true,
+        65..=70 => true,
+        97..=102 => true,
+        _ => false,
+    }
+}
+
+// What a digit stands for.
+fn digit_value(c: u8) -> u8
+    requires { ⌜ isDigit c ≡ true ⌝ }
+    ensures { λ r. ⌜ r ≡ digitValue c ⌝ }
+{
+    if c <= 57 {
+        return c - 48;
+    }
+    if c <= 70 {
+        return c - 55;
+    }
+    c - 87
+}
+
+// Whether a line is digits in pairs.
+fn readable(line: &[u8]) -> bool
+    ensures { λ r. ⌜ r ≡ readable (bytesOf (now (line .entry))) ⌝ }
+{
+    let mut i: usize = 0;
+    while i < line.len() {
+        if line.len() - i < 2 {
+            return false;
+        }
+        if !is_digit(line[i]) {
+            return false;
+        }
+        if !is_digit(line[i + 1]) {
+            return false;
+        }
+        i += 2;
+    }
+    true
+}
+
+// Reads a line of at most 3200 digits as a frame, whose bytes go to the front of `out`; an unreadable line writes nothing.
+pub fn read_frame(line: &[u8], out: &mut [u8]) -> Frame
+    requires { ⌜ 1600 ≤ length (now out) ⌝ }
+    ensures { λ r. ⌜ r ≡ frameTold (frameOf (now (line .entry))) ⌝ }
+    ensures { λ r. ⌜ now (out .exit) ≡ overlaid (frameBytes (frameOf (now (line .entry)))) (now (out .entry)) ⌝ }
+{
+    if 3200 < line.len() {
+        return Frame::Unreadable;
+    }
+    if !readable(line) {
+        return Frame::Unreadable;
+    }
+    let n = line.len() / 2;
+    let mut i: usize = 0;
+    while i < n {
+        let k = 2 * i;
+        out[i] = 16 * digit_value(line[k]) + digit_value(line[k + 1]);
+        i += 1;
+    }
+    Frame::Bytes(n)
+}
+
+// The take that a frame A1 asks for: four bytes, of which two are a count up to 1500.
+fn read_take(frame: &[u8], n: ChannelNumber) -> Spoken
+    requires { ⌜ (getD (now frame) 0 0 ≡ 0xA1) × (getD (now frame) 1 0 ≡ n .0) ⌝ }
+    ensures { λ r. ⌜ callOf (now (frame .entry)) ≡ callSpoken r (now (frame .entry)) ⌝ }
+{
+    if frame.len() != 4 {
+        return Spoken::Nothing;
+    }
+    let count = 256 * frame[2] as usize + frame[3] as usize;
+    if 1500 < count {
+        return Spoken::Nothing;
+    }
+    Spoken::Take(n, count)
+}
+
+// The call that a frame asks for: D0 a command, A0 an arrival, A1 a take, A2 a drop.
+pub fn read_call(frame: &[u8]) -> Spoken
+    ensures { λ r. ⌜ callOf (now (frame .entry)) ≡ callSpoken r (now (frame .entry)) ⌝ }
+{
+    if frame.len() == 0 {
+        return Spoken::Nothing;
+    }
+    let first = frame[0];
+    if first == 0xD0 {
+        return Spoken::Command;
+    }
+    if frame.len() < 2 {
+        return Spoken::Nothing;
+    }
+    let n = ChannelNumber(frame[1]);
+    if first == 0xA0 {
+        return Spoken::Arrival(n);
+    }
+    if first == 0xA1 {
+        return read_take(frame, n);
+    }
+    if first != 0xA2 {
+        return Spoken::Nothing;
+    }
+    if frame.len() != 2 {
+        return Spoken::Nothing;
+    }
+    Spoken::Drop(n)
+}
+
+// A digit in capitals.
+fn digit(n: u8) -> u8
+    requires { ⌜ n < 16 ⌝ }
+    ensures { λ r. ⌜ r ≡ digitOf n ⌝ }
+{
+    if n < 10 {
+        return n + 48;
+    }
+    n + 55
+}
+
+// Prints bytes in capitals, two digits for each, into `out` from `at` on.
+fn print_bytes(out: &mut [u8], at: usize, bytes: &[u8])
+    requires { ⌜ at + 2 * length (now bytes) ≤ length (now out) ⌝ }
+    ensures { λ _. ⌜ now (out .exit) ≡ pasted (now (out .entry)) at (hex (now (bytes .entry))) ⌝ }
+{
+    let mut i: usize = 0;
+    while i < bytes.len() {
+        let k = 2 * i;
+        out[at + k] = digit(bytes[i] / 16);
+        out[at + (k + 1)] = digit(bytes[i] % 16);
+        i += 1;
+    }
+}
+
+// Prints the line for bytes that were written, and tells the place behind it.
+fn print_written(out: &mut [u8], at: usize, bytes: &[u8]) -> usize
+    requires { ⌜ at + 2 * length (now bytes) + 3 ≤ length (now out) ⌝ }
+    ensures { λ r. ⌜ now (out .exit) ≡ pasted (now (out .entry)) at (lineOf (wrote (now (bytes .entry)))) ⌝ }
+    ensures { λ r. ⌜ r ≡ at + length (lineOf (wrote (now (bytes .entry)))) ⌝ }
+{
+    if bytes.len() == 0 {
+        let none = [45u8, 45, 10];
+        octets::put(out, at, &none);
+        return at + 3;
+    }
+    print_bytes(out, at, bytes);
+    let end = at + 2 * bytes.len();
+    out[end] = 10;
+    end + 1
+}
+
+// Prints the line for a refusal, and tells the place behind it.
+fn print_refusal(out: &mut [u8], at: usize, refusal: Refusal) -> usize
+    requires { ⌜ at + 3 ≤ length (now out) ⌝ }
+    ensures { λ r. ⌜ now (out .exit) ≡ pasted (now (out .entry)) at (lineOf (refused refusal)) ⌝ }
+    ensures { λ r. ⌜ r ≡ at + length (lineOf (refused refusal)) ⌝ }
+{
+    let line = [82u8, refusal.number() + 48, 10];
+    octets::put(out, at, &line);
+    at + 3
+}
+
+// Prints a line into `out` from `at` on: the bytes written, in capitals, "--" if none, or R and the number; tells the place behind it.
+pub fn print(out: &mut [u8], at: usize, ended: Ended, bytes: &[u8]) -> usize
+    requires { ⌜ (countOf ended ≤ length (now bytes)) × (at + 2 * length (now bytes) + 3 ≤ length (now out)) ⌝ }
+    ensures { λ r. ⌜ now (out .exit) ≡ pasted (now (out .entry)) at (lineOf (outcomeOf ended (now (bytes .entry)))) ⌝ }
+    ensures { λ r. ⌜ r ≡ at + length (lineOf (outcomeOf ended (now (bytes .entry)))) ⌝ }
+{
+    match ended {
+        Ended::Wrote(count) => print_written(out, at, &bytes[..count]),
+        Ended::Refused(refusal) => print_refusal(out, at, refusal),
+    }
+}
+
+// Reads a chunk from a place on, up to its first line feed or its end, and keeps up to 3201 bytes of the line.
+pub fn gather(line: &mut [u8], len: usize, chunk: &[u8], from: usize) -> Gathered
+    requires { ⌜ (length (now line) ≡ 3201) × (len ≤ 3201) × (from ≤ length (now chunk)) ⌝ }
+    ensures { λ r. ⌜ Gathers r len (now (chunk .entry)) from (now (line .entry)) (now (line .exit)) ⌝ }
+{
+    let mut kept = len;
+    let mut i = from;
+    while i < chunk.len() {
+        let c = chunk[i];
+        i += 1;
+        if c == 10 {
+            return Gathered {
+                len: kept,
+                next: i,
+                whole: true,
+            };
+        }
+        if kept < 3201 {
+            line[kept] = c;
+            kept += 1;
+        }
+    }
+    Gathered {
+        len: kept,
+        next: i,
+        whole: false,
+    }
+}
