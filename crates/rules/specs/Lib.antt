@@ -13,6 +13,7 @@ pub mod Command
 pub mod Radio
 pub mod Bench
 pub mod Lines
+pub mod Input
 pub mod Run
 pub mod Sound
 pub mod Numbers
