@@ -9,14 +9,13 @@ use native.Mathlib.Omega.{arith}
 use lib.ListN.{length, getD}
 use lib.Dec.{ltb, eqb}
 use borrow.Author.Tests.{lt-ltb, le-ltb, leb-false, eq-eqb, ne-eqb}
-use Rattle.rules.specs.declared.ChannelNumber.{ChannelNumber}
 use Rattle.rules.specs.declared.Details.{Details}
 use Rattle.rules.specs.declared.Link.{Link}
 use Rattle.rules.specs.declared.Link.the-variants.{NotYet, Established}
 use Rattle.rules.specs.Checks.{_⇒_else_, isEmpty}
 use Rattle.rules.specs.Profile.{channels}
 use Rattle.rules.specs.State.{State, Chan, closed, isOpen, chan, withChan, fresh}
-use Rattle.rules.specs.Pool.{cells, promised, unpromised, grantFor}
+use Rattle.rules.specs.Pool.{cells, unpromised, grantFor}
 use Rattle.rules.specs.Table.{bearerFits}
 use Rattle.rules.specs.Reading.{Bearer, Transport, bearerIn}
 use Rattle.rules.specs.Own.{Reply, reply, error, problem, done, opened, bit1, plain, served, isTcp, openBefore, opening}
@@ -69,6 +68,7 @@ first-closed (suc n) (c ∷ cs) h =
 pub numbers : (l : Ledger) (p : List ℕ) → GoodIn l p → Bounds l p (record { 0 = 1 })
 numbers l p g = bounds l p (record { 0 = 1 }) (record { good = g; low = omega arith; high = omega arith })
 
+-- the profile allows at most seven channels
 pub few-channels : (p : List ℕ) (n : ℕ) → n ≡ channels p → n ≤ 7
 unfolding channels
 few-channels p n e = omega arith
@@ -109,7 +109,7 @@ module _ (l : Ledger) (p : List ℕ) (g : GoodIn l p) where
     pub grant-fits : (size w : ℕ) → w ≡ grantFor size f → 2 * cells w ≤ unpromised (shown l p)
     grant-fits size w e = granted size w e .fits
 
--- the checks in their order: what the bearer's type comes to in the code, then the transport, the size, the number and the free cells
+-- the checks in their order: the bearer, of which the code tells x; the transport, o; the size; the number, k of n; the free cells, f
 module _ (l : Ledger) (p : List ℕ) (q : ℕ) (v : List ℕ) (size : ℕ) (t : Option Transport) (i : Bool) (x : Bool)
     (bearer : (b : Bearer) → b .kind ≡ getD v 0 0 → x ≡ served (l .profile) b) (o : Bool) (tcp : isTcp t ≡ o) where
   abbrev a : State
@@ -153,7 +153,7 @@ module _ (l : Ledger) (p : List ℕ) (q : ℕ) (v : List ℕ) (size : ℕ) (t : 
               skip _ _ _ (served-is ∙ s) ∙ skip _ _ _ (ap not tcp ∙ c) ∙ skip _ _ _ asked ∙ skip _ _ _ (ne-eqb _ _ (unused l p g n k en ek u))
               ∙ stop _ _ _ (lt-ltb _ 2 (subst (λ (j : ℕ). j < 2) (free-is l p g f ef) e))
 
-          -- the reply that opens the channel k + 1 with the grant w
+          -- the reply that opens the channel j + 1 with the grant w
           abbrev made : ℕ → ℕ → Link → ℕ → Reply
           made j w link y =
               reply (withChan a (record { 0 = j + 1 }) (fresh w link))
@@ -164,11 +164,11 @@ module _ (l : Ledger) (p : List ℕ) (q : ℕ) (v : List ℕ) (size : ℕ) (t : 
             opens : 2 ≤ f → all ≡ made k w link y
             unfolding opening
             opens e =
-                let x = number-is l p g n k en ek .0 in
-                let m = grant-is l p g f ef size w ew in
+                let ek′ = number-is l p g n k en ek .0 in
+                let ew′ = grant-is l p g f ef size w ew in
                 skip _ _ _ (served-is ∙ s) ∙ skip _ _ _ (ap not tcp ∙ c) ∙ skip _ _ _ asked ∙ skip _ _ _ (ne-eqb _ _ (unused l p g n k en ek u))
                 ∙ skip _ _ _ (le-ltb _ 2 (subst (λ (j : ℕ). 2 ≤ j) (free-is l p g f ef) e))
-                ∙ sym (λ j. made (x j) (m j) (el j) (ltb (m j) size ⇒ 0x07 else plain i)) ∙ ap (made k w link) (sym ey)
+                ∙ sym (λ j. made (ek′ j) (ew′ j) (el j) (ltb (ew′ j) size ⇒ 0x07 else plain i)) ∙ ap (made k w link) (sym ey)
 
             pub open-done :
                 (d : Details) (m : Ledger) (r : List ℕ) (count : ℕ) (before after : List ℕ) → 2 ≤ f → bearerFits v ≡ true →
@@ -176,8 +176,8 @@ module _ (l : Ledger) (p : List ℕ) (q : ℕ) (v : List ℕ) (size : ℕ) (t : 
                 ((b : Bearer) → bearerBytes b ≡ v →
                 Stands (response d (done y (opened (record { number = record { 0 = k + 1 }; link = link }) b w))) count before after) →
                 Answers (told d all) m r (Wrote count) before after
-            open-done d m r count before after e o h t =
+            open-done d m r count before after e fits h stands =
                 let grant = granted l p g f ef size w ew in
                 told-answers d all _ _ m r count before after (opens e) h
                 (opened-good l p (record { 0 = k + 1 }) (numbered l p g n k en ek u) w link m r (grant .capped) (grant .fits) h)
-                (t (bearerIn v) (bearer-back v o))
+                (stands (bearerIn v) (bearer-back v fits))

@@ -8,7 +8,6 @@ use native.Mathlib.Nat.{le-of-suc-le-suc, not-suc-le-zero}
 use native.Mathlib.Numerals.{add-one}
 use lib.ListN.{length, getD}
 use borrow.Author.Tests.{le-leb, lt-leb}
-use Rattle.rules.specs.Checks.{_⇒_else_}
 use Rattle.rules.specs.State.{isOpen}
 use Rattle.rules.specs.Own.{openBefore}
 use Rattle.rules.proofs.Laws.{stop, skip}

@@ -99,16 +99,16 @@ pub fn open(
         return end_problem(ledger, out, d, 0x06);
     }
     if size < 1 {
-        return end_problem(ledger, out, d, 0x04);
+        return end_problem(ledger, out, d, 0x04); // no size
     }
     let n = channels_of(profile);
     let k = open_before(channels, n);
     if k == n {
-        return end_problem(ledger, out, d, 0x01);
+        return end_problem(ledger, out, d, 0x01); // no number
     }
     let free = free_cells(channels);
     if free < 2 {
-        return end_problem(ledger, out, d, 0x04);
+        return end_problem(ledger, out, d, 0x04); // too few cells
     }
     let grant = Pool::grant(size, free);
     let number = ChannelNumber((k + 1) as u8);

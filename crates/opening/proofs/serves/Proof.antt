@@ -1,6 +1,6 @@
 -- `opening::serves` meets its contract: a case for each type.
 -- Assumes nothing.
-use mathlib.Core.Path.{sym, _∙_}
+use mathlib.Core.Path.{_∙_}
 use borrow.Author.Tests.{ne-eqb}
 use Rattle.rules.specs.Profile.{allowsBearer02}
 use Rattle.rules.specs.Own.{served}
