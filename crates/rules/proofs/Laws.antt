@@ -2,13 +2,14 @@
 -- Assumes nothing.
 use Prim.Native.Nat.{ℕ, zero, suc, _+_, _-_, _≤_, _<_}
 use mathlib.Core.Path.{_≡_, refl, sym, subst, ap}
-use mathlib.Core.Logic.{_⊎_, inl, inr}
+use mathlib.Core.Logic.{_⊎_, inl, inr, ⊎-elim}
 use mathlib.Core.Bool.{Bool, true, false, not, _&&_, _||_}
 use mathlib.Core.List.{List, [], _∷_, _++_, map}
 use native.Mathlib.Omega.{arith}
 use lib.ListN.{length, getD, take, drop, set, replicate}
-use borrow.Author.Tests.{lt-ltb, le-ltb, le-leb, lt-leb, eq-eqb, ne-eqb}
-use Rattle.rules.specs.Checks.{_⇒_else_}
+use borrow.Author.Tests.{lt-ltb, le-ltb, le-leb, lt-leb, eq-eqb, ne-eqb, eqb-true}
+use lib.Dec.{eqb}
+use Rattle.rules.specs.Checks.{_⇒_else_, some-of, member}
 use Rattle.rules.specs.Sound.{Each}
 
 -- the test is true: its line answers
@@ -38,9 +39,17 @@ pub both-right : (a b : Bool) → a && b ≡ true → b ≡ true
 both-right true b e = e
 both-right false b e = absurd (mathlib.Core.Bool.false≢true e)
 
+pub both : (a b : Bool) → a ≡ true → b ≡ true → a && b ≡ true
+both true b e f = f
+both false b e f = e
+
 pub either : (a b : Bool) → a || b ≡ true → (a ≡ true) ⊎ (b ≡ true)
 either true b e = inl refl
 either false b e = inr e
+
+pub or-right : (a b : Bool) → b ≡ true → a || b ≡ true
+or-right true b e = refl
+or-right false b e = e
 
 pub either-left : (a b : Bool) → a || b ≡ false → a ≡ false
 either-left true b e = e
@@ -82,3 +91,14 @@ module _ {A : Type 0} (P : A → Type 0) where
   pub each-replicate : (n : ℕ) (x : A) → P x → Each P (replicate n x)
   each-replicate zero x hx = tt
   each-replicate (suc n) x hx = (hx, each-replicate n x hx)
+
+-- what holds of a number holds of one that the test finds equal to it
+pub by-equal : (P : ℕ → Type 0) (n k : ℕ) → eqb n k ≡ true → P k → P n
+by-equal P n k e x = subst P (sym (eqb-true n k e)) x
+
+-- a number that stands in a list has what every element has
+pub each-member : (P : ℕ → Type 0) (n : ℕ) (s : List ℕ) → Each P s → member n s ≡ true → P n
+unfolding member some-of
+each-member P n [] h e = absurd (mathlib.Core.Bool.false≢true e)
+each-member P n (x ∷ s) h e =
+    ⊎-elim (λ e₁. by-equal P n x e₁ (h .0)) (λ e₂. each-member P n s (h .1) e₂) (either (eqb n x) (member n s) e)

@@ -7,3 +7,8 @@ pub mod Sizes
 pub mod Octets
 pub mod Told
 pub mod Walks
+pub mod Forms
+pub mod Meant
+pub mod Heard
+pub mod Asked
+pub mod Bounds

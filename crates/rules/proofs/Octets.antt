@@ -3,19 +3,18 @@
 use Prim.Native.Nat.{ℕ, zero, suc, _+_, _-_, _*_, _/_, _%_, _≤_, _<_, min}
 use mathlib.Core.Path.{_≡_, refl, sym, ap, subst, _∙_}
 use mathlib.Core.Bool.{Bool, true, false, not, _&&_, _||_, false≢true}
-use mathlib.Core.Logic.{⊎-elim}
 use mathlib.Core.List.{List, [], _∷_, _++_, map}
 use mathlib.Core.Option.{Option}
 use native.Mathlib.Omega.{arith}
 use lib.ListN.{length, take, drop, getD, set, replicate, length-append, length-take}
-use lib.Dec.{ltb, leb, eqb}
+use lib.Dec.{ltb, leb}
 use borrow.Author.Tests.{leb-true, ltb-true, ltb-false, eqb-true}
 use Rattle.rules.specs.declared.ChannelNumber.{ChannelNumber}
 use Rattle.rules.specs.declared.Details.{Details}
 use Rattle.rules.specs.declared.Ending.{Ending}
 use Rattle.rules.specs.declared.Link.{Link}
 use Rattle.rules.specs.declared.Link.the-variants.{NotYet, Established, Dropped}
-use Rattle.rules.specs.Checks.{_⇒_else_, isEmpty, some-of, member}
+use Rattle.rules.specs.Checks.{_⇒_else_, isEmpty}
 use Rattle.rules.specs.Words.{channelOf}
 use Rattle.rules.specs.Frames.{LengthRead, len, noLength, ObjectRead, object, faulty, Object, Walk, longLength, lengthAt, lengthBytes, valueAfter, objectAt, goodTag, onward, walkUpTo, walk, objectBytes, written, following, contents}
 use Rattle.rules.specs.Table.{Row, Sifted, sift, valueOf}
@@ -30,7 +29,7 @@ use Rattle.rules.specs.Bench.{causeProper, errorProper}
 use Rattle.rules.specs.Radio.{numbered, arrivalEvent, dropEvent}
 use Rattle.rules.specs.Run.{Call, starting, commanding, arriving, takingOut, droppingLink, step, outcomes, run}
 use Rattle.rules.specs.Sound.{Each, Bytes, Octets, CallBytes, OutcomeBytes, Sound}
-use Rattle.rules.proofs.Laws.{branch, either, both-left, both-right, each-append, each-take, each-drop, each-get, each-set, each-replicate}
+use Rattle.rules.proofs.Laws.{branch, both-right, each-append, each-take, each-drop, each-get, each-set, each-replicate, each-member}
 use Rattle.rules.proofs.Cases.{Opens, Linked, arrival-cases, taking-cases, dropping-cases, command-cases, listing-cases, opening-cases, closing-cases, receiving-cases, sending-cases}
 use Rattle.rules.proofs.Readings.{Read, detailsRead, counted, reading-cases, body-cases, details-told}
 use Rattle.rules.proofs.Sizes.{BearerMeasured, bearer-read, bearer-short, arrival-told, drop-told}
@@ -146,7 +145,7 @@ module _ (s : List ℕ) (h : Bytes s) where
   unfolding commandIn
   body-octets =
       body-cases BodyBytes (detailsRead s .kind) (counted s) (λ _. tt) (λ _. tt)
-      (λ _. bearer-octets (valueOf 0x35 (counted s)) (value-of-octets 0x35)) (λ _. tt) (λ _. tt) (λ _. value-of-octets 0x36) (λ _. tt) tt
+      (λ _. bearer-octets (valueOf 0x35 (counted s)) (value-of-octets 0x35)) (λ _. tt) (λ _. tt) (λ _. value-of-octets 0x36) (λ _. tt) (λ _. tt)
 
 -- what is written is bytes
 
@@ -265,18 +264,12 @@ or-plain : (b : Bool) (r : ℕ) (i : Bool) → r < 256 → (b ⇒ r else plain i
 or-plain b r i h = branch Byte b r (plain i) (λ _. h) (λ _. plain-octet i)
 
 -- a cause is one of a few
-member-octet : (n : ℕ) (s : List ℕ) → Bytes s → member n s ≡ true → n < 256
-unfolding member some-of
-member-octet n [] h e = absurd (false≢true e)
-member-octet n (x ∷ s) h e =
-    ⊎-elim (λ e₁. omega (arith, eqb-true n x e₁, h .0)) (λ e₂. member-octet n s (h .1) e₂) (either (eqb n x) (member n s) e)
-
 cause-octet : (t cause : ℕ) → causeProper t cause ≡ true → cause < 256
 unfolding causeProper
 cause-octet t cause =
-    branch P _ _ _ (λ _ e. member-octet cause _ (omega arith, (omega arith, (omega arith, tt))) e) (λ _.
+    branch P _ _ _ (λ _ e. each-member Byte cause _ (omega arith, (omega arith, (omega arith, tt))) e) (λ _.
     branch P _ _ _ (λ _ e. omega (arith, eqb-true cause 0x03 e)) (λ _.
-    branch P _ _ _ (λ _ e. member-octet cause _ (omega arith, (omega arith, (omega arith, tt))) e) (λ _ e. absurd (false≢true e))))
+    branch P _ _ _ (λ _ e. each-member Byte cause _ (omega arith, (omega arith, (omega arith, tt))) e) (λ _ e. absurd (false≢true e))))
   where
     P : Bool → Type 0
     P b = b ≡ true → cause < 256

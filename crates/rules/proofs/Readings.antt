@@ -97,23 +97,23 @@ module _ (Q : Body → Type 0) (t : ℕ) (os : List Object) where
       (t ≡ 0x42 → Q (receiveData (getD (valueOf 0x37 os) 0 0))) →
       (t ≡ 0x43 → Q (sendData (valueOf 0x36 os))) →
       (t ≡ 0x44 → Q channelStatus) →
-      Q (other t) →
+      (known t ≡ false → Q (other t)) →
       Q (bodyIn t os)
-  unfolding bodyIn
+  unfolding bodyIn known table member some-of
   body-cases f₀₂ f₀₅ f₄₀ f₄₁ f₄₂ f₄₃ f₄₄ f =
-      branch Q _ _ _ (λ e. f₀₂ (eqb-true _ _ e)) (λ _.
-      branch Q _ _ _ (λ e. f₀₅ (eqb-true _ _ e)) (λ _.
-      branch Q _ _ _ (λ e. f₄₀ (eqb-true _ _ e)) (λ _.
-      branch Q _ _ _ (λ e. f₄₁ (eqb-true _ _ e)) (λ _.
-      branch Q _ _ _ (λ e. f₄₂ (eqb-true _ _ e)) (λ _.
-      branch Q _ _ _ (λ e. f₄₃ (eqb-true _ _ e)) (λ _.
-      branch Q _ _ _ (λ e. f₄₄ (eqb-true _ _ e)) (λ _. f)))))))
+      branch Q _ _ _ (λ e. f₀₂ (eqb-true _ _ e)) (λ e₀₂.
+      branch Q _ _ _ (λ e. f₀₅ (eqb-true _ _ e)) (λ e₀₅.
+      branch Q _ _ _ (λ e. f₄₀ (eqb-true _ _ e)) (λ e₄₀.
+      branch Q _ _ _ (λ e. f₄₁ (eqb-true _ _ e)) (λ e₄₁.
+      branch Q _ _ _ (λ e. f₄₂ (eqb-true _ _ e)) (λ e₄₂.
+      branch Q _ _ _ (λ e. f₄₃ (eqb-true _ _ e)) (λ e₄₃.
+      branch Q _ _ _ (λ e. f₄₄ (eqb-true _ _ e)) (λ e₄₄. f (rw (e₀₂, e₀₅, e₄₀, e₄₁, e₄₂, e₄₃, e₄₄)))))))))
 
 -- the command that was read has the details that its bytes tell
 kind-in : (t : ℕ) (os : List Object) → kindOf (bodyIn t os) ≡ t
 unfolding kindOf
 kind-in t os =
-    body-cases (λ (b : Body). kindOf b ≡ t) t os (λ e. sym e) (λ e. sym e) (λ e. sym e) (λ e. sym e) (λ e. sym e) (λ e. sym e) (λ e. sym e) refl
+    body-cases (λ (b : Body). kindOf b ≡ t) t os (λ e. sym e) (λ e. sym e) (λ e. sym e) (λ e. sym e) (λ e. sym e) (λ e. sym e) (λ e. sym e) (λ _. refl)
 
 pub details-told : (d : Details) (os : List Object) → detailsOf (commandIn d os) ≡ d
 unfolding detailsOf commandIn

@@ -115,16 +115,23 @@ statuses-short [] h =
     none-short
 statuses-short (s ∷ ss) h = let x = status-objects (s ∷ ss) in omega arith
 
--- a bearer that is served has at most seven bytes
-bearer-by : (two three a : Bool) (l : ℕ) → three || (two && a) ≡ true → (two ⇒ eqb l 7 else three ⇒ eqb l 1 else true) ≡ true → l ≤ 7
+-- a bearer that is served has seven bytes for type 02, or one for type 03
+bearer-by :
+    (P : Type 0) (two three a : Bool) (l : ℕ) → three || (two && a) ≡ true → (two ⇒ eqb l 7 else three ⇒ eqb l 1 else true) ≡ true →
+    (two ≡ true → l ≡ 7 → P) → (three ≡ true → l ≡ 1 → P) → P
 unfolding _⇒_else_
-bearer-by true three a l s e = omega (arith, eqb-true l 7 e)
-bearer-by false true a l s e = omega (arith, eqb-true l 1 e)
-bearer-by false false a l s e = absurd (false≢true s)
+bearer-by P true three a l s e f g = f refl (eqb-true l 7 e)
+bearer-by P false true a l s e f g = g refl (eqb-true l 1 e)
+bearer-by P false false a l s e f g = absurd (false≢true s)
+
+pub bearer-lengths :
+    (P : Type 0) (p : List ℕ) (b : Bearer) → served p b ≡ true → bearerFits (bearerBytes b) ≡ true →
+    (eqb (b .kind) 0x02 ≡ true → length (bearerBytes b) ≡ 7 → P) → (eqb (b .kind) 0x03 ≡ true → length (bearerBytes b) ≡ 1 → P) → P
+unfolding served bearerFits bearerBytes isEmpty _⇒_else_
+bearer-lengths P p b = bearer-by P (eqb (b .kind) 2) (eqb (b .kind) 3) (allowsBearer02 p) (suc (length (b .parameters)))
 
 pub bearer-short : (p : List ℕ) (b : Bearer) → served p b ≡ true → bearerFits (bearerBytes b) ≡ true → length (bearerBytes b) ≤ 7
-unfolding served bearerFits bearerBytes isEmpty _⇒_else_
-bearer-short p b s e = bearer-by (eqb (b .kind) 2) (eqb (b .kind) 3) (allowsBearer02 p) (suc (length (b .parameters))) s e
+bearer-short p b s e = bearer-lengths (length (bearerBytes b) ≤ 7) p b s e (λ _ l. omega arith) (λ _ l. omega arith)
 
 -- a command that was read has a bearer of its length
 abbrev pub BearerMeasured : Body → Type 0
@@ -159,7 +166,7 @@ bearer-read p s h =
     bearer-in (valueOf 0x35 (counted s))
     (bearer-length (valueOf 0x35 (counted s))
     (value-fits 0x35 (counted s) (bearer-there (counted s) (subst (λ (t : ℕ). complete (rowOf t) (counted s) ≡ true) e (h .whole))) (h .lengths))))
-    (λ _. tt) (λ _. tt) (λ _. tt) (λ _. tt) tt
+    (λ _. tt) (λ _. tt) (λ _. tt) (λ _. tt) (λ _. tt)
 
 -- every command's result is short
 abbrev After : Reply → Type 0

@@ -1,0 +1,141 @@
+-- What the bench writes, the modem reads as the same record.
+-- Assumes nothing.
+use Prim.Native.Nat.{ℕ, suc}
+use mathlib.Core.Path.{_≡_, refl, ap, subst, _∙_}
+use mathlib.Core.Logic.{⊎-elim}
+use mathlib.Core.Bool.{Bool, true, false, not, _&&_, false≢true}
+use mathlib.Core.List.{List, [], _∷_}
+use mathlib.Core.Option.{none, some}
+use native.Mathlib.Omega.{arith}
+use lib.ListN.{length, drop}
+use lib.Dec.{eqb}
+use borrow.Author.Tests.{eq-eqb, eqb-true}
+use Rattle.rules.specs.declared.Refusal.{Refusal}
+use Rattle.rules.specs.Checks.{_⇒_else_, isEmpty, every, some-of, occurrences, member}
+use Rattle.rules.specs.Frames.{Object, len, lengthAt, objectBytes, written, fills, following, framed, contents, frame}
+use Rattle.rules.specs.Table.{table, known, rowAmong, rowOf, times, sift, present, valueOf, complete, bearerFits, lengthFits, measured}
+use Rattle.rules.specs.Profile.{allowsType}
+use Rattle.rules.specs.Reading.{wrong, asked, reading, readObjects, Command, Body, Bearer, moreTime, eventList, openChannel, closeChannel, receiveData, sendData, channelStatus, other, kindOf, detailsOf, detailsIn, bodyIn, commandIn, addressed, isFault, startsWithDetails}
+use Rattle.rules.specs.Written.{flagged, detailsBytes, bearerBytes, pairBytes}
+use Rattle.rules.specs.Command.{Outcome, wrote, refused}
+use Rattle.rules.specs.Bench.{bearerProper, bodyProper, transportObjects, bodyObjects, commandObjects, benchWrite}
+use Rattle.rules.specs.Sound.{Each}
+use Rattle.rules.proofs.Laws.{branch, stop, skip, not-not, both-left, both-right, either, by-equal}
+use Rattle.rules.proofs.Forms.{length-back, Named, walk-written, pair-back, bearer-back, transport-back}
+
+-- a frame is read as the bytes of its objects
+frame-back : (os : List Object) → lengthAt (drop 1 (frame os)) ≡ len (length (written os)) (written os)
+unfolding frame
+frame-back os = length-back (length (written os)) (written os)
+
+frame-framed : (os : List Object) → framed (frame os) ≡ true
+unfolding framed frame fills
+frame-framed os = ap fills (frame-back os) ∙ eq-eqb (length (written os)) (length (written os)) refl
+
+frame-contents : (os : List Object) → contents (frame os) ≡ written os
+unfolding contents following
+frame-contents os = ap following (frame-back os)
+
+frame-read : (p : List ℕ) (os : List Object) → reading p (frame os) ≡ readObjects p (written os)
+unfolding reading
+frame-read p os = skip _ _ _ (rw (frame-framed os)) ∙ ap (readObjects p) (frame-contents os)
+
+-- a bearer that the bench writes has its length
+empty-length : (s : List ℕ) → isEmpty s ≡ true → length s ≡ 0
+unfolding isEmpty
+empty-length [] e = refl
+empty-length (x ∷ s) e = absurd (false≢true e)
+
+bearer-fits : (b : Bearer) → bearerProper b ≡ true → bearerFits (bearerBytes b) ≡ true
+unfolding bearerProper bearerFits bearerBytes isEmpty
+bearer-fits b e =
+    let two = eqb (b .kind) 0x02 in
+    let three = eqb (b .kind) 0x03 in
+    let l = length (b .parameters) in
+    let six = eqb l 6 in
+    let none-there = isEmpty (b .parameters) in
+    skip _ _ _ refl
+    ∙ ⊎-elim
+    (λ q. let n = eqb-true l 6 (both-right two six q) in stop _ _ _ (both-left two six q) ∙ eq-eqb (suc l) 7 (omega arith))
+    (λ q.
+    let n = empty-length (b .parameters) (both-right three none-there q) in
+    by-equal (λ (k : ℕ). (eqb k 0x02 ⇒ eqb (suc l) 7 else eqb k 0x03 ⇒ eqb (suc l) 1 else true) ≡ true) (b .kind) 0x03 (both-left three none-there q)
+    (skip _ _ _ refl ∙ stop _ _ _ refl ∙ eq-eqb (suc l) 1 (omega arith)))
+    (either (two && six) (three && none-there) e)
+
+-- all objects that the bench writes count, with their lengths, and the values are read as they were
+record Kept (os : List Object) (b : Body) : Type 0 where
+  kind : known (kindOf b) ≡ true
+  named : Each Named os
+  counts : sift (rowOf (kindOf b)) [] os ≡ record { counting = os; unexpected = [] }
+  whole : complete (rowOf (kindOf b)) os ≡ true
+  lengths : measured os ≡ true
+  values : bodyIn (kindOf b) os ≡ b
+
+kept :
+    (n k q from to : ℕ) (b : Body) → bodyProper b ≡ true →
+    Kept (flagged 0x01 (n ∷ k ∷ q ∷ []) ∷ flagged 0x02 (from ∷ to ∷ []) ∷ bodyObjects b) b
+unfolding bodyObjects transportObjects bodyProper pairBytes known kindOf table member some-of sift rowOf rowAmong times occurrences complete every present measured lengthFits valueOf bodyIn _⇒_else_
+kept n k q from to moreTime e = record { kind = refl; named = omega arith; counts = refl; whole = refl; lengths = refl; values = refl }
+kept n k q from to (eventList es) e = record { kind = refl; named = omega arith; counts = refl; whole = refl; lengths = refl; values = refl }
+kept n k q from to (openChannel b size none) e =
+    record {
+      kind = refl;
+      named = omega arith;
+      counts = refl;
+      whole = refl;
+      lengths = rw (bearer-fits b e);
+      values = λ i. openChannel (bearer-back b i) (pair-back size i) none;
+    }
+kept n k q from to (openChannel b size (some t)) e =
+    record {
+      kind = refl;
+      named = omega arith;
+      counts = refl;
+      whole = refl;
+      lengths = rw (bearer-fits b e);
+      values = λ i. openChannel (bearer-back b i) (pair-back size i) (some (transport-back t i));
+    }
+kept n k q from to closeChannel e = record { kind = refl; named = omega arith; counts = refl; whole = refl; lengths = refl; values = refl }
+kept n k q from to (receiveData m) e = record { kind = refl; named = omega arith; counts = refl; whole = refl; lengths = refl; values = refl }
+kept n k q from to (sendData s) e = record { kind = refl; named = omega arith; counts = refl; whole = refl; lengths = refl; values = refl }
+kept n k q from to channelStatus e = record { kind = refl; named = omega arith; counts = refl; whole = refl; lengths = refl; values = refl }
+kept n k q from to (other t) e = absurd (false≢true e)
+
+-- a test and its lines, the other way round
+turned : {A : Type 0} (b : Bool) (x y : A) → (not b ⇒ x else y) ≡ (b ⇒ y else x)
+unfolding _⇒_else_
+turned true x y = refl
+turned false x y = refl
+
+-- the objects that the bench writes are read as its record
+objects-read :
+    (p : List ℕ) (c : Command) → addressed (kindOf (c .body)) (c .source) (c .destination) ≡ true → bodyProper (c .body) ≡ true →
+    readObjects p (written (commandObjects c)) ≡ (allowsType p (kindOf (c .body)) ⇒ asked c false else wrong (detailsOf c) 0x30)
+unfolding readObjects commandObjects written objectBytes isEmpty startsWithDetails isFault detailsBytes detailsOf detailsIn valueOf some-of commandIn _⇒_else_
+objects-read p c a e =
+    let k = kept (c .number) (kindOf (c .body)) (c .qualifier) (c .source .0) (c .destination .0) (c .body) e in
+    rw (walk-written (commandObjects c) (k .named), k .kind, k .counts, k .whole, k .lengths, k .values, a)
+    (turned (allowsType p (kindOf (c .body))) (wrong (detailsOf c) 0x30) (asked c false))
+
+-- a refusal writes nothing
+unwritten : (r : Refusal) (s : List ℕ) → refused r ≡ wrote s → ⊥
+unwritten r s e = false≢true (cc)
+
+-- the modem's reading of what the bench writes is the same record, with nothing ignored; a type that the profile forbids is told 30
+pub read-back :
+    (p : List ℕ) (buffer : ℕ) (c : Command) (s : List ℕ) → benchWrite buffer c ≡ wrote s →
+    reading p s ≡ (allowsType p (kindOf (c .body)) ⇒ asked c false else wrong (detailsOf c) 0x30)
+unfolding benchWrite
+read-back p buffer c s =
+    branch P _ _ _ (λ _ e. absurd (unwritten _ s e)) (λ _.
+    branch P _ _ _ (λ _ e. absurd (unwritten _ s e)) (λ a.
+    branch P _ _ _ (λ _ e. absurd (unwritten _ s e)) (λ b e.
+    let is : frame (commandObjects c) ≡ s = cc in
+    subst R is (frame-read p (commandObjects c) ∙ objects-read p c (not-not _ a) (not-not _ b)))))
+  where
+    R : List ℕ → Type 0
+    R x = reading p x ≡ (allowsType p (kindOf (c .body)) ⇒ asked c false else wrong (detailsOf c) 0x30)
+
+    P : Outcome → Type 0
+    P x = x ≡ wrote s → R s
