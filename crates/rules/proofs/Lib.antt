@@ -12,3 +12,8 @@ pub mod Meant
 pub mod Heard
 pub mod Asked
 pub mod Bounds
+pub mod Matching
+pub mod Histories
+pub mod Answers
+pub mod Demands
+pub mod Openings

@@ -110,7 +110,7 @@ same-sound a n c h e hc g =
     with-sound a n c h (open-place (a .chans) (n .0 - 1) e) hc (let k = ap cells g in omega arith)
 
 -- at most the first n stand open before an unused one, and N is at most 7
-open-before-le : (n : ℕ) (cs : List Chan) → openBefore n cs ≤ n
+pub open-before-le : (n : ℕ) (cs : List Chan) → openBefore n cs ≤ n
 unfolding openBefore
 open-before-le zero cs = omega arith
 open-before-le (suc n) [] = omega arith

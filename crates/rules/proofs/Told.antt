@@ -64,7 +64,7 @@ pub chan-other : (a : State) (n m : ChannelNumber) (c : Chan) → (m .0 - 1 ≡ 
 unfolding chan withChan
 chan-other a n m c h = getD-set-other (a .chans) (n .0 - 1) (m .0 - 1) c closed h
 
-open-changed : (a : State) (n : ChannelNumber) (c : Chan) → isOpen (chan a n) ≡ true → chan (withChan a n c) n ≡ c
+pub open-changed : (a : State) (n : ChannelNumber) (c : Chan) → isOpen (chan a n) ≡ true → chan (withChan a n c) n ≡ c
 unfolding chan
 open-changed a n c e = chan-changed a n c (open-place (a .chans) (n .0 - 1) e)
 

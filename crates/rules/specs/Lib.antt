@@ -15,5 +15,7 @@ pub mod Bench
 pub mod Lines
 pub mod Input
 pub mod Run
+pub mod History
+pub mod Demands
 pub mod Sound
 pub mod Numbers

@@ -1,0 +1,152 @@
+-- What anyone outside can see: calls and how they ended, and what they tell of one channel since its latest opening.
+use Prim.Native.Nat.{ℕ, _+_, _-_, min}
+use mathlib.Core.Bool.{Bool, true, false}
+use mathlib.Core.List.{List, [], _∷_, _++_}
+use lib.ListN.{length, take, drop}
+use lib.Dec.{eqb}
+use Rattle.rules.specs.declared.ChannelNumber.{ChannelNumber}
+use Rattle.rules.specs.declared.Link.{Link}
+use Rattle.rules.specs.declared.Link.the-variants.{NotYet, Dropped}
+use Rattle.rules.specs.Checks.{_⇒_else_}
+use Rattle.rules.specs.Words.{channelOf}
+use Rattle.rules.specs.Frames.{walk, contents}
+use Rattle.rules.specs.Table.{rowOf, sift, valueOf}
+use Rattle.rules.specs.State.{State, establish}
+use Rattle.rules.specs.Reading.{Body, Command, moreTime, eventList, openChannel, closeChannel, receiveData, sendData, channelStatus, other, kindOf, detailsIn, commandIn}
+use Rattle.rules.specs.Own.{Further, Result, nothing, opened, received, sent, statuses, error, problem, done, bit1}
+use Rattle.rules.specs.Command.{Outcome, wrote, refused}
+use Rattle.rules.specs.Bench.{Told, told, untold, benchRead}
+use Rattle.rules.specs.Run.{Call, starting, commanding, arriving, takingOut, droppingLink, step}
+
+-- a call and how it ended
+pub record Exchange : Type 0 where
+  pub call : Call
+  pub outcome : Outcome
+
+-- a channel since its latest opening: whether it is open, the grant and the link told,
+-- the bytes accepted and handed out each way, and how many of those to send were readied
+pub record History : Type 0 where
+  pub stands : Bool
+  pub grant : ℕ
+  pub link : Link
+  pub arrived : List ℕ
+  pub handed : List ℕ
+  pub stored : List ℕ
+  pub taken : List ℕ
+  pub readied : ℕ
+
+-- nothing is open, and nothing was accepted
+unfoldable pub ended : History
+ended =
+    record { stands = false; grant = 0; link = NotYet; arrived = []; handed = []; stored = []; taken = []; readied = 0 }
+
+-- an opening was told
+unfoldable pub openedWith : ℕ → Link → History
+openedWith g l =
+    record { stands = true; grant = g; link = l; arrived = []; handed = []; stored = []; taken = []; readied = 0 }
+
+-- bytes arrived; bytes were handed out to the card
+unfoldable pub arrivedIn : History → List ℕ → History
+arrivedIn h s =
+    record { stands = h .stands; grant = h .grant; link = h .link; arrived = h .arrived ++ s; handed = h .handed; stored = h .stored; taken = h .taken; readied = h .readied }
+
+unfoldable pub handedIn : History → List ℕ → History
+handedIn h s =
+    record { stands = h .stands; grant = h .grant; link = h .link; arrived = h .arrived; handed = h .handed ++ s; stored = h .stored; taken = h .taken; readied = h .readied }
+
+-- the card stored bytes; if at once, all bytes stored are readied and a link not yet established is established
+unfoldable pub storedIn : History → List ℕ → History
+storedIn h s =
+    record { stands = h .stands; grant = h .grant; link = h .link; arrived = h .arrived; handed = h .handed; stored = h .stored ++ s; taken = h .taken; readied = h .readied }
+
+unfoldable pub readiedIn : History → History
+readiedIn h =
+    record { stands = h .stands; grant = h .grant; link = establish (h .link); arrived = h .arrived; handed = h .handed; stored = h .stored; taken = h .taken; readied = length (h .stored) }
+
+-- the radio took bytes; the radio dropped the link
+unfoldable pub takenIn : History → List ℕ → History
+takenIn h s =
+    record { stands = h .stands; grant = h .grant; link = h .link; arrived = h .arrived; handed = h .handed; stored = h .stored; taken = h .taken ++ s; readied = h .readied }
+
+unfoldable pub droppedIn : History → History
+droppedIn h =
+    record { stands = h .stands; grant = h .grant; link = Dropped; arrived = h .arrived; handed = h .handed; stored = h .stored; taken = h .taken; readied = h .readied }
+
+-- the command that bytes say, whatever the profile allows
+unfoldable pub commandSeen : List ℕ → Command
+commandSeen s =
+    let os = walk (contents s) .objects in
+    let d = detailsIn (valueOf 0x01 os) in
+    commandIn d (sift (rowOf (d .kind)) [] os .counting)
+
+-- the data of a SEND DATA
+unfoldable pub dataOf : Body → List ℕ
+dataOf moreTime = []
+dataOf (eventList es) = []
+dataOf (openChannel b size t) = []
+dataOf closeChannel = []
+dataOf (receiveData n) = []
+dataOf (sendData s) = s
+dataOf channelStatus = []
+dataOf (other t) = []
+
+-- whether a command closes its channel
+unfoldable pub closes : Body → Bool
+closes b = eqb (kindOf b) 0x41
+
+-- the two numbers are the same
+abbrev pub sameNumber : ChannelNumber → ChannelNumber → Bool
+sameNumber n m = eqb (n .0) (m .0)
+
+-- what an answer to a command tells of the channel n
+unfoldable pub answerTells : ChannelNumber → History → Command → Result → History
+answerTells n h c (done x (opened s b g)) = sameNumber n (s .number) ⇒ openedWith g (s .link) else h
+answerTells n h c (done x (received s left)) = sameNumber n (channelOf (c .destination)) ⇒ handedIn h s else h
+answerTells n h c (done x (sent room)) =
+    let k = storedIn h (dataOf (c .body)) in
+    sameNumber n (channelOf (c .destination)) ⇒ (bit1 (c .qualifier) ⇒ readiedIn k else k) else h
+answerTells n h c (done x nothing) = closes (c .body) ⇒ (sameNumber n (channelOf (c .destination)) ⇒ ended else h) else h
+answerTells n h c (done x (statuses ss)) = h
+answerTells n h c (error e) = h
+answerTells n h c (problem cause) = h
+
+-- the answer is read as the bench reads it
+unfoldable pub heardTells : ChannelNumber → History → Command → Told → History
+heardTells n h c (told r) = answerTells n h c (r .result)
+heardTells n h c (untold r) = h
+
+-- what a call and how it ended tell of the channel n; a refusal tells nothing
+unfoldable pub tells : ChannelNumber → History → Call → Outcome → History
+tells n h (starting p) o = ended
+tells n h (commanding buffer s) (wrote t) = heardTells n h (commandSeen s) (benchRead t)
+tells n h (arriving buffer m s) (wrote t) = sameNumber n m ⇒ arrivedIn h s else h
+tells n h (takingOut buffer m) (wrote t) = sameNumber n m ⇒ takenIn h t else h
+tells n h (droppingLink buffer m) (wrote t) = sameNumber n m ⇒ droppedIn h else h
+tells n h (commanding buffer s) (refused r) = h
+tells n h (arriving buffer m s) (refused r) = h
+tells n h (takingOut buffer m) (refused r) = h
+tells n h (droppingLink buffer m) (refused r) = h
+
+-- the history of the channel n after a list of exchanges
+unfoldable pub historyFrom : ChannelNumber → History → List Exchange → History
+historyFrom n h [] = h
+historyFrom n h (e ∷ es) = historyFrom n (tells n h (e .call) (e .outcome)) es
+
+unfoldable pub history : ChannelNumber → List Exchange → History
+history n es = historyFrom n ended es
+
+-- what is seen of a run
+unfoldable pub seenFrom : State → List Call → List Exchange
+seenFrom a [] = []
+seenFrom a (c ∷ cs) = let r = step a c in record { call = c; outcome = r .outcome } ∷ seenFrom (r .state) cs
+
+-- how many bytes a history leaves held each way, and how many of those to send are ready
+unfoldable pub heldToReceive : History → ℕ
+heldToReceive h = length (h .arrived) - length (h .handed)
+
+unfoldable pub heldToSend : History → ℕ
+heldToSend h = length (h .stored) - length (h .taken)
+
+-- the oldest bytes that are ready, as many as fit
+unfoldable pub oldestReady : History → ℕ → List ℕ
+oldestReady h buffer = take (min buffer (h .readied - length (h .taken))) (drop (length (h .taken)) (h .stored))
