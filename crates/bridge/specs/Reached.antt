@@ -1,0 +1,54 @@
+-- Records that the code handed back: each follows from the one before by the contract of a public call.
+use Prim.Native.Nat.{ℕ}
+use mathlib.Core.Path.{_≡_}
+use mathlib.Core.List.{List, [], _∷_, map}
+use lib.ListN.{length}
+use Rattle.rules.specs.declared.ChannelNumber.{ChannelNumber}
+use Rattle.rules.specs.State.{start}
+use Rattle.rules.specs.Command.{Outcome, wrote, Answer, command}
+use Rattle.rules.specs.Radio.{arrival, taking, dropping}
+use Rattle.rules.specs.Run.{Call, starting, commanding, arriving, takingOut, droppingLink}
+use Rattle.rules.specs.History.{Exchange}
+use Rattle.session.specs.declared.Session.{Session}
+use Rattle.session.specs.declared.Ended.{Ended}
+use Rattle.session.specs.Picture.{Good, Shows, view}
+use Rattle.session.specs.Calls.{Answers}
+use Rattle.text.specs.Prints.{outcomeOf}
+
+-- a call with a buffer of so many bytes left the record t, and this could be seen of it
+pub record Left (x : Answer) (buffer : ℕ) (t : Session) (o : Outcome) : Type 0 where
+  pub before : List ℕ
+  pub after : List ℕ
+  pub ended : Ended
+  pub size : length before ≡ buffer
+  pub answers : Answers x (t .ledger) (t .pool) ended before after
+  pub seen : o ≡ outcomeOf ended after
+
+-- a start left the record t
+pub record Started (p : List ℕ) (t : Session) (o : Outcome) : Type 0 where
+  pub shows : Shows (start p) (t .ledger) (t .pool)
+  pub good : Good t
+  pub seen : o ≡ wrote []
+
+-- the record t follows from the record s by the contract of a call, which ended so
+abbrev pub Called : Session → Call → Session → Outcome → Type 0
+Called s (starting p) t o = Started p t o
+Called s (commanding buffer c) t o = Left (command (view s) buffer c) buffer t o
+Called s (arriving buffer n c) t o = Left (arrival (view s) buffer n c) buffer t o
+Called s (takingOut buffer n) t o = Left (taking (view s) buffer n) buffer t o
+Called s (droppingLink buffer n) t o = Left (dropping (view s) buffer n) buffer t o
+
+-- the record t follows from s by these calls, which ended so
+abbrev pub Runs : Session → List Exchange → Session → Type 0
+Runs s [] t = s ≡ t
+Runs s (e ∷ es) t = (m : Session) × Called s (e .call) m (e .outcome) × Runs m es t
+
+-- the calls of a list of exchanges
+abbrev pub callsOf : List Exchange → List Call
+callsOf es = map (λ (e : Exchange). e .call) es
+
+-- the record came from a start with this profile, and from these calls
+pub record Reached (p : List ℕ) (es : List Exchange) (s : Session) : Type 0 where
+  pub first : Session
+  pub begun : Started p first (wrote [])
+  pub run : Runs first es s
