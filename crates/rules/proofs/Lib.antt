@@ -17,3 +17,4 @@ pub mod Histories
 pub mod Answers
 pub mod Demands
 pub mod Openings
+pub mod Input

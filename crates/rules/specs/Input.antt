@@ -1,5 +1,6 @@
 -- "The line program", from the bytes of its input: lines gathered byte by byte, and what is printed on the way.
 use Prim.Native.Nat.{ℕ}
+use mathlib.Core.Path.{_≡_, refl}
 use mathlib.Core.Bool.{Bool, true, false}
 use mathlib.Core.List.{List, [], _∷_, _++_}
 use mathlib.Core.Option.{Option, none, some}
@@ -18,6 +19,19 @@ onFirst c (l ∷ ls) = (c ∷ l) ∷ ls
 unfoldable pub linesOf : List ℕ → List (List ℕ)
 linesOf [] = []
 linesOf (c ∷ s) = let rest = linesOf s in eqb c 10 ⇒ [] ∷ rest else onFirst c rest
+
+-- an input without a line, one whose last line ends with the input, and one whose only line ends with a line feed
+pub no-line : linesOf [] ≡ []
+unfolding linesOf
+no-line = refl
+
+pub two-lines : linesOf (65 ∷ 10 ∷ 66 ∷ []) ≡ (65 ∷ []) ∷ (66 ∷ []) ∷ []
+unfolding linesOf onFirst _⇒_else_
+two-lines = refl
+
+pub one-line : linesOf (65 ∷ 10 ∷ []) ≡ (65 ∷ []) ∷ []
+unfolding linesOf onFirst _⇒_else_
+one-line = refl
 
 -- a printed line and its line feed
 abbrev pub lineBytes : List ℕ → List ℕ
@@ -84,6 +98,11 @@ atFirst = record { begun = false; state = start []; pending = [] }
 unfoldable pub printedFrom : Reader → List (List ℕ) → List ℕ
 printedFrom r [] = finishes r
 printedFrom r (s ∷ ss) = let f = feeds r s in f .out ++ printedFrom (f .reader) ss
+
+-- pieces, one after the other
+unfoldable pub joined : List (List ℕ) → List ℕ
+joined [] = []
+joined (s ∷ ss) = s ++ joined ss
 
 unfoldable pub prints : List (List ℕ) → List ℕ
 prints ss = printedFrom atFirst ss

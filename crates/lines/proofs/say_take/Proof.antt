@@ -1,0 +1,33 @@
+-- `lines::say_take` prints the line of the call.
+-- Assumes nothing.
+use native.Mathlib.Omega.{arith}
+use Rattle.rules.specs.Run.{step}
+use Rattle.rules.specs.Lines.{perform}
+use Rattle.lines.proofs.Telling.{count-fits}
+use borrow.Author.Needs.{needs}
+use Rattle.lines.proofs.say_take.Statement.{statement}
+use Rattle.lines.proofs.say_take.Tie as tie
+use Rattle.lines.proofs.say_take.Reads as reads
+use Rattle.lines.proofs.say_take.Lts as lts
+use Rattle.lines.proofs.tell.Reads as tell-reads
+use Rattle.radio.proofs.taking_in.Reads as taking-in-reads
+
+taking-in-requires : tie.Need-taking-in-requires
+taking-in-requires c κs = search needs
+
+tell-requires : tie.Need-tell-requires
+tell-requires c κs = (count-fits _ _ _ _ _ _ (c .before .before .before .before .taking-in .ensures), omega arith)
+
+same-length : tie.Need-same-length
+same-length c = search needs
+
+same-length-2 : tie.Need-same-length-2
+same-length-2 c = search needs
+
+returns : tie.Need-returns
+unfolding perform step
+returns c = c .before .before .tell .ensures _ _ _ (c .before .before .before .before .before .before .before .taking-in .ensures)
+
+pub say-take-spec : {M : Type 1} → statement M
+say-take-spec =
+    tie.close (tie.spec taking-in-requires tell-requires same-length same-length-2 returns)
