@@ -1,9 +1,10 @@
 #!/usr/bin/env python3
-"""Writes the test scripts, scripts/NAME.in and NAME.out, the lessons,
-lessons/NAME.in, .out and .txt, and for readers notes/NAME.txt
-(one note for each line of input that has one).
+"""Writes what the gate runs, into crates/lessons: the lessons, data/NAME.in and NAME.out, and the
+scripts, data/scripts/NAME.in; its args, which are the files to play; its stdout, which is for each
+file a line "== FILE" and the answers; and for readers notes/NAME.txt (one note for each line of
+input that has one).
 
-The .out files are what oracle.py prints. Nearly every hand-made line also carries the
+The answers are what oracle.py prints. Nearly every hand-made line also carries the
 answer that was expected when the line was written ("want", worked out by hand from the
 paper); generate.py stops if the oracle says otherwise.
 
@@ -20,8 +21,7 @@ import shutil
 import oracle
 
 HERE = os.path.dirname(os.path.abspath(__file__))
-SCRIPTS = os.path.join(HERE, "scripts")
-LESSONS = os.path.join(HERE, "lessons")
+LESSONS = os.path.join(HERE, "..", "crates", "lessons")
 NOTES = os.path.join(HERE, "notes")
 
 PROFILE = "00000800010C00000000001F82"          # the listing's: N = 4
@@ -164,12 +164,12 @@ ALL = []
 
 
 class Script:
-    def __init__(self, name, profile=PROFILE, final_line_feed=True, text=None):
+    def __init__(self, name, profile=PROFILE, final_line_feed=True, lesson=False):
         self.name = name
         self.lines = [profile.encode("latin-1")]
         self.notes = []
         self.final = final_line_feed
-        self.text = text                    # for lessons
+        self.lesson = lesson
         self.session, first = oracle.start(self.lines[0])
         self.printed = [] if first is None else [first]
         ALL.append(self)
@@ -198,21 +198,14 @@ class Script:
             self.notes.append((len(self.lines), note))
         return got
 
-    def write(self, directory):
+    def whole(self):
         text = b"\n".join(self.lines) + (b"\n" if self.final else b"")
         out = oracle.run(text)
         assert out.decode("ascii").splitlines() == self.printed, self.name
-        with open(os.path.join(directory, self.name + ".in"), "wb") as f:
-            f.write(text)
-        with open(os.path.join(directory, self.name + ".out"), "wb") as f:
-            f.write(out)
-        if self.text:
-            rows = self.text.strip("\n").split("\n")
-            assert 4 <= len(rows) <= 8, (self.name, len(rows))
-            assert 8 <= len(self.lines) <= 16, (self.name, len(self.lines))
-            with open(os.path.join(directory, self.name + ".txt"), "w") as f:
-                f.write("\n".join(rows) + "\n")
-        elif self.notes:
+        return text, out
+
+    def write_notes(self):
+        if self.notes:
             with open(os.path.join(NOTES, self.name + ".txt"), "w") as f:
                 for number, note in self.notes:
                     f.write("line %d: %s\n" % (number, note))
@@ -221,7 +214,7 @@ class Script:
 # ---------------------------------------------------------------- listing and numbers
 
 def make_listing():
-    s = Script("listing")
+    s = Script("listing", lesson=True)
     s.add("D015810301400182028182350103390205DC3C03021F90",
           "=81030140018202828183010038028100350103390205DC")
     s.add("D00C810301050082028182190109", "=810301050082028281830100")
@@ -1398,16 +1391,16 @@ def make_unreadable():
 class Bare:
     """A file that need not begin with a good profile."""
     def __init__(self, name, text, want):
-        self.name, self.text, self.want = name, text, want
+        self.name, self.text, self.want, self.lesson = name, text, want, False
         ALL.append(self)
 
-    def write(self, directory):
+    def whole(self):
         out = oracle.run(self.text)
         assert out == self.want.encode("ascii"), (self.name, out, self.want)
-        with open(os.path.join(directory, self.name + ".in"), "wb") as f:
-            f.write(self.text)
-        with open(os.path.join(directory, self.name + ".out"), "wb") as f:
-            f.write(out)
+        return self.text, out
+
+    def write_notes(self):
+        pass
 
 
 def make_bare():
@@ -1437,6 +1430,8 @@ def make_bare():
          "8103014001820282818301003802810035010339020020\n810301020082028281830100\n")
     Bare("no_line_feed_bad", p + b"\n" + mt + b"\n" + mt[:-1], "810301020082028281830100\nR9\n")
     Bare("no_line_feed_return", p + b"\n" + mt + b"\r", "R9\n")
+    Bare("megabyte", p + b"\n" + b"D0" * 524288 + b"\n" + mt + b"\n", "R9\n810301020082028281830100\n")
+    Bare("megabyte_profile", b"0" * 1048577 + b"\n" + mt + b"\n", "R9\n810301020082028281830130\n")
     Bare("profile_like_command", mt + b"\n" + mt + b"\n", "810301020082028281830130\n")
 
 
@@ -1612,15 +1607,7 @@ def ramp(high, n):
 
 
 def make_lessons():
-    s = Script("two_applications", text="""
-Channels 1 and 2 are opened with 1500 bytes each (lines 2, 3); channel 1 gets 160 bytes (line 4) and is closed (line 5), which frees its 94 cells.
-Number 1 is opened again with only 32 bytes (line 6); then channel 3 with 1500 (line 7). It needs 94 cells and at most 68 outside the old channel 1 are free, so it lives at least partly in the cells of the closed channel 1.
-Channel 3 gets 160 bytes C0 C1 ... CF from the radio (line 8) and sends 160 bytes 30 31 ... 3F (line 9).
-Channel 2 is closed and opened again with 1500 (lines 10, 11): it must get cells that nobody uses, not the old cells of channel 1 once more.
-Channel 2 gets B0 ... BF (line 12) and sends 20 ... 2F (line 13).
-Line 14 shows it (line 13 of the output): RECEIVE DATA on channel 3 must hand out C0 ... CF and nothing of B0 ... BF. Line 15 shows the same for the sent bytes: the take from channel 3 must give 30 ... 3F.
-Line 16 hands out channel 2's own B0 ... BF: nobody's bytes are lost.
-""")
+    s = Script("two_applications", lesson=True)
     r3, t3, r2, t2 = ramp(0xC, 160), ramp(3, 160), ramp(0xB, 160), ramp(2, 160)
     s.add(open_(1500), "..38028100" "350103" "390205DC")
     s.add(open_(1500), "..38028200" "350103" "390205DC")
@@ -1638,14 +1625,7 @@ Line 16 hands out channel 2's own B0 ... BF: nobody's bytes are lost.
     s.add(take(3, 160), "=" + hx(t3))
     s.add(recv(2, 160), "..830100" "3681A0" + hx(r2) + "370100")
 
-    s = Script("count_left", text="""
-Channel 1 is opened with 1500 bytes and event 09 is listed (lines 2, 3).
-256 bytes arrive (line 4), then one more (line 5): the event's count is capped, FF both times. The low byte would read 00 and 01.
-Line 6 shows it (line 5 of the output): one byte of 257 is received, 256 are left, and the answer ends 37 01 FF. The low byte would read 00, as if nothing were left.
-Lines 7 and 8 receive one byte each: 255 left reads FF, 254 left reads FE.
-Lines 9 and 10 receive 237 and 17: 17 left reads 11, then none left reads 00, and this time it is true.
-The room of SEND DATA has the same cap: channel 2 has 257 bytes (line 11), after one byte 256 are free: FF (line 12, low byte 00), then 255: FF (line 13), then 254: FE (line 14).
-""")
+    s = Script("count_left", lesson=True)
     d = ramp(5, 257)
     s.add(open_(1500), "00")
     s.add(events("09"), "00")
@@ -1662,14 +1642,7 @@ The room of SEND DATA has the same cap: channel 2 has 257 bytes (line 11), after
     s.add(send(2, b"\x63"), "..3701FE")
 
     unk, unk_flagged = obj(0x5E, "AA"), obj(0xDE, "AA")
-    s = Script("flag_is_no_decoration", text="""
-A plain MORE TIME is 00 (line 2). With object 05, which has no place there: unflagged (05) it is ignored, 01 (line 3); flagged (85) the command fails, 32 (line 4).
-Lines 5 and 6 do the same with a number nobody knows: 5E gives 01, DE gives 32. Lines 4 and 6 show it (lines 3 and 5 of the output): a modem that skips flagged objects prints 01 there.
-OPEN CHANNEL with DE fails (line 7) and opens nothing: the status in line 8 is 00 00. With 5E it opens channel 1, result 01 (line 9).
-SEND DATA of three bytes with DE fails and stores nothing (line 10); with 5E it is 01 and the room is 10 less 3, 07 (line 11). Had line 10 stored, line 11 would read 04.
-CLOSE CHANNEL with DE fails (line 12): the status in line 13 still shows channel 1.
-A surplus second 02 is unexpected like any other: unflagged 01 (line 14), flagged 32 (line 15).
-""")
+    s = Script("flag_is_no_decoration", lesson=True)
     s.add(more_time(), "00")
     s.add(more_time(obj(0x05, "41")), "01")
     s.add(more_time(obj(0x85, "41")), "32")
@@ -1685,14 +1658,7 @@ A surplus second 02 is unexpected like any other: unflagged 01 (line 14), flagge
     s.add(more_time(obj(0x02, "8182")), "01")
     s.add(more_time(obj(0x82, "8182")), "32")
 
-    s = Script("arrival_is_whole", text="""
-Channel 1 is opened with 10 bytes and event 09 is listed (lines 2, 3). Six bytes arrive: held 6 (line 4).
-Line 5 shows it (line 4 of the output): five bytes arrive where four fit, and the answer is R6. A modem that cuts them to the room prints an event with held 0A.
-An arrival of no bytes is accepted and prints -- (line 6). RECEIVE DATA finds the six bytes of line 4 and nothing of line 5 (line 7, 02 since ten were asked).
-Ten bytes fill the grant exactly: held 0A (line 8). One more is R6 (line 9), none more is accepted (line 10).
-Four are received, six are left (line 11). Now five are R6 again (line 12) and four fit (line 13).
-Line 14 hands out the six old and the four new bytes in order, and no byte of a refused arrival.
-""")
+    s = Script("arrival_is_whole", lesson=True)
     s.add(open_(10), "00")
     s.add(events("09"), "00")
     s.add(arr(1, b"\x41\x42\x43\x44\x45\x46"), "=D60E1901098202828138028100370106")
@@ -1707,14 +1673,7 @@ Line 14 hands out the six old and the four new bytes in order, and no byte of a 
     s.add(arr(1, b"\x70\x71\x72\x73"), "=D60E190109820282813802810037010A")
     s.add(recv(1, 10), "..830100" "360A" "646566676869" "70717273" "370100")
 
-    s = Script("room_after_storing", text="""
-Channel 1 is opened with 100 bytes (line 2).
-Line 3 shows it (line 2 of the output): 30 bytes are sent, and the room is what is left after storing, 70 (46). Reported before storing it would be 100 (64).
-70 more fill the grant: room 00 (line 4; before storing it would read 46). One byte more is 3A 04 and nothing is stored (line 5); no bytes at all still fit, room 00 (line 6).
-The radio takes 40 (line 7), and SEND DATA of no bytes reports the room they made: 40 (28) (line 8).
-39 bytes, stored only: room 1 (line 9; before storing 28). Two bytes do not fit, 3A 04 (line 10); one does, room 00 (line 11; before storing 01).
-Line 12 takes what is ready, the 60 bytes of before; the 40 stored only are still held: the room in line 13 is 60 (3C).
-""")
+    s = Script("room_after_storing", lesson=True)
     a, b, c = ramp(4, 30), ramp(5, 70), ramp(6, 39)
     s.add(open_(100), "..39020064")
     s.add(send(1, a, q=0), "=810301430082028281830100370146")
@@ -1732,10 +1691,25 @@ Line 12 takes what is ready, the 60 bytes of before; the 40 stored only are stil
 
 # ---------------------------------------------------------------- all of it
 
+def write_file(name, content):
+    with open(os.path.join(LESSONS, name), "wb") as f:
+        f.write(content)
+
+
+def play(names, answers, s, file):
+    """Puts a script where the gate plays it, behind those before it."""
+    text, out = s.whole()
+    s.write_notes()
+    write_file(os.path.join("data", file + ".in"), text)
+    if s.lesson:
+        write_file(os.path.join("data", file + ".out"), out)
+    names.append(file + ".in\n")
+    answers.append(b"== " + file.encode("ascii") + b".in\n" + out)
+
+
 def main():
-    for directory in (SCRIPTS, LESSONS, NOTES):
-        shutil.rmtree(directory, ignore_errors=True)
-        os.makedirs(directory)
+    shutil.rmtree(NOTES, ignore_errors=True)
+    os.makedirs(NOTES)
     make_listing()
     make_numbers()
     make_run_only()
@@ -1758,8 +1732,17 @@ def main():
     make_lessons()
     names = [s.name for s in ALL]
     assert len(names) == len(set(names)), "a name twice"
+    shutil.rmtree(os.path.join(LESSONS, "data"), ignore_errors=True)
+    os.makedirs(os.path.join(LESSONS, "data", "scripts"))
+    files, answers = [], []
     for s in ALL:
-        s.write(LESSONS if getattr(s, "text", None) and isinstance(s, Script) else SCRIPTS)
+        if s.lesson:
+            play(files, answers, s, s.name)
+    for s in ALL:
+        if not s.lesson:
+            play(files, answers, s, "scripts/" + s.name)
+    write_file("args", "".join(files).encode("ascii"))
+    write_file("stdout", b"".join(answers))
 
 
 if __name__ == "__main__":

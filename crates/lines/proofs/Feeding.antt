@@ -3,10 +3,10 @@
 use Prim.Native.Nat.{ℕ, zero, suc, _+_, _-_, _≤_, _<_, min}
 use mathlib.Core.Path.{_≡_, refl, sym, ap, subst, _∙_}
 use mathlib.Core.Bool.{Bool, true, false}
-use mathlib.Core.List.{List, [], _∷_, _++_, append-assoc, append-nil}
+use mathlib.Core.List.{List, [], _∷_, _++_, append-nil}
 use mathlib.Core.Option.{Option, none, some}
 use native.Mathlib.Omega.{arith}
-use lib.ListN.{length, take, drop, replicate, length-append, length-take}
+use lib.ListN.{length, take, drop, length-append, length-take}
 use lib.Seq.{take-all, take-nil, append-snoc}
 use lib.Dec.{leb, eqb}
 use borrow.Author.Tests.{leb-true, leb-false, lt-ltb}
@@ -19,14 +19,14 @@ use Rattle.rules.proofs.Input.{fed-pieces}
 use Rattle.octets.specs.Parts.{pasted}
 use Rattle.octets.proofs.Pastes.{take-pasted, length-pasted}
 use Rattle.session.specs.declared.Ledger.{Ledger}
-use Rattle.session.specs.Picture.{Shows, GoodIn, shown}
+use Rattle.session.specs.Picture.{Shows, shown}
 use Rattle.text.specs.declared.Gathered.{Gathered}
 use Rattle.text.specs.Gathers.{beforeFeed, fitting, Gathers}
 use Rattle.text.proofs.Stores.{paste-none}
 use Rattle.lines.specs.declared.Performed.{Performed}
 use Rattle.lines.specs.declared.Running.{Running}
 use Rattle.lines.specs.declared.Progress.{Progress}
-use Rattle.lines.specs.Says.{Says, SaysFed}
+use Rattle.lines.specs.Says.{SaysFed}
 use Rattle.lines.specs.Holds.{Ready, Holds, piece, lastPiece, Goes, Keeps}
 use Rattle.lines.proofs.Shown.{known}
 

@@ -11,12 +11,12 @@ use lib.Seq.{take-append-seam}
 use Rattle.rules.specs.declared.Refusal.the-variants.{Unreadable as R9}
 use Rattle.rules.specs.State.{State, start}
 use Rattle.rules.specs.Command.{refused}
-use Rattle.rules.specs.Lines.{printed, frameOf, callOf, callIn, perform, lineStep}
+use Rattle.rules.specs.Lines.{printed, frameOf, callIn, perform, lineStep}
 use Rattle.rules.specs.Input.{Fed, lineBytes, begins, goes, lineEnds}
 use Rattle.rules.proofs.Soundness.{start-sound}
 use Rattle.octets.specs.Parts.{pasted, cleared}
 use Rattle.session.specs.declared.Ledger.{Ledger}
-use Rattle.session.specs.Picture.{Shows, GoodIn, ledgerOf, shown}
+use Rattle.session.specs.Picture.{Shows, GoodIn, ledgerOf}
 use Rattle.session.specs.Calls.{overlaid}
 use Rattle.session.proofs.Starts.{empty-pool}
 use Rattle.session.proofs.Views.{shows-good}

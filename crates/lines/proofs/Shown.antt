@@ -1,13 +1,13 @@
 -- A good session shows one state, and no other.
 -- Assumes nothing.
-use Prim.Native.Nat.{ℕ}
+use Prim.Native.Nat.{ℕ, suc}
 use mathlib.Core.Path.{_≡_, refl, sym, ap, _∙_}
 use mathlib.Core.List.{List, [], _∷_, map}
 use native.Mathlib.Omega.{arith}
 use lib.ListN.{length}
 use Rattle.rules.specs.State.{State, Chan}
 use Rattle.rules.specs.Pool.{cells, promisedTo, promised}
-use Rattle.rules.specs.Sound.{Each, SoundChan, Sound}
+use Rattle.rules.specs.Sound.{Each, SoundChan}
 use Rattle.session.specs.declared.Channel.{Channel}
 use Rattle.session.specs.declared.Ledger.{Ledger}
 use Rattle.session.specs.Picture.{entry, ledgerOf, shown, Shows, GoodIn}
@@ -37,7 +37,7 @@ alike (c ∷ cs) (d ∷ ds) e h =
     record {
       each = (record { capped = omega arith; recv-fits = omega arith; send-fits = omega arith; ready-held = omega arith }, rest .each);
       promise = let k = ap cells grant in omega (arith, rest .promise);
-      size = ap Prim.Native.Nat.suc (rest .size);
+      size = ap suc (rest .size);
     }
 
 -- the state that a good session shows

@@ -4,7 +4,7 @@ use mathlib.Core.Path.{_≡_}
 use mathlib.Core.List.{List, [], _∷_, _++_}
 use lib.ListN.{length, take, drop}
 use Rattle.rules.specs.Checks.{_⇒_else_, isEmpty, member}
-use Rattle.rules.specs.Input.{Reader, Fed, feeds}
+use Rattle.rules.specs.Input.{Reader, feeds}
 use Rattle.octets.specs.Parts.{pasted}
 use Rattle.session.specs.Picture.{GoodIn, Shows}
 use Rattle.text.specs.Gathers.{beforeFeed, fitting}

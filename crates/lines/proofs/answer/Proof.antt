@@ -8,14 +8,6 @@ use Rattle.lines.proofs.Telling.{call-says, unread-says, spoken, arriva
 use borrow.Author.Needs.{needs}
 use Rattle.lines.proofs.answer.Statement.{statement}
 use Rattle.lines.proofs.answer.Tie as tie
-use Rattle.lines.proofs.answer.Reads as reads
-use Rattle.lines.proofs.answer.Lts as lts
-use Rattle.lines.proofs.print_unreadable.Reads as print-unreadable-reads
-use Rattle.lines.proofs.say_arrival.Reads as say-arrival-reads
-use Rattle.lines.proofs.say_command.Reads as say-command-reads
-use Rattle.lines.proofs.say_drop.Reads as say-drop-reads
-use Rattle.lines.proofs.say_take.Reads as say-take-reads
-use Rattle.text.proofs.read_call.Reads as read-call-reads
 
 read-call-requires : tie.Need-read-call-requires
 read-call-requires c κs = search needs
@@ -36,10 +28,10 @@ enum-known-n : tie.Need-enum-known-n
 enum-known-n c = search needs
 
 sub-say-arrival : tie.Need-sub-say-arrival
-sub-say-arrival c = spoken-arrival _ _ (c .before .before .before .before .read-call .ensures) _ (c .before .before .n .given .1)
+sub-say-arrival c = omega (arith, spoken-arrival _ _ (c .before .before .before .before .read-call .ensures) _ (c .before .before .n .given .1))
 
 part-say-arrival-start : tie.Need-part-say-arrival-start
-part-say-arrival-start c = spoken-arrival _ _ (c .before .before .before .before .read-call .ensures) _ (c .before .before .n .given .1)
+part-say-arrival-start c = omega (arith, spoken-arrival _ _ (c .before .before .before .before .read-call .ensures) _ (c .before .before .n .given .1))
 
 part-say-arrival-end : tie.Need-part-say-arrival-end
 part-say-arrival-end c = search needs

@@ -11,9 +11,6 @@ use Rattle.lines.proofs.Feeding.{first-held}
 use borrow.Author.Needs.{needs}
 use Rattle.lines.proofs.before.Statement.{statement}
 use Rattle.lines.proofs.before.Tie as tie
-use Rattle.lines.proofs.before.Reads as reads
-use Rattle.lines.proofs.before.Lts as lts
-use Rattle.session.proofs.fresh_ledger.Reads as fresh-ledger-reads
 
 slice-aggregate-fresh-ledger : tie.Need-slice-aggregate-fresh-ledger
 slice-aggregate-fresh-ledger c = search needs

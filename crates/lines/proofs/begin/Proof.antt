@@ -7,12 +7,6 @@ use Rattle.lines.proofs.Reading.{frame-read, frame-unread, first-read, 
 use borrow.Author.Needs.{needs}
 use Rattle.lines.proofs.begin.Statement.{statement}
 use Rattle.lines.proofs.begin.Tie as tie
-use Rattle.lines.proofs.begin.Reads as reads
-use Rattle.lines.proofs.begin.Lts as lts
-use Rattle.lines.proofs.print_unreadable.Reads as print-unreadable-reads
-use Rattle.octets.proofs.clear.Reads as clear-reads
-use Rattle.session.proofs.fresh_ledger.Reads as fresh-ledger-reads
-use Rattle.text.proofs.read_frame.Reads as read-frame-reads
 
 clear-requires : tie.Need-clear-requires
 clear-requires c κs = search needs

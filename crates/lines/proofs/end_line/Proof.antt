@@ -7,10 +7,6 @@ use Rattle.lines.proofs.Reading.{ends-said}
 use borrow.Author.Needs.{needs}
 use Rattle.lines.proofs.end_line.Statement.{statement}
 use Rattle.lines.proofs.end_line.Tie as tie
-use Rattle.lines.proofs.end_line.Reads as reads
-use Rattle.lines.proofs.end_line.Lts as lts
-use Rattle.lines.proofs.begin.Reads as begin-reads
-use Rattle.lines.proofs.perform.Reads as perform-reads
 
 perform-requires : tie.Need-perform-requires
 perform-requires c κs = search needs

@@ -8,10 +8,6 @@ use Rattle.lines.proofs.Feeding.{len-fits, feeds-open, feeds-whole}
 use borrow.Author.Needs.{needs}
 use Rattle.lines.proofs.feed.Statement.{statement}
 use Rattle.lines.proofs.feed.Tie as tie
-use Rattle.lines.proofs.feed.Reads as reads
-use Rattle.lines.proofs.feed.Lts as lts
-use Rattle.lines.proofs.end_line.Reads as end-line-reads
-use Rattle.text.proofs.gather.Reads as gather-reads
 
 gather-requires : tie.Need-gather-requires
 gather-requires c κs = search needs

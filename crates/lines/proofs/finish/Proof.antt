@@ -6,9 +6,6 @@ use Rattle.lines.proofs.Feeding.{ends-none, ends-held, line-stays}
 use borrow.Author.Needs.{needs}
 use Rattle.lines.proofs.finish.Statement.{statement}
 use Rattle.lines.proofs.finish.Tie as tie
-use Rattle.lines.proofs.finish.Reads as reads
-use Rattle.lines.proofs.finish.Lts as lts
-use Rattle.lines.proofs.feed.Reads as feed-reads
 
 returns : tie.Need-returns
 returns c = ((λ x z. ends-none _ _ _ (now (c .before .before .before .before .args .out)) (c .before .before .before .before .args .at) x z (c .if1 .taken)), refl)

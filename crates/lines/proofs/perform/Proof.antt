@@ -9,11 +9,6 @@ use Rattle.lines.proofs.Reading.{frame-read, frame-unread, line-told}
 use borrow.Author.Needs.{needs}
 use Rattle.lines.proofs.perform.Statement.{statement}
 use Rattle.lines.proofs.perform.Tie as tie
-use Rattle.lines.proofs.perform.Reads as reads
-use Rattle.lines.proofs.perform.Lts as lts
-use Rattle.lines.proofs.answer.Reads as answer-reads
-use Rattle.lines.proofs.print_unreadable.Reads as print-unreadable-reads
-use Rattle.text.proofs.read_frame.Reads as read-frame-reads
 
 slice-aggregate-read-frame : tie.Need-slice-aggregate-read-frame
 slice-aggregate-read-frame c = search needs

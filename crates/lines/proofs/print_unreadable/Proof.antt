@@ -5,9 +5,6 @@ use Rattle.text.specs.Prints.{countOf, outcomeOf}
 use borrow.Author.Needs.{needs}
 use Rattle.lines.proofs.print_unreadable.Statement.{statement}
 use Rattle.lines.proofs.print_unreadable.Tie as tie
-use Rattle.lines.proofs.print_unreadable.Reads as reads
-use Rattle.lines.proofs.print_unreadable.Lts as lts
-use Rattle.text.proofs.print.Reads as print-reads
 
 slice-aggregate-print : tie.Need-slice-aggregate-print
 slice-aggregate-print c = search needs

@@ -7,10 +7,6 @@ use Rattle.lines.proofs.Telling.{count-fits}
 use borrow.Author.Needs.{needs}
 use Rattle.lines.proofs.say_arrival.Statement.{statement}
 use Rattle.lines.proofs.say_arrival.Tie as tie
-use Rattle.lines.proofs.say_arrival.Reads as reads
-use Rattle.lines.proofs.say_arrival.Lts as lts
-use Rattle.lines.proofs.tell.Reads as tell-reads
-use Rattle.radio.proofs.arrival_in.Reads as arrival-in-reads
 
 arrival-in-requires : tie.Need-arrival-in-requires
 arrival-in-requires c κs = search needs

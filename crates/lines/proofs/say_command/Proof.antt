@@ -7,10 +7,6 @@ use Rattle.lines.proofs.Telling.{count-fits}
 use borrow.Author.Needs.{needs}
 use Rattle.lines.proofs.say_command.Statement.{statement}
 use Rattle.lines.proofs.say_command.Tie as tie
-use Rattle.lines.proofs.say_command.Reads as reads
-use Rattle.lines.proofs.say_command.Lts as lts
-use Rattle.lines.proofs.tell.Reads as tell-reads
-use Rattle.modem.proofs.command_in.Reads as command-in-reads
 
 command-in-requires : tie.Need-command-in-requires
 command-in-requires c κs = search needs

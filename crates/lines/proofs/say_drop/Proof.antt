@@ -7,10 +7,6 @@ use Rattle.lines.proofs.Telling.{count-fits}
 use borrow.Author.Needs.{needs}
 use Rattle.lines.proofs.say_drop.Statement.{statement}
 use Rattle.lines.proofs.say_drop.Tie as tie
-use Rattle.lines.proofs.say_drop.Reads as reads
-use Rattle.lines.proofs.say_drop.Lts as lts
-use Rattle.lines.proofs.tell.Reads as tell-reads
-use Rattle.radio.proofs.dropping_in.Reads as dropping-in-reads
 
 dropping-in-requires : tie.Need-dropping-in-requires
 dropping-in-requires c κs = search needs

@@ -7,10 +7,6 @@ use Rattle.lines.proofs.Telling.{count-fits}
 use borrow.Author.Needs.{needs}
 use Rattle.lines.proofs.say_take.Statement.{statement}
 use Rattle.lines.proofs.say_take.Tie as tie
-use Rattle.lines.proofs.say_take.Reads as reads
-use Rattle.lines.proofs.say_take.Lts as lts
-use Rattle.lines.proofs.tell.Reads as tell-reads
-use Rattle.radio.proofs.taking_in.Reads as taking-in-reads
 
 taking-in-requires : tie.Need-taking-in-requires
 taking-in-requires c κs = search needs

@@ -4,9 +4,6 @@ use Rattle.lines.proofs.Telling.{answer-says}
 use borrow.Author.Needs.{needs}
 use Rattle.lines.proofs.tell.Statement.{statement}
 use Rattle.lines.proofs.tell.Tie as tie
-use Rattle.lines.proofs.tell.Reads as reads
-use Rattle.lines.proofs.tell.Lts as lts
-use Rattle.text.proofs.print.Reads as print-reads
 
 print-requires : tie.Need-print-requires
 print-requires c κs = search needs

@@ -1,0 +1,122 @@
+// The line program over a file: a piece of it is read, its lines are performed, and their answers go to standard output.
+use io;
+use libc;
+use libc::STDOUT_FILENO;
+use lines::Running;
+use lines::before;
+use lines::feed;
+use lines::finish;
+ghost use mathlib.Core.Path.{_≡_};
+ghost use mathlib.Core.Bool.{true};
+ghost use Prim.Native.Nat.{_≤_};
+ghost use lib.ListN.{length, replicate};
+ghost use Rattle.rules.specs.Input.{Reader, feeds};
+ghost use Rattle.lines.specs.Holds.{Ready, Holds};
+
+// What a piece of the input left behind, and whether more is to come.
+struct Turn {
+    running: Running,
+    more: bool,
+}
+
+// Writes the output up to a place, and tells whether all of it was written.
+fn write_out(out: &[u8], at: usize) -> bool
+    requires { ⌜ at ≤ length (now out) ⌝ }
+{
+    io::write_all(STDOUT_FILENO, &out[..at])
+}
+
+// Performs the lines of a piece of the input. The output is written where a further line might not fit, and at the end.
+fn feed_all(
+    running: Running,
+    pool: &mut [u8; 8192],
+    line: &mut [u8],
+    piece: &[u8],
+    out: &mut [u8],
+) -> Turn
+    requires { ⌜ Ready running (now pool) (now line) ⌝ }
+    requires { ⌜ length (now out) ≡ 65536 ⌝ }
+    ensures { λ r. ⌜ Ready (r .running) (now (pool .exit)) (now (line .exit)) ⌝ }
+    ensures { λ r. ⌜ (r .more ≡ true → (x : Reader) → Holds x running (now (pool .entry)) (now (line .entry)) → Holds (feeds x (now (piece .entry)) .reader) (r .running) (now (pool .exit)) (now (line .exit))) ⌝ }
+{
+    let mut kept = running;
+    let mut next: usize = 0;
+    let mut at: usize = 0;
+    while next < piece.len() {
+        if out.len() - at < 3003 {
+            if !write_out(out, at) {
+                return Turn {
+                    running: kept,
+                    more: false,
+                };
+            }
+            at = 0;
+        }
+        let progress = feed(kept, pool, line, piece, next, out, at);
+        kept = progress.running;
+        next = progress.next;
+        at = progress.at;
+    }
+    Turn {
+        running: kept,
+        more: write_out(out, at),
+    }
+}
+
+// The input ended: what is left of it is performed.
+fn end(running: Running, pool: &mut [u8; 8192], line: &mut [u8], out: &mut [u8])
+    requires { ⌜ Ready running (now pool) (now line) ⌝ }
+    requires { ⌜ length (now out) ≡ 65536 ⌝ }
+{
+    let progress = finish(running, pool, line, out, 0);
+    write_out(out, progress.at);
+}
+
+// Reads a piece of a file and performs its lines. More is to come unless the file ended, or reading or writing failed.
+fn take_turn(
+    fd: i32,
+    running: Running,
+    pool: &mut [u8; 8192],
+    line: &mut [u8],
+    piece: &mut [u8],
+    out: &mut [u8],
+) -> Turn
+    requires { ⌜ Ready running (now pool) (now line) ⌝ }
+    requires { ⌜ length (now out) ≡ 65536 ⌝ }
+    ensures { λ r. ⌜ (r .more ≡ true → Ready (r .running) (now (pool .exit)) (now (line .exit))) ⌝ }
+{
+    let got = libc::read(fd, piece);
+    if got < 0 {
+        return Turn {
+            running,
+            more: false,
+        };
+    }
+    if got == 0 {
+        end(running, pool, line, out);
+        return Turn {
+            running,
+            more: false,
+        };
+    }
+    let n = io::count(got, piece);
+    feed_all(running, pool, line, &piece[..n], out)
+}
+
+// Runs the line program over a file, turn by turn, until one is the last. Their number is bounded by one that no file uses up.
+pub fn run(fd: i32, pool: &mut [u8; 8192], line: &mut [u8], piece: &mut [u8], out: &mut [u8])
+    requires { ⌜ now pool ≡ replicate 8192 0 ⌝ }
+    requires { ⌜ (length (now line) ≡ 3201) × (length (now piece) ≡ 65536) × (length (now out) ≡ 65536) ⌝ }
+    ensures { λ _. ⌜ (length (now (line .exit)) ≡ 3201) × (length (now (piece .exit)) ≡ 65536) × (length (now (out .exit)) ≡ 65536) ⌝ }
+{
+    let mut kept = before();
+    let mut turns = u64::MAX;
+    while turns > 0 {
+        let done = take_turn(fd, kept, pool, line, piece, out);
+        if !done.more {
+            return;
+        }
+        kept = done.running;
+        turns -= 1;
+    }
+}
