@@ -8,3 +8,5 @@ pub mod Required
 pub mod Known
 pub mod Settling
 pub mod Opening
+pub mod Alike
+pub mod Settled

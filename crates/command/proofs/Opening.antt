@@ -20,7 +20,8 @@ use Rattle.rules.proofs.Walks.{walk-fault}
 use Rattle.octets.specs.Parts.{part}
 use Rattle.octets.proofs.Copies.{part-get}
 use Rattle.objects.specs.Places.{Stands}
-use Rattle.objects.proofs.Walking.{objectOf, here-object, value-first}
+use Rattle.objects.proofs.Sizes.{objectOf}
+use Rattle.objects.proofs.Walking.{here-object, value-first}
 use Rattle.command.specs.declared.Handler.{Handler}
 use Rattle.command.specs.declared.Handler.the-variants.{MoreTime, EventList, Open, Close, Receive, Send, Status}
 use Rattle.command.specs.declared.Plan.{Plan}

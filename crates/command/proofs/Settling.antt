@@ -218,4 +218,7 @@ module _ (s : List ℕ) (d : Details) (v : Survey) (devices own last : Span) (m 
             subst (λ (b : Body). BodyIs h (asks h) s b)
             (sym (body-is s d h (z .begun) v (z .surveyed) (z .unflagged) (z .first-02 .there) (z .first-own .there) (z .first-last .there) m)) (settled-body h z);
         within = z .first-own .within;
+        own-place = z .own-place;
+        own-length = sym (ap length (z .first-own .is) ∙ part-size s (own .at) (own .len) (z .first-own .within));
+        last-place = z .last-place;
       }

@@ -17,7 +17,8 @@ use Rattle.rules.proofs.Laws.{branch, stop, skip}
 use Rattle.rules.proofs.Walks.{walk-end, walk-fault}
 use Rattle.octets.specs.Parts.{part}
 use Rattle.objects.specs.Places.{Stands}
-use Rattle.objects.proofs.Walking.{objectOf, here-object}
+use Rattle.objects.proofs.Sizes.{objectOf}
+use Rattle.objects.proofs.Walking.{here-object}
 use Rattle.command.specs.declared.Handler.{Handler}
 use Rattle.command.specs.declared.Survey.{Survey}
 use Rattle.command.specs.Plans.{handlerKind}

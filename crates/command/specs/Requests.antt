@@ -14,7 +14,7 @@ use Rattle.rules.specs.Table.{known, rowOf, sift, present, valueOf, bearerFits}
 use Rattle.rules.specs.Reading.{Reading, wrong, asked, Command, Body, Transport, moreTime, eventList, openChannel, closeChannel, receiveData, sendData, channelStatus, bearerIn, detailsIn, commandIn, startsWithDetails, isFault, addressed, readObjects}
 use Rattle.rules.specs.Own.{isTcp}
 use Rattle.octets.specs.Parts.{part}
-use Rattle.objects.specs.Places.{First}
+use Rattle.objects.specs.Places.{First, placeOf}
 use Rattle.command.specs.declared.Framed.{Framed}
 use Rattle.command.specs.declared.Framed.the-variants.{At, Not}
 use Rattle.command.specs.declared.Handler.{Handler}
@@ -84,7 +84,7 @@ BodyIs Receive q s b = (b ≡ receiveData (getD s (q .start) 0)) × (q .len ≡ 
 BodyIs Send q s b = b ≡ sendData (own q s)
 BodyIs Status q s b = b ≡ channelStatus
 
--- a request is what the bytes ask
+-- a request is what the bytes ask, and its places are those of the objects
 pub record AskedFor (q : Request) (p s : List ℕ) : Type 0 where
   pub is : readObjects p s ≡ asked (theCommand s) (q .ignored)
   pub details : theDetails s ≡ q .details
@@ -93,6 +93,9 @@ pub record AskedFor (q : Request) (p s : List ℕ) : Type 0 where
   pub devices : addressed (theDetails s .kind) (theCommand s .source) (theCommand s .destination) ≡ true
   pub body : BodyIs (q .handler) q s (theCommand s .body)
   pub within : q .start + q .len ≤ length s
+  pub own-place : q .start ≡ placeOf (ownNumber (q .handler)) s
+  pub own-length : q .len ≡ length (valueOf (ownNumber (q .handler)) (walk s .objects))
+  pub last-place : q .last ≡ placeOf (lastNumber (q .handler)) s
 
 abbrev pub Reads : Read → List ℕ → List ℕ → Type 0
 Reads (Wrong d e) p s = readObjects p s ≡ wrong d e
@@ -119,6 +122,8 @@ pub record Settled (s : List ℕ) (d : Details) (h : Handler) (v : Survey) (devi
   pub first-02 : First s 0x02 (devices .at) (devices .len)
   pub first-own : First s (ownNumber h) (own .at) (own .len)
   pub first-last : First s (lastNumber h) (last .at) (last .len)
+  pub own-place : own .at ≡ placeOf (ownNumber h) s
+  pub last-place : last .at ≡ placeOf (lastNumber h) s
 
 -- step 3 is passed
 pub record Began (s : List ℕ) : Type 0 where

@@ -1,2 +1,3 @@
 pub mod Obeying
 pub mod Commanding
+pub mod Settled

@@ -28,7 +28,6 @@ use Rattle.session.specs.declared.Ledger.{Ledger}
 use Rattle.session.specs.Picture.{GoodIn, shown}
 use Rattle.session.specs.Calls.{Answers}
 use Rattle.session.specs.Changed.{Numbered}
-use Rattle.session.proofs.Facts.{bounds}
 use Rattle.command.specs.declared.Handler.{Handler}
 use Rattle.command.specs.declared.Handler.the-variants.{MoreTime, EventList, Open, Close, Receive, Send, Status}
 use Rattle.command.specs.declared.Request.{Request}
@@ -44,10 +43,6 @@ pub wrong-told : (l : Ledger) (p s : List ℕ) (d : Details) (e : ℕ) → readO
 unfolding obeyed shown meantBy
 wrong-told l p s d e h =
     ap (λ (r : Reading). answered (meantBy (shown l p) r .state) (responseBytes (meantBy (shown l p) r .response))) h
-
--- seven channels
-pub seven : (l : Ledger) (p : List ℕ) → GoodIn l p → length (l .channels) ≡ 7
-seven l p g = bounds l p (record { 0 = 1 }) (record { good = g; low = omega arith; high = omega arith }) .seven
 
 -- an answer by what the command comes to
 pub as-obeyed :

@@ -1,28 +1,24 @@
 -- The loops over objects: what a walk from here says of the whole walk.
 -- Assumes nothing.
-use Prim.Native.Nat.{ℕ, _+_, _-_, _%_, _≤_, _<_}
+use Prim.Native.Nat.{ℕ, _+_, _%_, _≤_, _<_}
 use mathlib.Core.Path.{_≡_, refl, sym, ap, subst, _∙_}
 use mathlib.Core.Bool.{Bool, true, false, _||_}
 use mathlib.Core.List.{List, [], _∷_}
 use native.Mathlib.Omega.{arith}
 use lib.ListN.{length, drop, getD, length-drop, drop-of-length-le}
-use lib.Dec.{eqb, leb}
 use borrow.Author.Tests.{eq-eqb, ne-eqb}
 use Rattle.rules.specs.declared.Ending.{Ending}
 use Rattle.rules.specs.declared.Ending.the-variants.{End}
-use Rattle.rules.specs.Checks.{_⇒_else_, member, some-of}
-use Rattle.rules.specs.Frames.{Object, object, faulty, objectAt, Walk, walk}
+use Rattle.rules.specs.Checks.{member, some-of}
+use Rattle.rules.specs.Frames.{Object, faulty, objectAt, Walk, walk, lengthBytes, objectBytes}
 use Rattle.rules.specs.Table.{present, valueOf}
 use Rattle.rules.proofs.Laws.{stop, skip}
 use Rattle.rules.proofs.Walks.{walk-end, walk-fault, walk-object}
-use Rattle.octets.specs.Parts.{part}
 use Rattle.objects.specs.declared.Where.{Where}
-use Rattle.objects.specs.Places.{Stands, First, Finds}
+use Rattle.objects.specs.declared.Where.the-variants.{At}
+use Rattle.objects.specs.Places.{Stands, Finds, placeAmong, placeOf}
 use Rattle.objects.proofs.Reading.{cons-at}
-
--- the object that stands at a place
-abbrev pub objectOf : List ℕ → ℕ → ℕ → ℕ → Object
-objectOf s tag start n = record { number = tag % 128; flag = leb 128 tag; value = part start (start + n) s }
+use Rattle.objects.proofs.Sizes.{objectOf, value-starts, object-ends}
 
 -- the walk from a place: at the end, at a fault, at an object
 pub here-end : (s : List ℕ) (at : ℕ) → length s ≤ at → walk (drop at s) ≡ record { objects = []; ending = End; rest = [] }
@@ -84,9 +80,10 @@ pub record Seeks (s : List ℕ) (number at : ℕ) : Type 0 where
   pub within : at ≤ length s
   pub there : present number (walk s .objects) ≡ present number (walk (drop at s) .objects)
   pub value : valueOf number (walk s .objects) ≡ valueOf number (walk (drop at s) .objects)
+  pub place : placeOf number s ≡ at + placeOf number (drop at s)
 
 pub seeks-start : (s : List ℕ) (number : ℕ) → Seeks s number 0
-seeks-start s number = record { within = omega arith; there = refl; value = refl }
+seeks-start s number = record { within = omega arith; there = refl; value = refl; place = omega arith }
 
 pub present-first : (n : ℕ) (o : Object) (os : List Object) → n ≡ o .number → present n (o ∷ os) ≡ true
 unfolding present member some-of
@@ -104,6 +101,14 @@ pub value-later : (n : ℕ) (o : Object) (os : List Object) → (n ≡ o .number
 unfolding valueOf
 value-later n o os e = skip _ _ _ (ne-eqb n (o .number) e)
 
+place-first : (n : ℕ) (o : Object) (os : List Object) → n ≡ o .number → placeAmong n (o ∷ os) ≡ 1 + length (lengthBytes (length (o .value)))
+unfolding placeAmong
+place-first n o os e = stop _ _ _ (eq-eqb n (o .number) e)
+
+place-later : (n : ℕ) (o : Object) (os : List Object) → (n ≡ o .number → ⊥) → placeAmong n (o ∷ os) ≡ length (objectBytes o) + placeAmong n os
+unfolding placeAmong
+place-later n o os e = skip _ _ _ (ne-eqb n (o .number) e)
+
 module _ (s : List ℕ) (number at : ℕ) (w : Seeks s number at) where
   pub seeks-end : length s ≤ at → present number (walk s .objects) ≡ false
   unfolding present member some-of
@@ -114,14 +119,17 @@ module _ (s : List ℕ) (number at : ℕ) (w : Seeks s number at) where
   seeks-fault e h f = w .there ∙ ap (λ (x : Walk). present number (x .objects)) (here-fault s at e h f)
 
   module _ (tag start n next : ℕ) (st : Stands s at tag start n next) where
-    pub seeks-found : tag % 128 ≡ number → First s number start n
+    pub seeks-found : tag % 128 ≡ number → Finds (At start n) s number
     seeks-found e =
         let k = here-object s at tag start n next st in
-        record {
-          there = w .there ∙ ap (λ (x : Walk). present number (x .objects)) k ∙ present-first number _ _ (sym e);
-          is = w .value ∙ ap (λ (x : Walk). valueOf number (x .objects)) k ∙ value-first number _ _ (sym e);
-          within = omega (arith, st .ends, st .within);
-        }
+        let here = ap (λ (x : Walk). placeAmong number (x .objects)) k ∙ place-first number _ _ (sym e) in (
+          record {
+            there = w .there ∙ ap (λ (x : Walk). present number (x .objects)) k ∙ present-first number _ _ (sym e);
+            is = w .value ∙ ap (λ (x : Walk). valueOf number (x .objects)) k ∙ value-first number _ _ (sym e);
+            within = omega (arith, st .ends, st .within);
+          },
+          omega (arith, value-starts s at tag start n next st, w .place, here),
+        )
 
     pub seeks-on : (tag % 128 ≡ number → ⊥) → Seeks s number next
     seeks-on e =
@@ -130,6 +138,9 @@ module _ (s : List ℕ) (number at : ℕ) (w : Seeks s number at) where
           within = st .within;
           there = w .there ∙ ap (λ (x : Walk). present number (x .objects)) k ∙ present-later number _ _ (λ q. e (sym q));
           value = w .value ∙ ap (λ (x : Walk). valueOf number (x .objects)) k ∙ value-later number _ _ (λ q. e (sym q));
+          place =
+              let here = ap (λ (x : Walk). placeAmong number (x .objects)) k ∙ place-later number _ _ (λ q. e (sym q)) in
+              omega (arith, object-ends s at tag start n next st, w .place, here);
         }
 
 -- what was found, of a number that is another one's name

@@ -2,10 +2,12 @@
 use Prim.Native.Nat.{ℕ, _+_, _%_, _≤_, _<_}
 use mathlib.Core.Path.{_≡_}
 use mathlib.Core.Bool.{true, false}
-use mathlib.Core.List.{List}
+use mathlib.Core.List.{List, [], _∷_}
 use lib.ListN.{length, drop}
-use lib.Dec.{leb}
-use Rattle.rules.specs.Frames.{lengthAt, len, noLength, objectAt, object, faulty, walk}
+use lib.Dec.{leb, eqb}
+use Rattle.rules.specs.Checks.{_⇒_else_}
+use Rattle.rules.specs.Frames as frames
+use Rattle.rules.specs.Frames.{lengthAt, len, noLength, lengthBytes, objectAt, object, faulty, walk, objectBytes}
 use Rattle.rules.specs.Table.{present, valueOf}
 use Rattle.octets.specs.Parts.{part}
 use Rattle.objects.specs.declared.Sized.{Sized}
@@ -40,6 +42,17 @@ abbrev pub Meets : Found → List ℕ → ℕ → Type 0
 Meets (Object tag start n next) s at = Stands s at tag start n (next .at)
 Meets (Fault e) s at = objectAt (drop at s) ≡ faulty e
 
+-- where the value of the first object of a number starts: behind the objects before it, its tag and its length
+unfoldable pub placeAmong : ℕ → List frames.Object → ℕ
+placeAmong number [] = 0
+placeAmong number (o ∷ os) =
+    let k = placeAmong number os in
+    eqb number (o .number) ⇒ 1 + length (lengthBytes (length (o .value))) else length (objectBytes o) + k
+
+-- among the objects of the walk
+abbrev pub placeOf : ℕ → List ℕ → ℕ
+placeOf number s = placeAmong number (walk s .objects)
+
 -- the first object of a number stands there, or there is none
 pub record First (s : List ℕ) (number start n : ℕ) : Type 0 where
   pub there : present number (walk s .objects) ≡ true
@@ -47,5 +60,5 @@ pub record First (s : List ℕ) (number start n : ℕ) : Type 0 where
   pub within : start + n ≤ length s
 
 abbrev pub Finds : Where → List ℕ → ℕ → Type 0
-Finds (At start n) s number = First s number start n
+Finds (At start n) s number = First s number start n × (start ≡ placeOf number s)
 Finds Nowhere s number = present number (walk s .objects) ≡ false

@@ -1,2 +1,3 @@
 pub mod Pastes
 pub mod Copies
+pub mod Settled

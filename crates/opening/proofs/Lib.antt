@@ -1,2 +1,3 @@
 pub mod Unused
 pub mod Checks
+pub mod Settled

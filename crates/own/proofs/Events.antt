@@ -20,9 +20,10 @@ use Rattle.rules.specs.Own.{Reply, reply, error, done, nothing, plain, listed, 
 use Rattle.rules.proofs.Laws.{stop, skip}
 use Rattle.session.specs.declared.Ended.{Ended}
 use Rattle.session.specs.declared.Ledger.{Ledger}
-use Rattle.session.specs.Picture.{Shows, GoodIn, shown}
+use Rattle.session.specs.Picture.{Belongs, Shows, GoodIn, shown}
 use Rattle.session.specs.Calls.{Answers}
 use Rattle.session.specs.Changed.{withEvents}
+use Rattle.session.proofs.Views.{shows-good}
 use Rattle.own.specs.Replies.{told}
 use Rattle.own.proofs.Replies.{changed-answers}
 
@@ -65,9 +66,16 @@ module _ (f : ℕ → Bool) (s : List ℕ) (i : ℕ) where
   some-end h k e = sym (e ∙ ap (some-of f) (rest h k))
 
 -- a state with another event list is as sound
-list-sound : (a : State) (es : List ℕ) → Sound a → Sound (listed a es)
-unfolding listed promised
-list-sound a es h = record { thirteen = h .thirteen; seven = h .seven; each = h .each; within = h .within }
+events-sound : (a : State) (e : Events) → Sound a → Sound (withEvents a e)
+unfolding promised
+events-sound a e h = record { thirteen = h .thirteen; seven = h .seven; each = h .each; within = h .within }
+
+-- a ledger with another event list belongs to a good session too
+pub list-belongs :
+    (l m : Ledger) (u v : Bool) → Belongs l →
+    ((p : List ℕ) → GoodIn l p → Shows (withEvents (shown l p) (record { available = u; status = v })) m p) → Belongs m
+list-belongs l m u v b f =
+    record { pool = b .pool; good = shows-good _ m (b .pool) (events-sound (shown l (b .pool)) (record { available = u; status = v }) (b .good .sound)) (f (b .pool) (b .good)) }
 
 module _ (l : Ledger) (p es : List ℕ) (i : Bool) (all : Bool) (f : all ≡ every (allowsEvent (l .profile)) es) where
   pub list-forbidden : all ≡ false → listing (shown l p) es i ≡ reply (shown l p) (error 0x30)
@@ -86,4 +94,4 @@ module _ (l : Ledger) (p es : List ℕ) (i : Bool) (all : Bool) (f : all ≡ eve
   unfolding listed
   list-done d x u v m n e before after t g y z s w k =
       changed-answers d (listing (shown l p) es i) (listed (shown l p) es) x i m p n e before after (list-allowed t)
-      (list-sound (shown l p) es (g .sound)) (subst (λ (b : State). Shows b m p) (λ j. withEvents (shown l p) (record { available = y j; status = z j })) s) w k
+      (events-sound (shown l p) (record { available = member 0x09 es; status = member 0x0A es }) (g .sound)) (subst (λ (b : State). Shows b m p) (λ j. withEvents (shown l p) (record { available = y j; status = z j })) s) w k

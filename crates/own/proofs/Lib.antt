@@ -1,3 +1,4 @@
 pub mod Replies
 pub mod Sends
 pub mod Events
+pub mod Settled

@@ -58,6 +58,10 @@ changed-answers d r b x i m q l e before after u h s v f =
     (subst (λ (y : Answer). Answers y l q e before after) (ap (λ (c : State). told d (reply c (error x))) (shows-back b m q h s) ∙ plain-told d b x i v)
     (f (shows-good b m q h s)))
 
+-- a good session has seven channels
+pub seven : (l : Ledger) (p : List ℕ) → GoodIn l p → length (l .channels) ≡ 7
+seven l p g = bounds l p (record { 0 = 1 }) (record { good = g; low = omega arith; high = omega arith }) .seven
+
 -- the result in front of the statuses
 pub statuses-stand :
     (d : Details) (x : ℕ) (i : Bool) (f : Further) (k : ℕ) (before after : List ℕ) → x ≡ plain i →

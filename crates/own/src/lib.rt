@@ -28,7 +28,7 @@ ghost use Rattle.rules.specs.Checks.{_⇒_else_, every, member};
 ghost use Rattle.rules.specs.Profile.{allowsEvent};
 ghost use Rattle.rules.specs.State.{isDropped, readied};
 ghost use Rattle.rules.specs.Own.{bit1, error, problem, done, nothing, statuses, statusesFrom, reply, plain, listing, closing, receiving, sending};
-ghost use Rattle.session.specs.Picture.{GoodIn, shown};
+ghost use Rattle.session.specs.Picture.{Belongs, GoodIn, shown};
 ghost use Rattle.session.specs.Calls.{Answers};
 ghost use Rattle.session.specs.Changed.{Numbered, chanIn, Changed};
 ghost use Rattle.own.specs.Replies.{told};
@@ -55,6 +55,7 @@ pub fn short_or(short: bool, result: u8, ignored: bool) -> u8
 
 // A result that nothing follows is told, and the ledger goes back as it came.
 pub fn end_with(ledger: Ledger, out: &mut [u8], d: Details, result: u8) -> Lent
+    requires { ⌜ Belongs ledger ⌝ }
     requires { ⌜ 255 ≤ length (now out) ⌝ }
     ensures { λ r. ⌜ ((p : List ℕ) → GoodIn ledger p → Answers (told d (reply (shown ledger p) (error result))) (r .ledger) p (r .ended) (now (out .entry)) (now (out .exit))) ⌝ }
 {
@@ -67,6 +68,7 @@ pub fn end_with(ledger: Ledger, out: &mut [u8], d: Details, result: u8) -> Lent
 
 // A problem, 3A, is told with its cause, and the ledger goes back as it came.
 pub fn end_problem(ledger: Ledger, out: &mut [u8], d: Details, cause: u8) -> Lent
+    requires { ⌜ Belongs ledger ⌝ }
     requires { ⌜ 255 ≤ length (now out) ⌝ }
     ensures { λ r. ⌜ ((p : List ℕ) → GoodIn ledger p → Answers (told d (reply (shown ledger p) (problem cause))) (r .ledger) p (r .ended) (now (out .entry)) (now (out .exit))) ⌝ }
 {
@@ -79,6 +81,7 @@ pub fn end_problem(ledger: Ledger, out: &mut [u8], d: Details, cause: u8) -> Len
 
 // MORE TIME: nothing is done.
 pub fn more_time(ledger: Ledger, d: Details, ignored: bool, out: &mut [u8]) -> Lent
+    requires { ⌜ Belongs ledger ⌝ }
     requires { ⌜ 255 ≤ length (now out) ⌝ }
     ensures { λ r. ⌜ ((p : List ℕ) → GoodIn ledger p → Answers (told d (reply (shown ledger p) (done (plain ignored) nothing))) (r .ledger) p (r .ended) (now (out .entry)) (now (out .exit))) ⌝ }
 {
@@ -126,6 +129,7 @@ fn lists(events: &[u8], event: u8) -> bool
 
 // SET UP EVENT LIST: each value must be allowed, or the list stays; it replaces the old one.
 pub fn list_events(ledger: Ledger, events: &[u8], d: Details, ignored: bool, out: &mut [u8]) -> Lent
+    requires { ⌜ Belongs ledger ⌝ }
     requires { ⌜ 255 ≤ length (now out) ⌝ }
     ensures { λ r. ⌜ ((p : List ℕ) → GoodIn ledger p → Answers (told d (listing (shown ledger p) (now (events .entry)) ignored)) (r .ledger) p (r .ended) (now (out .entry)) (now (out .exit))) ⌝ }
 {
@@ -139,7 +143,7 @@ pub fn list_events(ledger: Ledger, events: &[u8], d: Details, ignored: bool, out
 
 // GET CHANNEL STATUS: a status for each open channel.
 pub fn tell_channels(ledger: Ledger, d: Details, ignored: bool, out: &mut [u8]) -> Lent
-    requires { ⌜ length (ledger .channels) ≡ 7 ⌝ }
+    requires { ⌜ Belongs ledger ⌝ }
     requires { ⌜ 255 ≤ length (now out) ⌝ }
     ensures { λ r. ⌜ ((p : List ℕ) → GoodIn ledger p → Answers (told d (reply (shown ledger p) (done (plain ignored) (statuses (statusesFrom 1 (shown ledger p .chans)))))) (r .ledger) p (r .ended) (now (out .entry)) (now (out .exit))) ⌝ }
 {
@@ -209,6 +213,7 @@ pub fn receive(
 
 // What SEND DATA does behind storing: with qualifier bit 1 set all bytes held are ready, and the link is established.
 fn send_on(ledger: Ledger, n: ChannelNumber, qualifier: u8) -> Ledger
+    requires { ⌜ Belongs ledger ⌝ }
     requires { ⌜ (1 ≤ n .0) × (n .0 ≤ 7) ⌝ }
     ensures { λ r. ⌜ ((p : List ℕ) → GoodIn ledger p → Changed ledger p n (bit1 qualifier ⇒ readied (chanIn ledger p n) else chanIn ledger p n) r p) ⌝ }
 {

@@ -20,7 +20,7 @@ ghost use mathlib.Core.List.{List};
 ghost use Prim.Native.Nat.{ℕ, _≤_};
 ghost use lib.ListN.{length};
 ghost use Rattle.rules.specs.Radio.{arrival, taking, dropping};
-ghost use Rattle.session.specs.Picture.{Good, GoodIn, shown, view};
+ghost use Rattle.session.specs.Picture.{Belongs, Good, GoodIn, shown, view};
 ghost use Rattle.session.specs.Calls.{overlaid, Answers};
 ghost use Rattle.radio.specs.declared.Permit.the-variants.{Pass};
 ghost use Rattle.radio.specs.Permits.{permitOf, arrivalTold, dropTold};
@@ -33,6 +33,7 @@ pub enum Permit {
 
 // R3, R4 and R5, in order.
 pub fn permitted(ledger: Ledger, n: ChannelNumber) -> Permit
+    requires { ⌜ Belongs ledger ⌝ }
     ensures { λ r. ⌜ ((p : List ℕ) → GoodIn ledger p → r ≡ permitOf (shown ledger p) n) ⌝ }
     ensures { λ r. ⌜ (r ≡ Pass → (1 ≤ n .0) × (n .0 ≤ 7)) ⌝ }
 {
@@ -210,6 +211,7 @@ pub fn taking_in(ledger: Ledger, pool: &mut [u8; 8192], n: ChannelNumber, out: &
 
 // A drop on a channel that may be used: the link is dropped, and event 0A tells of it.
 fn tell_dropped(ledger: Ledger, n: ChannelNumber, out: &mut [u8]) -> Lent
+    requires { ⌜ Belongs ledger ⌝ }
     requires { ⌜ (1 ≤ n .0) × (n .0 ≤ 7) × (16 ≤ length (now out)) ⌝ }
     ensures { λ r. ⌜ ((p : List ℕ) → GoodIn ledger p → permitOf (shown ledger p) n ≡ Pass → Answers (dropping (shown ledger p) (length (now (out .entry))) n) (r .ledger) p (r .ended) (now (out .entry)) (now (out .exit))) ⌝ }
 {
@@ -230,6 +232,7 @@ fn tell_dropped(ledger: Ledger, n: ChannelNumber, out: &mut [u8]) -> Lent
 
 // The drop. The pool stays, so it is not lent.
 pub fn dropping_in(ledger: Ledger, n: ChannelNumber, out: &mut [u8]) -> Lent
+    requires { ⌜ Belongs ledger ⌝ }
     ensures { λ r. ⌜ ((p : List ℕ) → GoodIn ledger p → Answers (dropping (shown ledger p) (length (now (out .entry))) n) (r .ledger) p (r .ended) (now (out .entry)) (now (out .exit))) ⌝ }
 {
     if out.len() < 16 {

@@ -1,2 +1,4 @@
 pub mod Writes
 pub mod Statuses
+pub mod Alike
+pub mod Settled

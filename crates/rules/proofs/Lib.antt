@@ -18,3 +18,4 @@ pub mod Answers
 pub mod Demands
 pub mod Openings
 pub mod Input
+pub mod Settled

@@ -6,3 +6,5 @@ pub mod Facts
 pub mod Answers
 pub mod Starts
 pub mod Owners
+pub mod Alike
+pub mod Settled

@@ -78,6 +78,11 @@ pub record GoodIn (l : Ledger) (p : List ℕ) : Type 0 where
   pub sound : Sound (shown l p)
   pub shows : Shows (shown l p) l p
 
+-- a ledger of a good session
+pub record Belongs (l : Ledger) : Type 0 where
+  pub pool : List ℕ
+  pub good : GoodIn l pool
+
 -- a session that came from the start and the calls
 abbrev pub Good : Session → Type 0
 Good s = GoodIn (s .ledger) (s .pool)

@@ -11,7 +11,7 @@ ghost use lib.ListN.{length};
 ghost use mathlib.Core.List.{List};
 ghost use Rattle.rules.specs.Pool.{cells, unpromised};
 ghost use Rattle.rules.specs.State.{start, room, establish, closed, fresh, arrived, handed, stored, readied, taken, dropped};
-ghost use Rattle.session.specs.Picture.{Good, GoodIn, Shows, ledgerOf, shown, view, baseOf};
+ghost use Rattle.session.specs.Picture.{Belongs, Good, GoodIn, Shows, ledgerOf, shown, view, baseOf};
 ghost use Rattle.rules.specs.Own.{capped};
 ghost use Rattle.session.specs.Changed.{Numbered, chanIn, Changed, withEvents};
 
@@ -215,6 +215,7 @@ pub fn established(link: Link) -> Link
 
 // All bytes held to send are ready, and a link not yet established is established. The pool stays.
 pub fn make_ready(ledger: Ledger, n: ChannelNumber) -> Ledger
+    requires { ⌜ Belongs ledger ⌝ }
     requires { ⌜ (1 ≤ n .0) × (n .0 ≤ 7) ⌝ }
     ensures { λ r. ⌜ ((p : List ℕ) → GoodIn ledger p → Changed ledger p n (readied (chanIn ledger p n)) r p) ⌝ }
 {
@@ -234,6 +235,7 @@ pub fn make_ready(ledger: Ledger, n: ChannelNumber) -> Ledger
 
 // The link is dropped. What is held stays, and so does the pool.
 pub fn drop_link(ledger: Ledger, n: ChannelNumber) -> Ledger
+    requires { ⌜ Belongs ledger ⌝ }
     requires { ⌜ (1 ≤ n .0) × (n .0 ≤ 7) ⌝ }
     ensures { λ r. ⌜ ((p : List ℕ) → GoodIn ledger p → Changed ledger p n (dropped (chanIn ledger p n)) r p) ⌝ }
 {
@@ -252,6 +254,7 @@ pub fn drop_link(ledger: Ledger, n: ChannelNumber) -> Ledger
 
 // The event list is replaced. The channels and the pool stay.
 pub fn set_events(ledger: Ledger, available: bool, status: bool) -> Ledger
+    requires { ⌜ Belongs ledger ⌝ }
     ensures { λ r. ⌜ ((p : List ℕ) → GoodIn ledger p → Shows (withEvents (shown ledger p) (record { available = available; status = status })) r p) ⌝ }
 {
     let events = Events { available, status };

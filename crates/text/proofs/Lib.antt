@@ -5,3 +5,4 @@ pub mod Calls
 pub mod Stores
 pub mod Gathering
 pub mod Printing
+pub mod Settled

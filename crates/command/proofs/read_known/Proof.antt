@@ -35,7 +35,7 @@ read-own-requires c κs =
     let z = c .before .before .before .before .before .before .before in
     let s = now (z .args .s) in
     let w : Finds (At _ _) s 0x02 = subst (λ (r : Where). Finds r s 0x02) (c .before .at .given .1) (c .before .before .before .find .ensures) in
-    record { begun = z .pre; surveyed = c .before .before .before .before .before .go-through .ensures; unflagged = c .before .before .before .before .if1 .left; first-02 = w }
+    record { begun = z .pre; surveyed = c .before .before .before .before .before .go-through .ensures; unflagged = c .before .before .before .before .if1 .left; first-02 = w .0 }
 
 enum-told : tie.Need-enum-told
 enum-told c = search needs

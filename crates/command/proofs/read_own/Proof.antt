@@ -45,8 +45,10 @@ settle-requires c κs =
       surveyed = z .pre .surveyed;
       unflagged = z .pre .unflagged;
       first-02 = z .pre .first-02;
-      first-own = w1;
-      first-last = w2;
+      first-own = w1 .0;
+      first-last = w2 .0;
+      own-place = w1 .1;
+      last-place = w2 .1;
     }
 
 enum-told : tie.Need-enum-told
@@ -64,7 +66,7 @@ returns-2 c =
     let s = now (z .args .s) in
     let w1 : Finds (At _ _) s (ownNumber (z .args .handler)) = found-as s (c .before .before .before .before .before .at .given .1) (c .before .before .before .before .before .before .before .before .value-number .ensures) (c .before .before .before .before .before .before .before .find .ensures) in
     let w2 : Finds (Nowhere) s (lastNumber (z .args .handler)) = found-as s (c .enum-told .given .1) (c .before .before .before .last-number .ensures) (c .before .before .find2 .ensures) in
-    λ p t. known-no-last s _ _ (z .pre .begun) _ (z .pre .surveyed) (z .pre .unflagged) (z .pre .first-02 .there) (w1 .there) p t w2
+    λ p t. known-no-last s _ _ (z .pre .begun) _ (z .pre .surveyed) (z .pre .unflagged) (z .pre .first-02 .there) (w1 .0 .there) p t w2
 
 returns-3 : tie.Need-returns-3
 returns-3 c =

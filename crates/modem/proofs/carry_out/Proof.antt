@@ -6,7 +6,7 @@ use denote.Ref.{now}
 use Rattle.rules.specs.Checks.{some-of, member}
 use Rattle.rules.specs.Reading.{toModem}
 use Rattle.command.specs.declared.Handler.the-variants.{Close, Receive, Send}
-use Rattle.modem.proofs.Obeying.{seven, as-obeyed, more-time-told, events-told, close-told, receive-told, send-told, status-told, one-byte, numbered}
+use Rattle.modem.proofs.Obeying.{as-obeyed, more-time-told, events-told, close-told, receive-told, send-told, status-told, one-byte, numbered}
 use borrow.Author.Needs.{needs}
 use Rattle.modem.proofs.carry_out.Statement.{statement}
 use Rattle.modem.proofs.carry_out.Tie as tie
@@ -91,7 +91,7 @@ enum-told-7 : tie.Need-enum-told-7
 enum-told-7 c = search needs
 
 tell-channels-requires : tie.Need-tell-channels-requires
-tell-channels-requires c κs = (seven _ _ (c .before .before .before .before .before .before .before .before .before .pre .0), c .before .before .before .before .before .before .before .before .before .pre .1 .1)
+tell-channels-requires c κs = search needs
 
 same-length : tie.Need-same-length
 same-length c = search needs

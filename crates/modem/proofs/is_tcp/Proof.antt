@@ -19,13 +19,13 @@ enum-known-at : tie.Need-enum-known-at
 enum-known-at c = search needs
 
 shared-slice-read-result : tie.Need-shared-slice-read-result
-shared-slice-read-result c = let f = (subst (λ (w : Where). Finds w (now (c .before .before .before .before .before .before .args .s)) 0x3C) (c .before .before .at .given .1) (c .before .before .before .before .find .ensures)) in omega (arith, f .within, c .before .before .before .before .before .before .pre _ _ f)
+shared-slice-read-result c = let f = (subst (λ (w : Where). Finds w (now (c .before .before .before .before .before .before .args .s)) 0x3C) (c .before .before .at .given .1) (c .before .before .before .before .find .ensures)) in omega (arith, f .0 .within, c .before .before .before .before .before .before .pre _ _ (f .0))
 
 enum-told : tie.Need-enum-told
 enum-told c = search needs
 
 returns : tie.Need-returns
-returns c = λ t y. y .stands _ _ (subst (λ (w : Where). Finds w (now (c .before .before .before .before .before .before .args .s)) 0x3C) (c .before .before .at .given .1) (c .before .before .before .before .find .ensures)) .0
+returns c = λ t y. y .stands _ _ (subst (λ (w : Where). Finds w (now (c .before .before .before .before .before .before .args .s)) 0x3C) (c .before .before .at .given .1) (c .before .before .before .before .find .ensures) .0) .0
 
 returns-2 : tie.Need-returns-2
 returns-2 c = λ t y. y .absent (subst (λ (w : Where). Finds w (now (c .before .before .before .before .args .s)) 0x3C) (c .enum-told .given .1) (c .before .before .find .ensures))

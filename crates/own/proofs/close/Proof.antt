@@ -1,6 +1,6 @@
 -- `own::close` meets its contract: the laws of the close, at what the functions that it calls ensure.
 -- Assumes nothing.
-use Rattle.session.proofs.Facts.{closed-state}
+use Rattle.session.proofs.Facts.{closed-state, closed-good}
 use Rattle.own.proofs.Replies.{as-told, changed-answers, close-unopened, close-open}
 use borrow.Author.Needs.{needs}
 use Rattle.own.proofs.close.Statement.{statement}
@@ -40,7 +40,9 @@ plain-requires : tie.Need-plain-requires
 plain-requires c κs = search needs
 
 end-with-requires : tie.Need-end-with-requires
-end-with-requires c κs = search needs
+end-with-requires c κs =
+    let s = c .before .before .before .before .before .before .before .before .before in
+    (record { pool = _; good = closed-good _ _ _ (s .pre .0) _ _ (c .before .before .close-channel .ensures) }, search needs)
 
 same-length-2 : tie.Need-same-length-2
 same-length-2 c = search needs

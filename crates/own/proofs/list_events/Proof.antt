@@ -3,7 +3,7 @@
 use borrow.Author.Tests.{not-true, not-false}
 use denote.Ref.{now}
 use Rattle.own.proofs.Replies.{as-told}
-use Rattle.own.proofs.Events.{list-forbidden, list-done}
+use Rattle.own.proofs.Events.{list-belongs, list-forbidden, list-done}
 use borrow.Author.Needs.{needs}
 use Rattle.own.proofs.list_events.Statement.{statement}
 use Rattle.own.proofs.list_events.Tie as tie
@@ -40,7 +40,9 @@ plain-requires : tie.Need-plain-requires
 plain-requires c κs = search needs
 
 end-with-requires-2 : tie.Need-end-with-requires-2
-end-with-requires-2 c κs = search needs
+end-with-requires-2 c κs =
+    let s = c .before .before .before .before .before .before .before .before .before .before in
+    (list-belongs _ _ _ _ (s .pre .0) (c .before .before .set-events .ensures), search needs)
 
 same-length-2 : tie.Need-same-length-2
 same-length-2 c = search needs

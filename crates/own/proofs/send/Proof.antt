@@ -70,7 +70,9 @@ store-requires : tie.Need-store-requires
 store-requires c κs = (c .before .before .before .before .before .before .before .before .before .before .before .pre .0, send-fits _ _ _ (c .before .before .before .before .before .before .before .before .before .before .before .pre .0) (c .before .before .before .before .before .before .before .before .before .before .before .args .d) (now (c .before .before .before .before .before .before .before .before .before .before .before .args .bytes)) (c .before .before .before .before .before .before .before .before .before .before .before .args .ignored) (c .before .before .before .before .before .if1 .left) (c .before .if3 .left))
 
 send-on-requires : tie.Need-send-on-requires
-send-on-requires c κs = search needs
+send-on-requires c κs =
+    let s = c .before .before .before .before .before .before .before .before .before .before .before .before in
+    (record { pool = _; good = stored-ok _ _ _ (s .pre .0) (s .args .d) (now (s .args .bytes)) (s .args .ignored) (c .before .before .before .before .before .before .if1 .left) (c .before .before .if3 .left) _ _ (c .store .ensures) }, (s .pre .0 .low, s .pre .0 .high))
 
 sub-rest : tie.Need-sub-rest
 sub-rest c = search needs

@@ -2,8 +2,8 @@
 -- Assumes nothing.
 use mathlib.Core.Path.{refl}
 use Rattle.session.specs.Picture.{shown}
-use Rattle.own.proofs.Replies.{told-answers, statuses-stand}
-use Rattle.own.proofs.Replies.{told-answers}
+use native.Mathlib.Omega.{arith}
+use Rattle.own.proofs.Replies.{told-answers, seven, statuses-stand}
 use borrow.Author.Needs.{needs}
 use Rattle.own.proofs.tell_channels.Statement.{statement}
 use Rattle.own.proofs.tell_channels.Tie as tie
@@ -16,7 +16,9 @@ plain-requires : tie.Need-plain-requires
 plain-requires c κs = search needs
 
 tell-statuses-requires : tie.Need-tell-statuses-requires
-tell-statuses-requires c κs = search needs
+tell-statuses-requires c κs =
+    let s = c .before .before .before .before in
+    (seven _ _ (s .pre .0 .good), omega (arith, s .pre .1))
 
 same-length : tie.Need-same-length
 same-length c = search needs

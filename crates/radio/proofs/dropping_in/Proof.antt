@@ -23,7 +23,7 @@ enum-told c = search needs
 tell-dropped-requires : tie.Need-tell-dropped-requires
 tell-dropped-requires c κs =
     let n = c .before .before .before .permitted .ensures .1 (c .before .enum-told .given .1) in
-    (n .0, n .1, c .before .before .before .before .if1 .left)
+    (search needs, (n .0, n .1, c .before .before .before .before .if1 .left))
 
 enum-known-why : tie.Need-enum-known-why
 enum-known-why c = search needs

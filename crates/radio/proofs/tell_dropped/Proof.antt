@@ -16,7 +16,7 @@ drop-link-requires c κs = search needs
 returns : tie.Need-returns
 returns c =
     let s = c .before .before .before .before .before in
-    λ p g y. drop-quiet _ _ _ (s .pre .2) _ p g y (c .before .before .before .drop-link .ensures p g) (not-true _ (c .if1 .taken))
+    λ p g y. drop-quiet _ _ _ (s .pre .1 .2) _ p g y (c .before .before .before .drop-link .ensures p g) (not-true _ (c .if1 .taken))
 
 tell-drop-requires : tie.Need-tell-drop-requires
 tell-drop-requires c κs = search needs
@@ -27,7 +27,7 @@ same-length c = search needs
 returns-2 : tie.Need-returns-2
 returns-2 c =
     let s = c .before .before .before .before .before .before .before .before .before in
-    λ p g y. drop-told _ _ _ (s .pre .2) _ p g y (c .before .before .before .before .before .before .before .drop-link .ensures p g) _ (not-false _ (c .before .before .before .before .if1 .left)) (c .before .before .tell-drop .ensures)
+    λ p g y. drop-told _ _ _ (s .pre .1 .2) _ p g y (c .before .before .before .before .before .before .before .drop-link .ensures p g) _ (not-false _ (c .before .before .before .before .if1 .left)) (c .before .before .tell-drop .ensures)
 
 pub tell-dropped-spec : {M : Type 1} → statement M
 tell-dropped-spec =

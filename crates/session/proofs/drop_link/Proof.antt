@@ -28,7 +28,7 @@ element-set-from-next c = search needs
 returns : tie.Need-returns
 returns c =
     let s = c .before .before in
-    λ p g. drop-law (s .args .t1) p (s .args .n) (record { good = g; low = s .pre .0; high = s .pre .1 })
+    λ p g. drop-law (s .args .t1) p (s .args .n) (record { good = g; low = s .pre .1 .0; high = s .pre .1 .1 })
 
 pub drop-link-spec : {M : Type 1} → statement M
 drop-link-spec =

@@ -45,7 +45,7 @@ returns : tie.Need-returns
 returns c =
     let s = c .before .before .before in
     λ p g.
-    let law = ready-law (s .args .t1) p (s .args .n) (record { good = g; low = s .pre .0; high = s .pre .1 }) in
+    let law = ready-law (s .args .t1) p (s .args .n) (record { good = g; low = s .pre .1 .0; high = s .pre .1 .1 }) in
     let e = c .established .ensures in
     record { ledger = linked (s .args .t1) (s .args .n) e ∙ law .ledger; pool = law .pool }
 

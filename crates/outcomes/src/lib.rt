@@ -1,0 +1,1 @@
+// What it means that a contract settles every outcome. There is no code here.

@@ -1,0 +1,19 @@
+-- Each contract of the words settles its outcome.
+-- Assumes nothing.
+use mathlib.Core.Path.{refl, sym, _∙_}
+use Rattle.outcomes.specs.Determined.{Determined}
+use Rattle.rules.proofs.Refusal.number.Kinds as number-kinds
+use Rattle.rules.proofs.Refusal.number.Reads as number-reads
+use Rattle.rules.proofs.ChannelNumber.identity.Kinds as identity-kinds
+use Rattle.rules.proofs.ChannelNumber.identity.Reads as identity-reads
+use Rattle.rules.proofs.DeviceIdentity.channel.Kinds as channel-kinds
+use Rattle.rules.proofs.DeviceIdentity.channel.Reads as channel-reads
+
+pub number-settled : Determined 0 number-kinds.ps number-kinds.r number-reads.Pre number-reads.Post
+number-settled κs a _ x y v w p q = (p ∙ sym q, refl)
+
+pub identity-settled : Determined 0 identity-kinds.ps identity-kinds.r identity-reads.Pre identity-reads.Post
+identity-settled κs a _ x y v w p q = (p ∙ sym q, refl)
+
+pub channel-settled : Determined 0 channel-kinds.ps channel-kinds.r channel-reads.Pre channel-reads.Post
+channel-settled κs a _ x y v w p q = (p ∙ sym q, refl)
