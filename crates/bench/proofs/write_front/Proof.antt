@@ -1,0 +1,49 @@
+-- `bench::write_front` meets its contract: D0 and the length, then the objects 01 and 02.
+-- Assumes nothing.
+use Prim.Native.Nat.{_+_}
+use mathlib.Core.Path.{refl}
+use native.Mathlib.Omega.{arith}
+use Rattle.rules.proofs.Sizes.{length-bytes}
+use Rattle.bench.specs.Wrote.{frontBytes}
+use Rattle.bench.proofs.Writes.{still, then-put}
+use borrow.Author.Needs.{needs}
+use Rattle.bench.proofs.write_front.Statement.{statement}
+use Rattle.bench.proofs.write_front.Tie as tie
+
+add-write-length : tie.Need-add-write-length
+add-write-length c = search needs
+
+cast-write-length : tie.Need-cast-write-length
+cast-write-length c = search needs
+
+write-length-requires : tie.Need-write-length-requires
+write-length-requires c κs = search needs
+
+slice-aggregate-put : tie.Need-slice-aggregate-put
+slice-aggregate-put c = search needs
+
+put-requires : tie.Need-put-requires
+put-requires c κs = omega (arith, c .before .before .before .before .before .before .before .pre .0, c .before .before .before .before .write-length .ensures .behind, length-bytes (9 + c .before .before .before .before .before .before .before .args .size), still _ _ _ _ _ (c .before .before .before .before .write-length .ensures))
+
+add-result : tie.Need-add-result
+add-result c = search needs
+
+same-length : tie.Need-same-length
+same-length c = search needs
+
+returns : tie.Need-returns
+unfolding frontBytes
+returns c = then-put _ _ _ _ _ _ _ _ (c .before .before .before .before .before .before .before .write-length .ensures) (omega (arith, c .before .before .before .before .before .before .before .before .before .before .pre .0, length-bytes (9 + c .before .before .before .before .before .before .before .before .before .before .args .size))) refl (c .before .before .put .ensures)
+
+pub write-front-spec : {M : Type 1} → statement M
+write-front-spec =
+    tie.close
+    (tie.spec
+    add-write-length
+    cast-write-length
+    write-length-requires
+    slice-aggregate-put
+    put-requires
+    add-result
+    same-length
+    returns)
