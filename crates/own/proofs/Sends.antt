@@ -20,7 +20,7 @@ use Rattle.rules.proofs.Soundness.{chan-sound, stored-sound, readied-sound, sam
 use Rattle.rules.proofs.Told.{chan-changed}
 use Rattle.session.specs.declared.Ended.the-variants.{Wrote}
 use Rattle.session.specs.declared.Ledger.{Ledger}
-use Rattle.session.specs.Picture.{Shows, GoodIn, shown}
+use Rattle.session.specs.Picture.{Shows, GoodIn, linkOf, shown}
 use Rattle.session.specs.Calls.{Answers}
 use Rattle.session.specs.Changed.{Numbered, chanIn, entryIn, Changed}
 use Rattle.session.proofs.Facts.{bounds}
@@ -72,11 +72,11 @@ module _ (l : Ledger) (p : List ℕ) (n : ChannelNumber) (h : Numbered l p n) (d
   unfolding sending
   send-unopened o = stop _ _ _ (unopened l p n h o)
 
-  link-dropped : (b : Bool) → isDropped (entryIn l n .link) ≡ b → isDropped (c .link) ≡ b
-  link-dropped b e = ap isDropped (sym (bounds l p n h .link-is)) ∙ e
+  link-dropped : (b : Bool) → isDropped (linkOf (entryIn l n .link)) ≡ b → isDropped (c .link) ≡ b
+  link-dropped b e = ap isDropped (sym (bounds l p n h .link-was)) ∙ e
 
   pub send-dropped :
-      1 ≤ entryIn l n .grant → isDropped (entryIn l n .link) ≡ true → sending a (d .qualifier) n s i ≡ reply a (problem 0x02)
+      1 ≤ entryIn l n .grant → isDropped (linkOf (entryIn l n .link)) ≡ true → sending a (d .qualifier) n s i ≡ reply a (problem 0x02)
   unfolding sending
   send-dropped o e = skip _ _ _ (unclosed l p n h o) ∙ stop _ _ _ (link-dropped true e)
 
@@ -85,7 +85,7 @@ module _ (l : Ledger) (p : List ℕ) (n : ChannelNumber) (h : Numbered l p n) (d
   room-is = λ j. bounds l p n h .grant-is j - bounds l p n h .tx-is j
 
   pub send-overfull :
-      1 ≤ entryIn l n .grant → isDropped (entryIn l n .link) ≡ false → entryIn l n .grant - entryIn l n .tx < length s →
+      1 ≤ entryIn l n .grant → isDropped (linkOf (entryIn l n .link)) ≡ false → entryIn l n .grant - entryIn l n .tx < length s →
       sending a (d .qualifier) n s i ≡ reply a (problem 0x04)
   unfolding sending
   send-overfull o e f =
@@ -142,7 +142,7 @@ module _ (l : Ledger) (p : List ℕ) (n : ChannelNumber) (h : Numbered l p n) (d
         y
 
     pub send-done :
-        (k x left : ℕ) (m : Ledger) (q : List ℕ) (r : Ledger) (before after : List ℕ) → isDropped (entryIn l n .link) ≡ false →
+        (k x left : ℕ) (m : Ledger) (q : List ℕ) (r : Ledger) (before after : List ℕ) → isDropped (linkOf (entryIn l n .link)) ≡ false →
         Changed l p n (stored c s) m q → Changed m q n (sentOn (d .qualifier) (chanIn m q n)) r q → x ≡ plain i →
         left ≡ capped (entryIn l n .grant - entryIn l n .tx - length s) → Stands (response d (done x (sent left))) k before after →
         Answers (told d (sending a (d .qualifier) n s i)) r q (Wrote k) before after

@@ -16,6 +16,7 @@ use session::base;
 use session::close_channel;
 use session::hand;
 use session::least;
+use session::link_of;
 use session::make_ready;
 use session::set_events;
 use session::store;
@@ -28,7 +29,7 @@ ghost use Rattle.rules.specs.Checks.{_⇒_else_, every, member};
 ghost use Rattle.rules.specs.Profile.{allowsEvent};
 ghost use Rattle.rules.specs.State.{isDropped, readied};
 ghost use Rattle.rules.specs.Own.{bit1, error, problem, done, nothing, statuses, statusesFrom, reply, plain, listing, closing, receiving, sending};
-ghost use Rattle.session.specs.Picture.{Belongs, GoodIn, shown};
+ghost use Rattle.session.specs.Picture.{Belongs, GoodIn, linkOf, shown};
 ghost use Rattle.session.specs.Calls.{Answers};
 ghost use Rattle.session.specs.Changed.{Numbered, chanIn, Changed};
 ghost use Rattle.own.specs.Replies.{told};
@@ -224,10 +225,10 @@ fn send_on(ledger: Ledger, n: ChannelNumber, qualifier: u8) -> Ledger
 }
 
 // Whether a link was dropped.
-fn is_dropped(link: Link) -> bool
-    ensures { λ r. ⌜ r ≡ isDropped link ⌝ }
+fn is_dropped(link: u8) -> bool
+    ensures { λ r. ⌜ r ≡ isDropped (linkOf link) ⌝ }
 {
-    match link {
+    match link_of(link) {
         Link::NotYet => false,
         Link::Established => false,
         Link::Dropped => true,

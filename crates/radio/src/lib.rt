@@ -13,6 +13,7 @@ use session::arrive;
 use session::base;
 use session::drop_link;
 use session::least;
+use session::link_of;
 use session::take_ready;
 use session::told;
 ghost use mathlib.Core.Path.{_≡_};
@@ -49,8 +50,7 @@ pub fn permitted(ledger: Ledger, n: ChannelNumber) -> Permit
     if c.grant < 1 {
         return Permit::Refuse(Refusal::Unopened);
     }
-    let link = c.link;
-    match link {
+    match link_of(c.link) {
         Link::NotYet => Permit::Refuse(Refusal::Unlinked),
         Link::Established => Permit::Pass,
         Link::Dropped => Permit::Refuse(Refusal::Unlinked),

@@ -24,7 +24,7 @@ use Rattle.rules.proofs.Laws.{stop, skip}
 use Rattle.octets.specs.Parts.{pasted}
 use Rattle.octets.proofs.Pastes.{paste-after, length-pasted}
 use Rattle.session.specs.declared.Channel.{Channel}
-use Rattle.session.specs.Picture.{chansIn}
+use Rattle.session.specs.Picture.{linkOf, chansIn}
 use Rattle.responses.specs.Stands.{response, Stands}
 use Rattle.responses.proofs.Writes.{behind-head, head-size, more}
 
@@ -54,13 +54,13 @@ toldFrom : ℕ → List Channel → List Status
 toldFrom n [] = []
 toldFrom n (e ∷ es) =
     let rest = toldFrom (n + 1) es in
-    granted e ⇒ record { number = record { 0 = n }; link = e .link } ∷ rest else rest
+    granted e ⇒ record { number = record { 0 = n }; link = linkOf (e .link) } ∷ rest else rest
 
 told-is : (n : ℕ) (es : List Channel) (p : List ℕ) → statusesFrom n (chansIn es p) ≡ toldFrom n es
 unfolding statusesFrom chansIn isOpen toldFrom
 told-is n [] p = refl
 told-is n (e ∷ es) p =
-    ap (λ (rest : List Status). granted e ⇒ record { number = record { 0 = n }; link = e .link } ∷ rest else rest) (told-is (n + 1) es _)
+    ap (λ (rest : List Status). granted e ⇒ record { number = record { 0 = n }; link = linkOf (e .link) } ∷ rest else rest) (told-is (n + 1) es _)
 
 -- what is told of the entries from k on
 pub rest : List Channel → ℕ → List ℕ
@@ -71,7 +71,7 @@ from-here es k e h = drop-cons es k e h ∙ ap (λ (j : ℕ). getD es k e ∷ dr
 
 rest-open :
     (es : List Channel) (k : ℕ) (e : Channel) → k < length es → 1 ≤ getD es k e .grant →
-    rest es k ≡ objectBytes (statusObject (record { 0 = k + 1 }) (getD es k e .link)) ++ rest es (k + 1)
+    rest es k ≡ objectBytes (statusObject (record { 0 = k + 1 }) (linkOf (getD es k e .link))) ++ rest es (k + 1)
 unfolding rest toldFrom written
 rest-open es k e h o =
     ap (λ (l : List Channel). bytesOf (toldFrom (k + 1) l)) (from-here es k e h)
@@ -140,14 +140,14 @@ module _ (es : List Channel) (head : ℕ) (begun : List ℕ) where
 
   pub sofar-open :
       (k at m : ℕ) (out after : List ℕ) (e : Channel) → Sofar es head begun k at out → length es ≡ 7 → k < 7 → 1 ≤ getD es k e .grant →
-      m ≡ at + 4 → after ≡ pasted out at (objectBytes (statusObject (record { 0 = k + 1 }) (getD es k e .link))) →
+      m ≡ at + 4 → after ≡ pasted out at (objectBytes (statusObject (record { 0 = k + 1 }) (linkOf (getD es k e .link)))) →
       Sofar es head begun (k + 1) m after
   sofar-open k at m out after e h l b o c p =
       let f = h .few in
       let r = h .room in
       let n = h .counted in
-      let s = objectBytes (statusObject (record { 0 = k + 1 }) (getD es k e .link)) in
-      let z : length s ≡ 4 = status-size (record { 0 = k + 1 }) (getD es k e .link) in
+      let s = objectBytes (statusObject (record { 0 = k + 1 }) (linkOf (getD es k e .link))) in
+      let z : length s ≡ 4 = status-size (record { 0 = k + 1 }) (linkOf (getD es k e .link)) in
       let y : length (h .text ++ s) ≡ length (h .text) + length s = length-append (h .text) s in
       record {
         text = h .text ++ s;

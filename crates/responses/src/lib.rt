@@ -4,6 +4,7 @@ use rules::ChannelNumber;
 use rules::Details;
 use rules::Link;
 use session::Channel;
+use session::link_of;
 ghost use mathlib.Core.Path.{_≡_};
 ghost use mathlib.Core.List.{List, _∷_};
 ghost use Prim.Native.Nat.{ℕ, _+_, _-_, _≤_, _<_};
@@ -13,7 +14,7 @@ ghost use Rattle.rules.specs.Frames.{lengthBytes, objectBytes};
 ghost use Rattle.rules.specs.Reading.{Bearer};
 ghost use Rattle.rules.specs.Own.{error, problem, done, opened, received, sent, statuses, statusesFrom};
 ghost use Rattle.rules.specs.Written.{bearerBytes, statusBytes, statusObject};
-ghost use Rattle.session.specs.Picture.{chansIn};
+ghost use Rattle.session.specs.Picture.{linkOf, chansIn};
 ghost use Rattle.responses.specs.Stands.{response, Stands};
 
 // Writes a result that nothing follows, and tells the count of bytes.
@@ -151,12 +152,12 @@ pub fn tell_opened(
 }
 
 // Writes the status of one channel, and tells the place behind it.
-fn tell_status(out: &mut [u8], at: usize, n: ChannelNumber, link: Link) -> usize
+fn tell_status(out: &mut [u8], at: usize, n: ChannelNumber, link: u8) -> usize
     requires { ⌜ (n .0 ≤ 7) × (at + 4 ≤ length (now out)) ⌝ }
-    ensures { λ r. ⌜ now (out .exit) ≡ pasted (now (out .entry)) at (objectBytes (statusObject n link)) ⌝ }
+    ensures { λ r. ⌜ now (out .exit) ≡ pasted (now (out .entry)) at (objectBytes (statusObject n (linkOf link))) ⌝ }
     ensures { λ r. ⌜ r ≡ at + 4 ⌝ }
 {
-    let pair = status(n, link);
+    let pair = status(n, link_of(link));
     let object = [0x38u8, 0x02, pair[0], pair[1]];
     octets::put(out, at, &object);
     at + 4

@@ -49,6 +49,7 @@ pub enum Link {
 }
 
 // The event list: whether 09, data available, and 0A, channel status, are listed.
+#[repr(C)]
 pub struct Events {
     pub available: bool,
     pub status: bool,

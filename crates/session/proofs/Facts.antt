@@ -8,7 +8,6 @@ use lib.ListN.{length, take, drop, getD, set, length-append, length-take, length
 use lib.Seq.{take-all}
 use Rattle.rules.specs.declared.ChannelNumber.{ChannelNumber}
 use Rattle.rules.specs.declared.Link.{Link}
-use Rattle.rules.specs.declared.Link.the-variants.{NotYet, Dropped}
 use Rattle.rules.specs.State.{State, Chan, closed, chan, withChan, room, fresh, arrived, handed, stored, readied, taken, dropped, establish}
 use Rattle.rules.specs.Pool.{cells, promisedTo, promised, unpromised}
 use Rattle.rules.specs.Sound.{SoundChan, Sound}
@@ -16,10 +15,10 @@ use Rattle.rules.proofs.Soundness.{chan-sound, closed-sound, fresh-sound, hande
 use Rattle.octets.specs.Parts.{part, pasted, cutOut, spread}
 use Rattle.session.specs.declared.Channel.{Channel}
 use Rattle.session.specs.declared.Ledger.{Ledger}
-use Rattle.session.specs.Picture.{space, pad, regions, region, poolOf, entry, ledgerOf, baseOf, shown, Shows, GoodIn}
+use Rattle.session.specs.Picture.{space, pad, regions, region, poolOf, linkNumber, linkOf, entry, ledgerOf, baseOf, shown, Shows, GoodIn}
 use Rattle.session.specs.Changed.{Numbered, chanIn, entryIn, withEntry, Changed}
 use Rattle.session.proofs.Regions.{length-regions, front, rest, used, used-fits, used-parts, length-pad, length-region, base-length, held-space}
-use Rattle.session.proofs.Views.{shows-good}
+use Rattle.session.proofs.Views.{link-back, shows-good}
 use Rattle.session.proofs.Changes.{arrived-pool, handed-pool, stored-pool, taken-pool, closed-pool, opened-pool, still-pool, recv-part, send-part}
 
 -- an entry of the ledger is the entry of the channel
@@ -28,7 +27,7 @@ map-set [] k c = refl
 map-set (x ∷ cs) zero c = refl
 map-set (x ∷ cs) (suc k) c = ap (λ (r : List Channel). entry x ∷ r) (map-set cs k c)
 
-entry-map : (cs : List Chan) (k : ℕ) → getD (map entry cs) k (record { grant = 0; link = NotYet; rx = 0; tx = 0; ready = 0 }) ≡ entry (getD cs k closed)
+entry-map : (cs : List Chan) (k : ℕ) → getD (map entry cs) k (record { grant = 0; link = 0; rx = 0; tx = 0; ready = 0 }) ≡ entry (getD cs k closed)
 unfolding entry closed
 entry-map cs k = List·getD-map entry cs k closed
 
@@ -40,7 +39,8 @@ pub record Bounds (l : Ledger) (p : List ℕ) (n : ChannelNumber) : Type 0 where
   pub used-fits : baseOf (l .channels) 7 ≤ 8192
   pub region-fits : baseOf (l .channels) (n .0 - 1) + 2 * space (entryIn l n .grant) ≤ baseOf (l .channels) 7
   pub grant-is : entryIn l n .grant ≡ chanIn l p n .grant
-  pub link-is : entryIn l n .link ≡ chanIn l p n .link
+  pub link-is : entryIn l n .link ≡ linkNumber (chanIn l p n .link)
+  pub link-was : linkOf (entryIn l n .link) ≡ chanIn l p n .link
   pub rx-is : entryIn l n .rx ≡ length (chanIn l p n .recv)
   pub tx-is : entryIn l n .tx ≡ length (chanIn l p n .send)
   pub ready-is : entryIn l n .ready ≡ chanIn l p n .ready
@@ -67,7 +67,7 @@ module _ (l : Ledger) (p : List ℕ) (n : ChannelNumber) (h : Numbered l p n) wh
   entry-is : entryIn l n ≡ entry c
   unfolding chan
   entry-is =
-      ap (λ (es : List Channel). getD es (n .0 - 1) (record { grant = 0; link = NotYet; rx = 0; tx = 0; ready = 0 })) channels-is
+      ap (λ (es : List Channel). getD es (n .0 - 1) (record { grant = 0; link = 0; rx = 0; tx = 0; ready = 0 })) channels-is
       ∙ entry-map (a .chans) (n .0 - 1)
 
   front-is : length (front a n (h .good .sound) place) ≡ baseOf (l .channels) (n .0 - 1)
@@ -110,6 +110,7 @@ module _ (l : Ledger) (p : List ℕ) (n : ChannelNumber) (h : Numbered l p n) wh
         region-fits = omega arith;
         grant-is = g;
         link-is = ap (λ (x : Channel). x .link) e;
+        link-was = ap (λ (x : Channel). linkOf (x .link)) e ∙ link-back (c .link);
         rx-is = r;
         tx-is = t;
         ready-is = y;
@@ -187,7 +188,7 @@ module _ (l : Ledger) (p : List ℕ) (n : ChannelNumber) (h : Numbered l p n) wh
       ((λ i. cutOut (pool-is i) (at + space (b .grant-is i)) k (at + space (b .grant-is i) + b .tx-is i)) ∙ taken-pool a n (h .good .sound) place at front-is k f)
 
   pub close-law :
-      Changed l p n closed (withEntry l n (record { grant = 0; link = NotYet; rx = 0; tx = 0; ready = 0 }))
+      Changed l p n closed (withEntry l n (record { grant = 0; link = 0; rx = 0; tx = 0; ready = 0 }))
       (cutOut p at (2 * space (x .grant)) (baseOf (l .channels) 7))
   unfolding closed entry
   close-law =
@@ -200,7 +201,7 @@ module _ (l : Ledger) (p : List ℕ) (n : ChannelNumber) (h : Numbered l p n) wh
 
   pub open-law :
       (g : ℕ) (k : Link) → x .grant ≡ 0 → baseOf (l .channels) 7 + 2 * space g ≤ 8192 →
-      Changed l p n (fresh g k) (withEntry l n (record { grant = g; link = k; rx = 0; tx = 0; ready = 0 }))
+      Changed l p n (fresh g k) (withEntry l n (record { grant = g; link = linkNumber k; rx = 0; tx = 0; ready = 0 }))
       (spread p at (2 * space g) (baseOf (l .channels) 7))
   unfolding fresh entry
   open-law g k o f =
@@ -211,22 +212,22 @@ module _ (l : Ledger) (p : List ℕ) (n : ChannelNumber) (h : Numbered l p n) wh
       ∙ opened-pool a n (h .good .sound) place at front-is g k (sym (b .grant-is) ∙ o) (omega arith))
 
   pub ready-law :
-      Changed l p n (readied c) (withEntry l n (record { grant = x .grant; link = establish (x .link); rx = x .rx; tx = x .tx; ready = x .tx })) p
+      Changed l p n (readied c) (withEntry l n (record { grant = x .grant; link = linkNumber (establish (linkOf (x .link))); rx = x .rx; tx = x .tx; ready = x .tx })) p
   unfolding readied entry
   ready-law =
       let b = bounds in
       let s = chan-sound a n (h .good .sound) in
       changed (readied c) _ _
-      (λ i. record { grant = b .grant-is i; link = establish (b .link-is i); rx = b .rx-is i; tx = b .tx-is i; ready = b .tx-is i })
+      (λ i. record { grant = b .grant-is i; link = linkNumber (establish (b .link-was i)); rx = b .rx-is i; tx = b .tx-is i; ready = b .tx-is i })
       (pool-is ∙ sym (still-pool a n (h .good .sound) place (readied c) refl refl refl (readied-sound c s)))
 
-  pub drop-law : Changed l p n (dropped c) (withEntry l n (record { grant = x .grant; link = Dropped; rx = x .rx; tx = x .tx; ready = x .ready })) p
+  pub drop-law : Changed l p n (dropped c) (withEntry l n (record { grant = x .grant; link = 2; rx = x .rx; tx = x .tx; ready = x .ready })) p
   unfolding dropped entry
   drop-law =
       let b = bounds in
       let s = chan-sound a n (h .good .sound) in
       changed (dropped c) _ _
-      (λ i. record { grant = b .grant-is i; link = Dropped; rx = b .rx-is i; tx = b .tx-is i; ready = b .ready-is i })
+      (λ i. record { grant = b .grant-is i; link = 2; rx = b .rx-is i; tx = b .tx-is i; ready = b .ready-is i })
       (pool-is ∙ sym (still-pool a n (h .good .sound) place (dropped c) refl refl refl (dropped-sound c s)))
 
   -- the bytes at the front of each way are those held

@@ -19,8 +19,8 @@ use Rattle.session.proofs.close_channel.Kinds as close-channel-kinds
 use Rattle.session.proofs.close_channel.Reads as close-channel-reads
 use Rattle.session.proofs.open_channel.Kinds as open-channel-kinds
 use Rattle.session.proofs.open_channel.Reads as open-channel-reads
-use Rattle.session.proofs.established.Kinds as established-kinds
-use Rattle.session.proofs.established.Reads as established-reads
+use Rattle.session.proofs.link_of.Kinds as link-of-kinds
+use Rattle.session.proofs.link_of.Reads as link-of-reads
 use Rattle.session.proofs.make_ready.Kinds as make-ready-kinds
 use Rattle.session.proofs.make_ready.Reads as make-ready-reads
 use Rattle.session.proofs.drop_link.Kinds as drop-link-kinds
@@ -60,8 +60,8 @@ close-channel-settled κs a _ x y v w p q = (ledger-alike p q, λ i. (tt, (pool-
 pub open-channel-settled : Determined 1 open-channel-kinds.ps open-channel-kinds.r open-channel-reads.Pre open-channel-reads.Post
 open-channel-settled κs a _ x y v w p q = (ledger-alike p q, λ i. (tt, (pool-alike p q i, v .1 .1)))
 
-pub established-settled : Determined 0 established-kinds.ps established-kinds.r established-reads.Pre established-reads.Post
-established-settled κs a _ x y v w p q = (p ∙ sym q, refl)
+pub link-of-settled : Determined 0 link-of-kinds.ps link-of-kinds.r link-of-reads.Pre link-of-reads.Post
+link-of-settled κs a _ x y v w p q = (p ∙ sym q, refl)
 
 pub make-ready-settled : Determined 0 make-ready-kinds.ps make-ready-kinds.r make-ready-reads.Pre make-ready-reads.Post
 make-ready-settled κs a b x y v w p q = (ledger-alike (p (b .0 .pool) (b .0 .good)) (q (b .0 .pool) (b .0 .good)), refl)

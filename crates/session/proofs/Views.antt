@@ -1,17 +1,19 @@
 -- The picture of a sound state shows that state, and a picture of a sound state is good.
 -- Assumes nothing.
-use Prim.Native.Nat.{ℕ, _+_, _-_, _*_, _≤_}
+use Prim.Native.Nat.{ℕ, zero, suc, _+_, _-_, _*_, _≤_}
 use mathlib.Core.Path.{_≡_, refl, sym, ap, subst, _∙_}
 use mathlib.Core.List.{List, [], _∷_, _++_, append-assoc, map}
 use native.Mathlib.Omega.{arith}
 use lib.ListN.{length, take, drop, replicate, length-append}
 use lib.Seq.{take-at, drop-at}
+use Rattle.rules.specs.declared.Link.{Link}
+use Rattle.rules.specs.declared.Link.the-variants.{NotYet, Established, Dropped}
 use Rattle.rules.specs.State.{State, Chan}
 use Rattle.rules.specs.Sound.{Each, SoundChan, Sound}
 use Rattle.session.specs.declared.Ledger.{Ledger}
 use Rattle.rules.specs.declared.Events.{Events}
 use Rattle.session.specs.Changed.{withEvents}
-use Rattle.session.specs.Picture.{space, pad, region, regions, poolOf, entry, ledgerOf, picture, chansIn, shown, view, Shows, GoodIn, Good}
+use Rattle.session.specs.Picture.{space, pad, region, regions, poolOf, linkNumber, linkOf, entry, ledgerOf, picture, chansIn, shown, view, Shows, GoodIn, Good}
 use Rattle.session.proofs.Regions.{length-pad, length-region, held-space}
 
 -- what is held is read back from the front of its space
@@ -39,6 +41,18 @@ module _ (c : Chan) (h : SoundChan c) (w : List ℕ) where
   rest-back : drop (2 * space (c .grant)) (region c ++ w) ≡ w
   rest-back = drop-at (region c) w (2 * space (c .grant)) (length-region c h)
 
+-- a link is read back from its number
+pub link-back : (k : Link) → linkOf (linkNumber k) ≡ k
+link-back NotYet = refl
+link-back Established = refl
+link-back Dropped = refl
+
+-- from two on a number is that of a dropped link
+pub link-dropped : (n : ℕ) → 2 ≤ n → Dropped ≡ linkOf n
+link-dropped zero h = absurd (omega arith)
+link-dropped (suc zero) h = absurd (omega arith)
+link-dropped (suc (suc n)) h = refl
+
 chans-back : (cs : List Chan) (w : List ℕ) → Each SoundChan cs → chansIn (map entry cs) (regions cs ++ w) ≡ cs
 unfolding chansIn regions entry
 chans-back [] w h = refl
@@ -47,7 +61,7 @@ chans-back (c ∷ cs) w h =
     ∙ (λ i.
     record {
       grant = c .grant;
-      link = c .link;
+      link = link-back (c .link) i;
       recv = recv-back c (h .0) (regions cs ++ w) i;
       send = send-back c (h .0) (regions cs ++ w) i;
       ready = c .ready;

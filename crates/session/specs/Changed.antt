@@ -3,7 +3,6 @@ use Prim.Native.Nat.{ℕ, _-_, _≤_}
 use mathlib.Core.List.{List}
 use lib.ListN.{getD, set}
 use Rattle.rules.specs.declared.Events.{Events}
-use Rattle.rules.specs.declared.Link.the-variants.{NotYet}
 use Rattle.rules.specs.declared.ChannelNumber.{ChannelNumber}
 use Rattle.rules.specs.State.{State, Chan, chan, withChan}
 use Rattle.session.specs.declared.Channel.{Channel}
@@ -22,7 +21,7 @@ chanIn l p n = chan (shown l p) n
 
 -- its entry in the ledger
 abbrev pub entryIn : Ledger → ChannelNumber → Channel
-entryIn l n = getD (l .channels) (n .0 - 1) (record { grant = 0; link = NotYet; rx = 0; tx = 0; ready = 0 })
+entryIn l n = getD (l .channels) (n .0 - 1) (record { grant = 0; link = 0; rx = 0; tx = 0; ready = 0 })
 
 -- the ledger with another entry in that place
 abbrev pub withEntry : Ledger → ChannelNumber → Channel → Ledger

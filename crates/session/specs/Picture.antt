@@ -3,6 +3,8 @@ use Prim.Native.Nat.{ℕ, zero, suc, _+_, _-_, _*_}
 use mathlib.Core.Path.{_≡_}
 use mathlib.Core.List.{List, [], _∷_, _++_, map}
 use lib.ListN.{length, take, drop, replicate}
+use Rattle.rules.specs.declared.Link.{Link}
+use Rattle.rules.specs.declared.Link.the-variants.{NotYet, Established, Dropped}
 use Rattle.rules.specs.State.{State, Chan}
 use Rattle.rules.specs.Pool.{cells}
 use Rattle.rules.specs.Sound.{Sound}
@@ -31,10 +33,21 @@ regions (c ∷ cs) = region c ++ regions cs
 unfoldable pub poolOf : State → List ℕ
 poolOf a = pad 8192 (regions (a .chans))
 
+-- the number by which the ledger has a link, and the link of a number
+abbrev pub linkNumber : Link → ℕ
+linkNumber NotYet = 0
+linkNumber Established = 1
+linkNumber Dropped = 2
+
+abbrev pub linkOf : ℕ → Link
+linkOf zero = NotYet
+linkOf (suc zero) = Established
+linkOf (suc (suc n)) = Dropped
+
 -- a channel as the ledger has it
 unfoldable pub entry : Chan → Channel
 entry c =
-    record { grant = c .grant; link = c .link; rx = length (c .recv); tx = length (c .send); ready = c .ready }
+    record { grant = c .grant; link = linkNumber (c .link); rx = length (c .recv); tx = length (c .send); ready = c .ready }
 
 unfoldable pub ledgerOf : State → Ledger
 ledgerOf a = record { profile = a .profile; events = a .events; channels = map entry (a .chans) }
@@ -54,7 +67,7 @@ chansIn [] p = []
 chansIn (e ∷ es) p =
     record {
       grant = e .grant;
-      link = e .link;
+      link = linkOf (e .link);
       recv = take (e .rx) p;
       send = take (e .tx) (drop (space (e .grant)) p);
       ready = e .ready;

@@ -11,20 +11,29 @@ ghost use lib.ListN.{length};
 ghost use mathlib.Core.List.{List};
 ghost use Rattle.rules.specs.Pool.{cells, unpromised};
 ghost use Rattle.rules.specs.State.{start, room, establish, closed, fresh, arrived, handed, stored, readied, taken, dropped};
-ghost use Rattle.session.specs.Picture.{Belongs, Good, GoodIn, Shows, ledgerOf, shown, view, baseOf};
+ghost use Rattle.session.specs.Picture.{Belongs, Good, GoodIn, Shows, linkNumber, linkOf, ledgerOf, shown, view, baseOf};
 ghost use Rattle.rules.specs.Own.{capped};
 ghost use Rattle.session.specs.Changed.{Numbered, chanIn, Changed, withEvents};
 
-// A channel: its grant (0 where it is not open), its link, how many bytes are held each way, and how many of those to send are ready.
+// The numbers by which the ledger has a link.
+pub const NOT_YET: u8 = 0;
+
+pub const ESTABLISHED: u8 = 1;
+
+pub const DROPPED: u8 = 2;
+
+// A channel: its grant (0 where it is not open), its link by number, how many bytes are held each way, and how many of those to send are ready.
+#[repr(C)]
 pub struct Channel {
     pub grant: u16,
-    pub link: Link,
+    pub link: u8,
     pub rx: u16,
     pub tx: u16,
     pub ready: u16,
 }
 
 // The small part of the record, which goes by value.
+#[repr(C)]
 pub struct Ledger {
     pub profile: [u8; 13],
     pub events: Events,
@@ -32,6 +41,7 @@ pub struct Ledger {
 }
 
 // What a host keeps for a card: the ledger, and the pool in which every held byte lies.
+#[repr(C)]
 pub struct Session {
     pub ledger: Ledger,
     pub pool: [u8; 8192],
@@ -53,6 +63,28 @@ pub struct Lent {
 pub struct Answered {
     pub session: Session,
     pub ended: Ended,
+}
+
+// The link of a number.
+pub fn link_of(number: u8) -> Link
+    ensures { λ r. ⌜ r ≡ linkOf number ⌝ }
+{
+    match number {
+        0 => Link::NotYet,
+        1 => Link::Established,
+        _ => Link::Dropped,
+    }
+}
+
+// The number of a link.
+fn link_number(link: Link) -> u8
+    ensures { λ r. ⌜ r ≡ linkNumber link ⌝ }
+{
+    match link {
+        Link::NotYet => NOT_YET,
+        Link::Established => ESTABLISHED,
+        Link::Dropped => DROPPED,
+    }
 }
 
 // Where the region of channel k begins: the regions of the channels before it stand one after the other.
@@ -166,7 +198,7 @@ pub fn close_channel(ledger: Ledger, pool: &mut [u8; 8192], n: ChannelNumber) ->
     let mut next = ledger;
     next.channels[k] = Channel {
         grant: 0,
-        link: Link::NotYet,
+        link: NOT_YET,
         rx: 0,
         tx: 0,
         ready: 0,
@@ -194,7 +226,7 @@ pub fn open_channel(
     let mut next = ledger;
     next.channels[k] = Channel {
         grant,
-        link,
+        link: link_number(link),
         rx: 0,
         tx: 0,
         ready: 0,
@@ -203,13 +235,13 @@ pub fn open_channel(
 }
 
 // The link that immediate data leaves: one not yet established is established.
-pub fn established(link: Link) -> Link
-    ensures { λ r. ⌜ r ≡ establish link ⌝ }
+fn established(link: u8) -> u8
+    ensures { λ r. ⌜ r ≡ linkNumber (establish (linkOf link)) ⌝ }
 {
-    match link {
-        Link::NotYet => Link::Established,
-        Link::Established => Link::Established,
-        Link::Dropped => Link::Dropped,
+    match link_of(link) {
+        Link::NotYet => ESTABLISHED,
+        Link::Established => ESTABLISHED,
+        Link::Dropped => DROPPED,
     }
 }
 
@@ -244,7 +276,7 @@ pub fn drop_link(ledger: Ledger, n: ChannelNumber) -> Ledger
     let mut next = ledger;
     next.channels[k] = Channel {
         grant: c.grant,
-        link: Link::Dropped,
+        link: DROPPED,
         rx: c.rx,
         tx: c.tx,
         ready: c.ready,
@@ -291,7 +323,7 @@ pub fn fresh_ledger(profile: &[u8]) -> Ledger
     octets::put_part(&mut kept, 0, profile, 0, least(profile.len(), 13));
     let none = Channel {
         grant: 0,
-        link: Link::NotYet,
+        link: NOT_YET,
         rx: 0,
         tx: 0,
         ready: 0,

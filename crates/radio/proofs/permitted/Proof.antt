@@ -10,6 +10,7 @@ use Rattle.radio.proofs.permitted.Statement.{statement}
 use Rattle.radio.proofs.permitted.Tie as tie
 use Rattle.radio.proofs.permitted.Reads as reads
 use Rattle.radio.proofs.permitted.Lts as lts
+use Rattle.session.proofs.link_of.Reads as link-of-reads
 
 returns : tie.Need-returns
 returns c = (
@@ -43,6 +44,9 @@ returns-3 c = (
   λ e. refuse-pass e,
 )
 
+link-of-requires : tie.Need-link-of-requires
+link-of-requires c κs = search needs
+
 enum-told : tie.Need-enum-told
 enum-told c = search needs
 
@@ -54,28 +58,28 @@ enum-told-3 c = search needs
 
 returns-4 : tie.Need-returns-4
 returns-4 c = (
-  let s = c .before .before .before .before .before .before .before in
+  let s = c .before .before .before .before .before .before .before .before in
       λ p g.
       let b = bounds (s .args .t1) p (s .args .n) (record { good = g; low = omega arith; high = omega arith }) in
-      sym (permit-link (shown (s .args .t1) p) (s .args .n) _ (omega arith) (omega arith) (omega (arith, b .grant-is, c .before .before .if3 .left)) (sym (b .link-is) ∙ c .enum-told .given .1)),
+      sym (permit-link (shown (s .args .t1) p) (s .args .n) _ (omega arith) (omega arith) (omega (arith, b .grant-is, c .before .before .before .if3 .left)) (sym (b .link-was) ∙ sym (c .before .before .link-of .ensures) ∙ c .enum-told .given .1)),
   λ e. refuse-pass e,
 )
 
 returns-5 : tie.Need-returns-5
 returns-5 c = (
-  let s = c .before .before .before .before .before .before .before in
+  let s = c .before .before .before .before .before .before .before .before in
       λ p g.
       let b = bounds (s .args .t1) p (s .args .n) (record { good = g; low = omega arith; high = omega arith }) in
-      sym (permit-link (shown (s .args .t1) p) (s .args .n) _ (omega arith) (omega arith) (omega (arith, b .grant-is, c .before .before .if3 .left)) (sym (b .link-is) ∙ c .enum-told2 .given .1)),
+      sym (permit-link (shown (s .args .t1) p) (s .args .n) _ (omega arith) (omega arith) (omega (arith, b .grant-is, c .before .before .before .if3 .left)) (sym (b .link-was) ∙ sym (c .before .before .link-of .ensures) ∙ c .enum-told2 .given .1)),
   λ e. (omega arith, omega arith),
 )
 
 returns-6 : tie.Need-returns-6
 returns-6 c = (
-  let s = c .before .before .before .before .before .before .before in
+  let s = c .before .before .before .before .before .before .before .before in
       λ p g.
       let b = bounds (s .args .t1) p (s .args .n) (record { good = g; low = omega arith; high = omega arith }) in
-      sym (permit-link (shown (s .args .t1) p) (s .args .n) _ (omega arith) (omega arith) (omega (arith, b .grant-is, c .before .before .if3 .left)) (sym (b .link-is) ∙ c .enum-told3 .given .1)),
+      sym (permit-link (shown (s .args .t1) p) (s .args .n) _ (omega arith) (omega arith) (omega (arith, b .grant-is, c .before .before .before .if3 .left)) (sym (b .link-was) ∙ sym (c .before .before .link-of .ensures) ∙ c .enum-told3 .given .1)),
   λ e. refuse-pass e,
 )
 
@@ -89,6 +93,7 @@ permitted-spec =
     mul-c
     element-copy-out-c
     returns-3
+    link-of-requires
     enum-told
     enum-told-2
     enum-told-3

@@ -1,8 +1,8 @@
 -- `session::make_ready` meets its contract: the law of the change, at what `established` ensures.
 -- Assumes nothing.
+use Prim.Native.Nat.{ℕ}
 use mathlib.Core.Path.{_≡_, ap, _∙_}
 use Rattle.rules.specs.declared.ChannelNumber.{ChannelNumber}
-use Rattle.rules.specs.declared.Link.{Link}
 use Rattle.session.specs.declared.Ledger.{Ledger}
 use Rattle.session.specs.Changed.{entryIn, withEntry}
 use Rattle.session.proofs.Facts.{ready-law}
@@ -15,7 +15,7 @@ use Rattle.session.proofs.established.Reads as established-reads
 
 -- two entries that differ in their link alone
 linked :
-    (l : Ledger) (n : ChannelNumber) {k m : Link} → k ≡ m →
+    (l : Ledger) (n : ChannelNumber) {k m : ℕ} → k ≡ m →
     withEntry l n (record { grant = entryIn l n .grant; link = k; rx = entryIn l n .rx; tx = entryIn l n .tx; ready = entryIn l n .tx }) ≡
     withEntry l n (record { grant = entryIn l n .grant; link = m; rx = entryIn l n .rx; tx = entryIn l n .tx; ready = entryIn l n .tx })
 linked l n e = λ i. withEntry l n (record { grant = entryIn l n .grant; link = e i; rx = entryIn l n .rx; tx = entryIn l n .tx; ready = entryIn l n .tx })

@@ -1,0 +1,51 @@
+-- A call writes at most 1500 bytes, so however it ends, one number tells it.
+-- Assumes nothing.
+use Prim.Native.Nat.{ℕ, _≤_, min}
+use mathlib.Core.Path.{_≡_, refl, sym, ap, subst, _∙_}
+use mathlib.Core.List.{List}
+use native.Mathlib.Omega.{arith}
+use lib.ListN.{length, length-take}
+use Rattle.rules.specs.State.{State, chan}
+use Rattle.rules.specs.Command.{Answer, Outcome, wrote, refused}
+use Rattle.rules.specs.Run.{Call, starting, commanding, arriving, takingOut, droppingLink, step}
+use Rattle.rules.specs.Sound.{Sound, Within}
+use Rattle.rules.proofs.Cases.{taking-cases}
+use Rattle.rules.proofs.Sizes.{written-within}
+use Rattle.rules.proofs.Soundness.{chan-sound}
+use Rattle.session.specs.declared.Ended.{Ended}
+use Rattle.session.specs.declared.Ledger.{Ledger}
+use Rattle.session.specs.Calls.{endedOf, Answers}
+use Rattle.host.specs.Packed.{packed, Fits, Packs}
+
+within-fits : (k : ℕ) (o : Outcome) → k ≤ 1500 → Within k o → Fits (endedOf o)
+unfolding Fits endedOf
+within-fits k (wrote s) h w = omega arith
+within-fits k (refused r) h w = tt
+
+-- what a take hands out is ready, and so within the grant
+take-within : (a : State) (c : Call) (buffer : ℕ) → Sound a → (n : _) → c ≡ takingOut buffer n → Within 1500 (step a c .outcome)
+unfolding step
+take-within a c buffer h n e =
+    subst (λ (x : Call). Within 1500 (step a x .outcome)) (sym e)
+    (taking-cases (λ (x : Answer). Within 1500 (x .outcome)) a (λ _. tt) buffer n
+    (λ _.
+    let s = chan-sound a n h in
+    let t = length-take (min buffer (chan a n .ready)) (chan a n .send) in omega (arith, s .capped, s .send-fits)))
+
+call-fits : (a : State) (c : Call) → Sound a → Fits (endedOf (step a c .outcome))
+call-fits a (starting p) h = within-fits 0 _ (omega arith) (written-within a (starting p) h)
+call-fits a (commanding buffer s) h = within-fits 255 _ (omega arith) (written-within a (commanding buffer s) h)
+call-fits a (arriving buffer n s) h = within-fits 16 _ (omega arith) (written-within a (arriving buffer n s) h)
+call-fits a (takingOut buffer n) h = within-fits 1500 _ (omega arith) (take-within a (takingOut buffer n) buffer h n refl)
+call-fits a (droppingLink buffer n) h = within-fits 16 _ (omega arith) (written-within a (droppingLink buffer n) h)
+
+module _ (a : State) (c : Call) (l : Ledger) (p : List ℕ) (e : Ended) (before after : List ℕ) (h : Answers (step a c) l p e before after) where
+  -- how the call ended can be packed
+  pub answer-fits : Sound a → Fits e
+  answer-fits s = subst Fits (sym (h .ended)) (call-fits a c s)
+
+  -- and once it is packed, the call is told
+  pub answer-packs : (m : Ledger) (r : ℕ) → (m ≡ l) × (r ≡ packed e) → Packs (step a c) m p r before after
+  answer-packs m r t =
+      subst (λ (k : Ledger). Packs (step a c) k p r before after) (sym (t .0))
+      (record { answers = record { shows = h .shows; good = h .good; ended = refl; lent = h .lent }; told = t .1 ∙ ap packed (h .ended) })
