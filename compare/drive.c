@@ -1,0 +1,1298 @@
+/* Drives reference and pomerassol over one random history and compares every answer: drive [SEED [CALLS]] */
+#include "calls.h"
+
+#include <inttypes.h>
+#include <stdbool.h>
+#include <stdio.h>
+#include <stdlib.h>
+#include <string.h>
+
+enum { LARGEST = 65535, GUARD = 64, SPACE = GUARD + LARGEST + 1 + GUARD, NOISE = 1 << 18 };
+enum { REFUSED = REFERENCE_REFUSED, COMMAND_CAP = 256, FRAME_CAP = 300, DATA_CAP = 241, CELLS = 256, CELL = 32 };
+
+/* ---- The two sides ---- */
+
+/* A record of each side, with the same history behind it. */
+typedef struct {
+    reference_session reference;
+    pomerassol_session pomerassol;
+} records;
+
+static records run, copies;
+static uint8_t reference_space[SPACE], pomerassol_space[SPACE], lent[LARGEST + 1];
+static uint8_t noise[NOISE];
+static uint64_t seed, calls, made, made_on_copies;
+static bool on_copies;
+
+/* ---- Random numbers ---- */
+
+static uint64_t random_state;
+
+/* The next 64 random bits (splitmix). */
+static uint64_t next_random(void)
+{
+    uint64_t z = random_state += 0x9E3779B97F4A7C15u;
+    z = (z ^ z >> 30) * 0xBF58476D1CE4E5B9u;
+    z = (z ^ z >> 27) * 0x94D049BB133111EBu;
+    return z ^ z >> 31;
+}
+
+/* A random number below n. */
+static uint32_t below(uint32_t n)
+{
+    return (uint32_t)(((next_random() >> 32) * n) >> 32);
+}
+
+/* True so many times in a hundred. */
+static bool chance(uint32_t percent)
+{
+    return below(100) < percent;
+}
+
+/* A random byte. */
+static uint8_t random_byte(void)
+{
+    return (uint8_t)below(256);
+}
+
+/* Random bytes, at most LARGEST and the guards. */
+static const uint8_t *random_bytes(void)
+{
+    return noise + below(NOISE - SPACE);
+}
+
+/* Fills the store that random bytes are read from. */
+static void fill_noise(void)
+{
+    for (size_t i = 0; i < NOISE; i += 8) {
+        uint64_t bits = next_random();
+        memcpy(noise + i, &bits, 8);
+    }
+}
+
+/* ---- What is counted ---- */
+
+enum { ROWS = 9, COLUMNS = 13, OTHER_TYPE = 7, ZERO_DETAILS = 8 };
+
+static const char *const row_names[ROWS] = {
+    "02 MORE TIME", "05 EVENT LIST", "40 OPEN", "41 CLOSE", "42 RECEIVE", "43 SEND", "44 STATUS", "other type", "zero details",
+};
+static const char *const column_names[COLUMNS] = {
+    "00", "01", "02", "07", "30", "31", "32", "36", "3A 01", "3A 02", "3A 03", "3A 04", "3A 06",
+};
+
+/* The answers that the paper knows, row by row. */
+static const char *const known[ROWS] = {
+    "xx..x.xx.....", "xx..x.xx.....", "xx.xx.xxx..xx", "xx..x.xx..x..", "xxx.x.xx..x..",
+    "xx..x.xx.xxx.", "xx..x.xx.....", ".....xx......", ".....xxx.....",
+};
+
+static uint64_t answers[ROWS][COLUMNS];
+static uint64_t refusals[6][7];
+
+/* Things that a history should come by. */
+typedef enum {
+    SHORT_PROFILE,
+    LONG_PROFILE,
+    EVENT_TOLD,
+    EVENT_UNLISTED,
+    NO_BYTE_CAME,
+    FILLED_BY_ARRIVAL,
+    ONE_BYTE_OVER,
+    TAKEN_ALL,
+    TAKEN_1500,
+    TAKEN_IN_PART,
+    TAKEN_NONE,
+    NOT_READY_BEHIND,
+    DROP_TOLD,
+    DROP_UNLISTED,
+    DROPPED_HOLDING,
+    SEVEN_OPEN,
+    ALL_PROMISED,
+    GRANT_FROM_CELLS,
+    NUMBER_USED_AGAIN,
+    CLOSED_HOLDING,
+    CLOSED_DROPPED,
+    RECEIVED_237,
+    RECEIVED_NONE,
+    RECEIVED_DROPPED,
+    LEFT_255,
+    LEFT_256,
+    FILLED_BY_SEND,
+    ONE_BYTE_OVER_SEND,
+    SENT_NONE,
+    ESTABLISHED_BY_SEND,
+    LONGEST_COMMAND,
+    LONGEST_RESPONSE,
+    PLACES
+} place;
+
+static const char *const place_names[PLACES] = {
+    [SHORT_PROFILE] = "start: profile under 13 bytes",
+    [LONG_PROFILE] = "start: profile over 13 bytes",
+    [EVENT_TOLD] = "arrival: event written",
+    [EVENT_UNLISTED] = "arrival: stored, event not listed",
+    [NO_BYTE_CAME] = "arrival: of no bytes",
+    [FILLED_BY_ARRIVAL] = "arrival: grant filled to the byte",
+    [ONE_BYTE_OVER] = "arrival: R6 by one byte",
+    [TAKEN_1500] = "take: 1500 bytes",
+    [TAKEN_ALL] = "take: all that was ready",
+    [TAKEN_IN_PART] = "take: as many as fit",
+    [TAKEN_NONE] = "take: none",
+    [NOT_READY_BEHIND] = "take: bytes not ready stay behind",
+    [DROP_TOLD] = "drop: event written",
+    [DROP_UNLISTED] = "drop: event not listed",
+    [DROPPED_HOLDING] = "drop: bytes held both ways",
+    [SEVEN_OPEN] = "OPEN: the seventh channel",
+    [ALL_PROMISED] = "OPEN: the last cells",
+    [GRANT_FROM_CELLS] = "OPEN: grant cut by the pool",
+    [NUMBER_USED_AGAIN] = "OPEN: a number below an open one",
+    [CLOSED_HOLDING] = "CLOSE: bytes held both ways",
+    [CLOSED_DROPPED] = "CLOSE: after a drop",
+    [RECEIVED_237] = "RECEIVE: 237 bytes",
+    [RECEIVED_NONE] = "RECEIVE: no bytes",
+    [RECEIVED_DROPPED] = "RECEIVE: bytes after a drop",
+    [LEFT_255] = "RECEIVE: 255 left",
+    [LEFT_256] = "RECEIVE: 256 left",
+    [FILLED_BY_SEND] = "SEND: grant filled to the byte",
+    [ONE_BYTE_OVER_SEND] = "SEND: 3A 04 by one byte",
+    [SENT_NONE] = "SEND: no bytes",
+    [ESTABLISHED_BY_SEND] = "SEND: link established",
+    [LONGEST_COMMAND] = "command of 256 bytes",
+    [LONGEST_RESPONSE] = "response of 255 bytes",
+};
+
+static uint64_t places[PLACES];
+
+/* Counts a place if it was come by. */
+static void count(place p, bool reached)
+{
+    places[p] += reached;
+}
+
+/* ---- The first difference ---- */
+
+static const char *const kind_names[] = {"nothing", "start", "command", "arrival", "take", "drop"};
+
+/* Prints bytes in hexadecimal, the first thousand of them. */
+static void print_bytes(const uint8_t *bytes, size_t n)
+{
+    for (size_t i = 0; i < n && i < 1000; i++)
+        printf("%02X", bytes[i]);
+    printf(n > 1000 ? "... (%zu bytes)\n" : "\n", n);
+}
+
+/* Prints what one side returned and wrote. */
+static void print_answer(const char *who, uint32_t returned, const uint8_t *out, size_t size)
+{
+    printf("%s returned %06" PRIX32, who, returned);
+    if (returned >= REFUSED) {
+        printf(", R%" PRIu32 "\n", returned - REFUSED);
+        return;
+    }
+    printf(": ");
+    print_bytes(out, returned < size ? returned : size);
+}
+
+/* Reports the first difference and ends. */
+static void differ(const char *what, const call *c, uint32_t from_reference, uint32_t from_pomerassol)
+{
+    printf("DIFFERENCE: %s\nseed %" PRIu64 ", call %" PRIu64 "%s\n", what, seed, made,
+           on_copies ? ", in the comparison of copies after it" : "");
+    printf("%s, channel %u, buffer of %zu, %zu bytes in: ", kind_names[c->kind], c->channel, c->size, c->n);
+    print_bytes(c->bytes, c->n);
+    print_answer("reference", from_reference, reference_space + GUARD, c->size);
+    print_answer("pomerassol", from_pomerassol, pomerassol_space + GUARD, c->size);
+    exit(1);
+}
+
+/* ---- One call on both sides ---- */
+
+/* Holds one side to its own answer: a number that can be, and nothing touched but what it reports. */
+static bool honest(const call *c, uint32_t returned, const uint8_t *space, const uint8_t *before)
+{
+    size_t written = returned < REFUSED ? returned : 0;
+    size_t all = GUARD + c->size + GUARD;
+    if (written > c->size || returned == REFUSED || returned > REFUSED + 6)
+        return false;
+    if (memcmp(space, before, GUARD) != 0)
+        return false;
+    return memcmp(space + GUARD + written, before + GUARD + written, all - GUARD - written) == 0;
+}
+
+/* Makes the call on both records and compares numbers, buffers and what was lent. */
+static uint32_t perform(records *r, const call *c)
+{
+    const uint8_t *before = random_bytes();
+    size_t all = GUARD + c->size + GUARD;
+    call with_copy = *c;
+    memcpy(reference_space, before, all);
+    memcpy(pomerassol_space, before, all);
+    memcpy(lent, c->bytes, c->n);
+    with_copy.bytes = lent;
+    uint32_t a = reference_run(&r->reference, &with_copy, reference_space + GUARD);
+    uint32_t b = pomerassol_run(&r->pomerassol, &with_copy, pomerassol_space + GUARD);
+    if (a != b)
+        differ("the returned numbers", c, a, b);
+    if (memcmp(reference_space, pomerassol_space, all) != 0)
+        differ("the buffers", c, a, b);
+    if (memcmp(lent, c->bytes, c->n) != 0)
+        differ("bytes lent to be read were changed", c, a, b);
+    if (!honest(c, a, reference_space, before))
+        differ("both touch bytes that they do not report", c, a, b);
+    return a;
+}
+
+/* ---- The state, through calls on copies ---- */
+
+/* Makes a command on the copies; `object` is what follows the devices. */
+static void ask_copies(uint8_t type, uint8_t qualifier, uint8_t destination, const uint8_t *object, uint8_t n)
+{
+    uint8_t frame[64] = {0xD0, (uint8_t)(9 + n), 0x81, 3, 1, type, qualifier, 0x82, 2, 0x81, destination};
+    if (n != 0)
+        memcpy(frame + 11, object, n);
+    call c = {COMMAND, 0, frame, 11u + n, 255};
+    perform(&copies, &c);
+    made_on_copies++;
+}
+
+/* Makes an arrival, a take or a drop on the copies. */
+static uint32_t call_copies(call_kind kind, uint8_t channel, size_t n, size_t size)
+{
+    call c = {kind, channel, noise, n, size};
+    made_on_copies++;
+    return perform(&copies, &c);
+}
+
+/* Compares one channel: room, ready bytes, bytes held both ways, grant, link. */
+static void compare_channel(uint8_t channel)
+{
+    static const uint8_t no_data[2] = {0xB6, 0}, request[3] = {0xB7, 1, 0xFF};
+    const reference_channel *c = &copies.reference.channel[channel - 1];
+    uint8_t identity = 0x20 + channel;
+    ask_copies(0x43, 0, identity, no_data, 2);
+    call_copies(TAKE, channel, 0, 1500);
+    for (int i = 0; i < 7; i++)
+        ask_copies(0x42, 0, identity, request, 3);
+    ask_copies(0x43, 1, identity, no_data, 2);
+    call_copies(TAKE, channel, 0, 1500);
+    call_copies(ARRIVAL, channel, c->link == REFERENCE_UNOPENED ? 0 : c->grant, 16);
+    call_copies(ARRIVAL, channel, 1, 16);
+    call_copies(DROP, channel, 0, 16);
+}
+
+/* Compares the state behind both records on copies of them. */
+static void compare_state(void)
+{
+    static const uint8_t opening[7] = {0xB5, 1, 3, 0xB9, 2, 0x05, 0xDC};
+    copies = run;
+    on_copies = true;
+    ask_copies(0x44, 0, 0x82, NULL, 0);
+    for (uint8_t channel = 1; channel <= 7; channel++)
+        compare_channel(channel);
+    for (int i = 0; i < 4; i++)
+        ask_copies(0x40, 1, 0x82, opening, 7);
+    ask_copies(0x44, 0, 0x82, NULL, 0);
+    for (uint8_t channel = 1; channel <= 7; channel++)
+        ask_copies(0x41, 0, 0x20 + channel, NULL, 0);
+    for (int i = 0; i < 8; i++)
+        ask_copies(0x40, 0, 0x82, opening, 7);
+    on_copies = false;
+}
+
+/* ---- What the reference knows, to steer by ---- */
+
+/* A channel of the running session; numbers 1 to 7. */
+static const reference_channel *at(uint8_t channel)
+{
+    return &run.reference.channel[channel - 1];
+}
+
+/* Whether a number names an open channel. */
+static bool is_open(uint8_t channel)
+{
+    return channel >= 1 && channel <= 7 && at(channel)->link != REFERENCE_UNOPENED;
+}
+
+/* Whether a channel is open and its link established. */
+static bool is_established(uint8_t channel)
+{
+    return is_open(channel) && at(channel)->link == REFERENCE_ESTABLISHED;
+}
+
+/* Whether a channel is open and its link dropped. */
+static bool is_dropped(uint8_t channel)
+{
+    return is_open(channel) && at(channel)->link == REFERENCE_DROPPED;
+}
+
+/* Whether a channel holds bytes for the card. */
+static bool is_holding(uint8_t channel)
+{
+    return is_open(channel) && at(channel)->receive.held != 0;
+}
+
+/* Whether a take would hand out bytes of a channel. */
+static bool is_ready(uint8_t channel)
+{
+    return is_established(channel) && at(channel)->ready != 0;
+}
+
+static uint8_t focus; /* the channel that SEND DATA mostly goes to */
+
+/* Whether a channel is the open one in focus. */
+static bool is_focus(uint8_t channel)
+{
+    return is_open(channel) && channel == focus;
+}
+
+typedef bool property(uint8_t channel);
+
+/* How many channels have a property. */
+static uint32_t count_channels(property *has)
+{
+    uint32_t n = 0;
+    for (uint8_t channel = 1; channel <= 7; channel++)
+        n += has(channel);
+    return n;
+}
+
+/* A channel that has a property if there is one, else any number from 0 to 9. */
+static uint8_t channel_with(property *has)
+{
+    uint32_t skip = count_channels(has);
+    if (skip == 0)
+        return (uint8_t)below(10);
+    skip = below(skip);
+    for (uint8_t channel = 1; channel <= 7; channel++)
+        if (has(channel) && skip-- == 0)
+            return channel;
+    return 0;
+}
+
+/* A channel for the next call: mostly one that has a property, else an open one, else any. */
+static uint8_t pick_channel(property *has)
+{
+    if (chance(60))
+        return channel_with(has);
+    if (chance(80))
+        return channel_with(is_open);
+    if (chance(90))
+        return (uint8_t)below(10);
+    return random_byte();
+}
+
+/* Bytes that still fit on the way to the card. */
+static uint32_t receive_room(uint8_t channel)
+{
+    return is_open(channel) ? at(channel)->grant - at(channel)->receive.held : 0;
+}
+
+/* Bytes that still fit on the way to the network. */
+static uint32_t send_room(uint8_t channel)
+{
+    return is_open(channel) ? at(channel)->grant - at(channel)->send.held : 0;
+}
+
+/* ---- Sizes ---- */
+
+/* A size at the edges. */
+static uint32_t edge(void)
+{
+    static const uint32_t edges[] = {0, 1, 31, 32, 33, 63, 64, 65, 255, 256, 1087, 1088, 1499, 1500, 1501, 65535};
+    return edges[below(sizeof edges / sizeof edges[0])];
+}
+
+/* A size about a middle: one under, the middle itself, one over. */
+static uint32_t about(uint32_t middle)
+{
+    uint32_t size = middle + below(3);
+    return size == 0 ? 0 : size - 1;
+}
+
+/* A size for OPEN: edges, small, about what is unpromised, or any. */
+static uint32_t open_size(void)
+{
+    uint32_t unpromised = CELLS - run.reference.promised;
+    switch (below(8)) {
+    case 0:
+        return edge();
+    case 1:
+    case 2:
+        return 1 + below(100);
+    case 3:
+        return about(CELL * (unpromised / 2));
+    case 4:
+        return below(65536);
+    case 5:
+        return 1 + below(1500);
+    default:
+        return below(400);
+    }
+}
+
+/* A size for an arrival. */
+static uint32_t arrival_size(uint8_t channel)
+{
+    uint32_t room = receive_room(channel);
+    switch (below(10)) {
+    case 0:
+        return edge();
+    case 1:
+    case 2:
+        return about(room);
+    case 3:
+        return 0;
+    case 4:
+        return below(1600);
+    case 5:
+    case 6:
+        return below(room + 1);
+    default:
+        return 1 + below(300);
+    }
+}
+
+/* A size for the buffer of a take. */
+static uint32_t take_size(uint8_t channel)
+{
+    uint32_t ready = is_open(channel) ? at(channel)->ready : 0;
+    switch (below(8)) {
+    case 0:
+        return edge();
+    case 1:
+    case 2:
+        return about(ready);
+    case 3:
+        return 1500;
+    case 4:
+        return below(ready + 1);
+    default:
+        return below(300);
+    }
+}
+
+/* A count of bytes for SEND DATA. */
+static uint32_t send_size(uint8_t channel)
+{
+    uint32_t room = send_room(channel);
+    uint32_t size = below(DATA_CAP + 1);
+    if (chance(30))
+        size = about(room);
+    if (chance(5))
+        size = 0;
+    if (chance(10))
+        size = 1 + below(40);
+    if (chance(10))
+        size = about(127);
+    return size <= DATA_CAP + 1 ? size : DATA_CAP;
+}
+
+/* A request for RECEIVE DATA. */
+static uint8_t request_size(uint8_t channel)
+{
+    uint32_t held = is_open(channel) ? at(channel)->receive.held : 0;
+    if (held >= 255 && held < 255 + 237 + 2 && chance(50))
+        return (uint8_t)about(held - 256 + 1);
+    if (held < 255 && chance(30))
+        return (uint8_t)about(held);
+    if (chance(20))
+        return (uint8_t)about(237);
+    if (chance(10))
+        return (uint8_t)about(127);
+    if (chance(5))
+        return 0;
+    return random_byte();
+}
+
+/* The size of a buffer, where `least` is just enough. */
+static uint32_t buffer_size(uint32_t least)
+{
+    if (chance(60))
+        return least;
+    if (chance(90))
+        return least + below(200);
+    if (chance(40))
+        return least - 1;
+    if (chance(60))
+        return below(least);
+    return edge();
+}
+
+/* ---- Commands ---- */
+
+enum { OBJECTS = 20 };
+
+/* An object of a command in the making. */
+typedef struct {
+    uint8_t tag;
+    uint8_t n;
+    uint8_t value[256];
+} object;
+
+static object plan[OBJECTS];
+static uint32_t planned;
+static uint8_t frame[4 * FRAME_CAP];
+static size_t frame_size;
+static bool rough; /* whether most commands are disturbed */
+
+/* Plans an object; the flag of its tag is set so many times in a hundred. */
+static object *add(uint8_t number, uint32_t flagged, const uint8_t *value, uint32_t n)
+{
+    object *o = &plan[planned < OBJECTS ? planned++ : OBJECTS - 1];
+    o->tag = number | (chance(flagged) ? 0x80 : 0);
+    o->n = (uint8_t)n;
+    memcpy(o->value, value, o->n);
+    return o;
+}
+
+/* Plans objects 01 and 02. */
+static void begin(uint8_t type, uint8_t destination)
+{
+    uint8_t details[3] = {1, type, chance(65)};
+    uint8_t devices[2] = {0x81, destination};
+    if (chance(20))
+        details[0] = random_byte();
+    if (chance(10))
+        details[2] = random_byte();
+    if (chance(2))
+        details[0] = details[2] = 0;
+    planned = 0;
+    add(0x01, 90, details, 3);
+    add(0x02, 90, devices, 2);
+}
+
+/* Plans objects that may also stand with a channel's command. */
+static void add_shown(void)
+{
+    if (chance(8))
+        add(0x05, 50, random_bytes(), below(20));
+    if (chance(8))
+        add(0x1E, 50, random_bytes(), 2);
+}
+
+/* The identity of a channel to name. */
+static uint8_t identity(uint8_t channel)
+{
+    return (uint8_t)(0x20 + channel);
+}
+
+/* MORE TIME. */
+static void plan_more_time(void)
+{
+    begin(0x02, 0x82);
+}
+
+/* SET UP EVENT LIST: mostly of the two events. */
+static void plan_event_list(void)
+{
+    uint8_t events[4];
+    begin(0x05, 0x82);
+    for (int i = 0; i < 4; i++)
+        events[i] = chance(97) ? 0x09 + (uint8_t)below(2) : random_byte();
+    add(0x19, 90, events, below(5));
+}
+
+/* Plans object 35: bearer 03, bearer 02, or another. */
+static void add_bearer(void)
+{
+    uint8_t bearer[8];
+    memcpy(bearer, random_bytes(), 8);
+    if (chance(70)) {
+        bearer[0] = 0x03;
+        add(0x35, 90, bearer, 1);
+    } else if (chance(85)) {
+        bearer[0] = 0x02;
+        add(0x35, 90, bearer, 7);
+    } else {
+        add(0x35, 90, bearer, below(8));
+    }
+}
+
+/* Plans object 3C: TCP, or seldom another. */
+static void add_transport(void)
+{
+    uint8_t transport[3] = {0x02, random_byte(), random_byte()};
+    if (chance(8))
+        transport[0] = (uint8_t)below(8);
+    add(0x3C, 50, transport, 3);
+}
+
+/* OPEN CHANNEL, with objects that may also stand, some of them once too often. */
+static void plan_open(void)
+{
+    uint32_t size = open_size();
+    uint8_t buffer[2] = {(uint8_t)(size >> 8), (uint8_t)size};
+    begin(0x40, 0x82);
+    add_bearer();
+    add(0x39, 90, buffer, 2);
+    if (chance(50))
+        add_transport();
+    add_shown();
+    if (chance(8))
+        add(0x47, 50, random_bytes(), below(30));
+    for (uint32_t i = below(4); i > 0 && chance(20); i--)
+        add(0x04, 50, random_bytes(), 2);
+    for (uint32_t i = below(4); i > 0 && chance(20); i--)
+        add(0x0D, 50, random_bytes(), below(20));
+    for (uint32_t i = below(4); i > 0 && chance(20); i--)
+        add(0x3E, 50, random_bytes(), below(9));
+}
+
+/* CLOSE CHANNEL: mostly of a channel whose link was dropped, so that few such stay. */
+static void plan_close(void)
+{
+    begin(0x41, identity(pick_channel(is_dropped)));
+    add_shown();
+}
+
+/* RECEIVE DATA: mostly from a channel that holds bytes. */
+static void plan_receive(void)
+{
+    uint8_t channel = pick_channel(is_holding);
+    uint8_t request = request_size(channel);
+    begin(0x42, identity(channel));
+    add(0x37, 90, &request, 1);
+    add_shown();
+}
+
+/* SEND DATA: mostly to the channel in focus, so that it fills. */
+static void plan_send(void)
+{
+    uint8_t channel = pick_channel(is_focus);
+    begin(0x43, identity(channel));
+    add(0x36, 90, random_bytes(), send_size(channel));
+    add_shown();
+}
+
+/* GET CHANNEL STATUS. */
+static void plan_status(void)
+{
+    begin(0x44, 0x82);
+}
+
+/* A type that is not of the seven. */
+static void plan_other(void)
+{
+    static const uint8_t types[] = {0x00, 0x01, 0x03, 0x04, 0x06, 0x3F, 0x45, 0x7F, 0x82, 0xC0, 0xC2, 0xFF};
+    begin(chance(70) ? types[below(sizeof types)] : random_byte(), chance(50) ? 0x82 : 0x21);
+    if (chance(30))
+        plan[0].value[0] = plan[0].value[2] = 0;
+}
+
+/* Exchanges planned objects at random, the first one seldom. */
+static void shuffle(void)
+{
+    uint32_t first = chance(95) ? 1 : 0;
+    for (uint32_t i = planned; i > first + 1; i--) {
+        uint32_t j = first + below(i - first);
+        object o = plan[j];
+        plan[j] = plan[i - 1];
+        plan[i - 1] = o;
+    }
+}
+
+/* Takes one planned object away. */
+static void remove_one(void)
+{
+    uint32_t i = below(planned);
+    planned--;
+    memmove(&plan[i], &plan[i + 1], (planned - i) * sizeof plan[0]);
+}
+
+/* Plans an object that is not expected, mostly a known one. */
+static void add_unexpected(void)
+{
+    static const uint8_t tags[] = {0x01, 0x02, 0x04, 0x05, 0x0D, 0x19, 0x1E, 0x35, 0x36, 0x37, 0x38, 0x39, 0x3C, 0x3E, 0x47};
+    uint8_t number = chance(60) ? tags[below(sizeof tags)] : (uint8_t)(1 + below(126));
+    add(number, 30, random_bytes(), chance(90) ? below(9) : below(140));
+}
+
+/* Plans a second of an object that stands already. */
+static void repeat_one(void)
+{
+    const object *o = &plan[below(planned)];
+    add(o->tag & 0x7F, 40, chance(70) ? o->value : random_bytes(), o->n);
+}
+
+/* Gives one object another length. */
+static void resize_one(void)
+{
+    object *o = &plan[below(planned)];
+    uint32_t n = chance(60) ? about(o->n) : below(12);
+    for (uint32_t i = o->n; i < n; i++)
+        o->value[i] = random_byte();
+    o->n = (uint8_t)n;
+}
+
+/* Changes source or destination, mostly to a near value. */
+static void change_device(void)
+{
+    static const uint8_t devices[] = {0x00, 0x01, 0x20, 0x21, 0x27, 0x28, 0x80, 0x81, 0x82, 0x83, 0xA1};
+    for (uint32_t i = 0; i < planned; i++)
+        if ((plan[i].tag & 0x7F) == 0x02) {
+            plan[i].value[below(2)] = chance(80) ? devices[below(sizeof devices)] : random_byte();
+            return;
+        }
+}
+
+/* Gives one object a tag of a number that is a fault. */
+static void spoil_tag(void)
+{
+    static const uint8_t faults[] = {0x00, 0x80, 0x7F, 0xFF};
+    plan[below(planned)].tag = faults[below(4)];
+}
+
+/* The bytes that the planned objects take. */
+static uint32_t planned_size(void)
+{
+    uint32_t n = 0;
+    for (uint32_t i = 0; i < planned; i++)
+        n += (plan[i].n < 0x80 ? 2u : 3u) + plan[i].n;
+    return n;
+}
+
+/* Plans an object 05 that brings all objects to an edge of the lengths. */
+static void pad(void)
+{
+    static const uint8_t edges[] = {126, 127, 128, 129, 252, 253, 254, 255};
+    uint32_t edge_at = edges[below(sizeof edges)], n = planned_size();
+    if (n + 2 > edge_at)
+        return;
+    uint32_t rest = edge_at - n - 2;
+    add(0x05, 20, random_bytes(), rest < 0x80 ? rest : rest - 1);
+}
+
+/* Disturbs what is planned, in one of many ways. */
+static void disturb(void)
+{
+    switch (below(9)) {
+    case 0:
+        remove_one();
+        break;
+    case 1:
+        repeat_one();
+        break;
+    case 2:
+        resize_one();
+        break;
+    case 3:
+        change_device();
+        break;
+    case 4:
+        if (chance(30))
+            spoil_tag();
+        break;
+    case 5:
+        pad();
+        break;
+    default:
+        add_unexpected();
+    }
+    if (planned == 0)
+        plan_status();
+}
+
+/* Writes a length in its shortest form, or seldom in one that is not read. */
+static size_t write_length(uint8_t *to, size_t n, bool wrong)
+{
+    size_t size = 0;
+    if (wrong && chance(40))
+        to[size++] = (uint8_t)(0x80 + below(4));
+    else if (n >= 0x80 || wrong)
+        to[size++] = 0x81;
+    to[size++] = (uint8_t)n;
+    return size;
+}
+
+/* Writes the planned objects; returns their size, at most FRAME_CAP. */
+static size_t write_objects(uint8_t *to)
+{
+    size_t size = 0;
+    for (uint32_t i = 0; i < planned && size + 3 + plan[i].n <= FRAME_CAP; i++) {
+        to[size++] = plan[i].tag;
+        size += write_length(to + size, plan[i].n, rough && chance(plan[i].n == 127 ? 20 : 1));
+        memcpy(to + size, plan[i].value, plan[i].n);
+        size += plan[i].n;
+    }
+    return size;
+}
+
+/* Frames the planned objects; seldom they are cut or lengthened inside a frame that is right. */
+static void write_frame(void)
+{
+    uint8_t objects[FRAME_CAP + 8];
+    size_t n = write_objects(objects);
+    if (rough && n > 0 && chance(6))
+        n = below((uint32_t)n + 1);
+    if (rough && n < FRAME_CAP && chance(3))
+        objects[n++] = random_byte();
+    frame[0] = 0xD0;
+    frame_size = 1 + write_length(frame + 1, n, rough && chance(n == 127 ? 20 : 2));
+    memcpy(frame + frame_size, objects, n);
+    frame_size += n;
+}
+
+/* Changes the written frame: cut, longer, another byte, another bit. */
+static void damage(void)
+{
+    uint32_t n = (uint32_t)frame_size;
+    switch (below(5)) {
+    case 0:
+        frame_size = below(n + 1);
+        break;
+    case 1:
+        frame_size = n + 1 + below(4);
+        memcpy(frame + n, random_bytes(), 4);
+        break;
+    case 2:
+        frame[below(n)] = random_byte();
+        break;
+    default:
+        frame[below(n < 16 ? n : 16)] ^= (uint8_t)(1u << below(8));
+    }
+}
+
+/* Random bytes as a command, seldom with a frame that is right. */
+static void write_random(void)
+{
+    frame_size = chance(70) ? below(FRAME_CAP + 1) : 255 + below(4);
+    memcpy(frame, random_bytes(), frame_size);
+    if (frame_size < 2 || chance(40))
+        return;
+    frame[0] = 0xD0;
+    frame[1] = (uint8_t)(frame_size - 2);
+    if (frame_size < 12 || frame[1] >= 0x80 || chance(40))
+        return;
+    memcpy(frame + 2, "\x81\x03\x01\x44\x00\x82\x02\x81\x82", 9);
+}
+
+typedef void planner(void);
+
+/* Plans, disturbs, writes and damages a command. */
+static void write_command(planner *planned_by)
+{
+    planned_by();
+    if (chance(rough ? 60 : 5))
+        disturb();
+    if (chance(rough ? 20 : 1))
+        disturb();
+    if (chance(20))
+        shuffle();
+    write_frame();
+    if (chance(rough ? 12 : 1))
+        damage();
+}
+
+/* ---- Counting an answer ---- */
+
+/* The row of a command's answer: by its type, or zero details. */
+static int row_of(const uint8_t *out)
+{
+    if (out[2] == 0 && out[3] == 0 && out[4] == 0)
+        return ZERO_DETAILS;
+    if (out[3] == 0x02)
+        return 0;
+    if (out[3] == 0x05)
+        return 1;
+    if (out[3] >= 0x40 && out[3] <= 0x44)
+        return out[3] - 0x40 + 2;
+    return OTHER_TYPE;
+}
+
+/* The column of a command's answer: by its result and cause. */
+static int column_of(const uint8_t *out)
+{
+    char name[8];
+    snprintf(name, sizeof name, out[11] == 0x3A ? "%02X %02X" : "%02X", out[11], out[12]);
+    for (int i = 0; i < COLUMNS; i++)
+        if (strcmp(name, column_names[i]) == 0)
+            return i;
+    return -1;
+}
+
+/* Counts what a start came by. */
+static void count_start(const call *c)
+{
+    count(SHORT_PROFILE, c->n < 13);
+    count(LONG_PROFILE, c->n > 13);
+}
+
+/* Counts what an arrival came by. */
+static void count_arrival(const call *c, uint32_t returned)
+{
+    if (returned == REFUSED + 6)
+        count(ONE_BYTE_OVER, c->n == receive_room(c->channel) + 1);
+    if (returned >= REFUSED)
+        return;
+    count(EVENT_TOLD, returned != 0);
+    count(EVENT_UNLISTED, returned == 0 && c->n != 0);
+    count(NO_BYTE_CAME, c->n == 0);
+    count(FILLED_BY_ARRIVAL, c->n != 0 && receive_room(c->channel) == 0);
+}
+
+/* Counts what a take came by. */
+static void count_take(const call *c, uint32_t returned)
+{
+    if (returned >= REFUSED)
+        return;
+    const reference_channel *channel = at(c->channel);
+    count(TAKEN_NONE, returned == 0);
+    count(TAKEN_1500, returned == 1500);
+    count(TAKEN_ALL, returned != 0 && channel->ready == 0);
+    count(TAKEN_IN_PART, returned != 0 && channel->ready != 0);
+    count(NOT_READY_BEHIND, returned != 0 && channel->ready == 0 && channel->send.held != 0);
+}
+
+/* Counts what a drop came by. */
+static void count_drop(const call *c, uint32_t returned)
+{
+    if (returned >= REFUSED)
+        return;
+    const reference_channel *channel = at(c->channel);
+    count(DROP_TOLD, returned != 0);
+    count(DROP_UNLISTED, returned == 0);
+    count(DROPPED_HOLDING, channel->receive.held != 0 && channel->send.held != 0);
+}
+
+/* The size that object 39 of an OPEN asked for. */
+static uint32_t size_asked(void)
+{
+    for (uint32_t i = 0; i < planned; i++)
+        if ((plan[i].tag & 0x7F) == 0x39)
+            return (uint32_t)(plan[i].value[0] << 8 | plan[i].value[1]);
+    return 0;
+}
+
+/* Counts what an OPEN that opened came by. */
+static void count_opened(const uint8_t *out)
+{
+    uint8_t channel = out[14] & 0x7F;
+    uint32_t asked = size_asked();
+    uint32_t grant = at(channel)->grant;
+    count(SEVEN_OPEN, count_channels(is_open) == 7);
+    count(ALL_PROMISED, run.reference.promised == CELLS);
+    count(GRANT_FROM_CELLS, grant < asked && grant != 1500);
+    for (uint8_t above = channel + 1; above <= 7; above++)
+        if (is_open(above)) {
+            count(NUMBER_USED_AGAIN, true);
+            return;
+        }
+}
+
+/* Counts what a CLOSE that closed came by; `before` is the channel as it was. */
+static void count_closed(const reference_channel *before)
+{
+    count(CLOSED_HOLDING, before->receive.held != 0 && before->send.held != 0);
+    count(CLOSED_DROPPED, before->link == REFERENCE_DROPPED);
+}
+
+/* Counts what a RECEIVE that was answered came by. */
+static void count_received(const reference_channel *before, const reference_channel *after)
+{
+    uint32_t n = before->receive.held - after->receive.held;
+    count(RECEIVED_237, n == 237);
+    count(RECEIVED_NONE, n == 0);
+    count(RECEIVED_DROPPED, n != 0 && before->link == REFERENCE_DROPPED);
+    count(LEFT_255, after->receive.held == 255);
+    count(LEFT_256, after->receive.held == 256);
+}
+
+/* Counts what a SEND that was answered came by. */
+static void count_sent(const reference_channel *before, const reference_channel *after)
+{
+    uint32_t n = after->send.held - before->send.held;
+    count(SENT_NONE, n == 0);
+    count(FILLED_BY_SEND, n != 0 && after->send.held == after->grant);
+    count(ESTABLISHED_BY_SEND, before->link == REFERENCE_NOT_YET && after->link == REFERENCE_ESTABLISHED);
+}
+
+/* The channel that a command of the plan names, or 0. */
+static uint8_t channel_named(void)
+{
+    for (uint32_t i = 0; i < planned; i++)
+        if ((plan[i].tag & 0x7F) == 0x02 && plan[i].value[1] >= 0x21 && plan[i].value[1] <= 0x27)
+            return plan[i].value[1] - 0x20;
+    return 0;
+}
+
+/* Counts what a refused SEND came by. */
+static void count_unsent(const reference_channel *before)
+{
+    for (uint32_t i = 0; i < planned; i++)
+        if ((plan[i].tag & 0x7F) == 0x36) {
+            count(ONE_BYTE_OVER_SEND, plan[i].n == before->grant - before->send.held + 1);
+            return;
+        }
+}
+
+/* A channel without its bytes, as it was before a command. */
+static reference_channel before_command[8];
+
+/* Keeps what is counted by from each channel. */
+static void keep_channels(void)
+{
+    for (uint8_t channel = 1; channel <= 7; channel++) {
+        const reference_channel *c = at(channel);
+        reference_channel *kept = &before_command[channel];
+        kept->link = c->link;
+        kept->grant = c->grant;
+        kept->receive.held = c->receive.held;
+        kept->send.held = c->send.held;
+    }
+}
+
+/* Counts what an answered command came by. */
+static void count_places(const uint8_t *out)
+{
+    uint8_t type = out[3], result = out[11], channel = channel_named();
+    const reference_channel *before = &before_command[channel];
+    bool good = result <= 0x07;
+    if (type == 0x40 && good)
+        count_opened(out);
+    if (channel == 0)
+        return;
+    if (type == 0x41 && good)
+        count_closed(before);
+    if (type == 0x42 && good)
+        count_received(before, at(channel));
+    if (type == 0x43 && good)
+        count_sent(before, at(channel));
+    if (type == 0x43 && result == 0x3A && out[12] == 0x04)
+        count_unsent(before);
+}
+
+/* Counts a command's answer; one that the paper does not know ends the run. */
+static void count_command(const call *c, uint32_t returned)
+{
+    const uint8_t *out = reference_space + GUARD;
+    if (returned >= REFUSED)
+        return;
+    int row = row_of(out), column = column_of(out);
+    if (returned < 12 || column < 0 || known[row][column] != 'x')
+        differ("both give an answer that the paper does not know", c, returned, returned);
+    answers[row][column]++;
+    count(LONGEST_COMMAND, c->n == COMMAND_CAP);
+    count(LONGEST_RESPONSE, returned == 255);
+    count_places(out);
+}
+
+/* Makes a call of the history, and counts its answer. */
+static void make(const call *c)
+{
+    made++;
+    if (c->kind == COMMAND)
+        keep_channels();
+    uint32_t returned = perform(&run, c);
+    if (returned >= REFUSED)
+        refusals[c->kind][returned - REFUSED]++;
+    if (c->kind == START)
+        count_start(c);
+    if (c->kind == COMMAND)
+        count_command(c, returned);
+    if (c->kind == ARRIVAL)
+        count_arrival(c, returned);
+    if (c->kind == TAKE)
+        count_take(c, returned);
+    if (c->kind == DROP)
+        count_drop(c, returned);
+}
+
+/* ---- Histories ---- */
+
+/* A profile that allows most: bearer 02, the events, and single bits are seldom changed. */
+static void sensible_profile(uint8_t *profile)
+{
+    memcpy(profile, "\x00\x00\x08\x00\x01\x0C\x00\x00\x00\x00\x00\x1F\x02", 13);
+    profile[12] |= (uint8_t)((chance(60) ? 7 : below(8)) << 5);
+    if (chance(10))
+        profile[12] ^= 0x02;
+    if (chance(10))
+        profile[5] ^= (uint8_t)(0x04 << below(2));
+    for (uint32_t i = below(20); i < 4; i++)
+        profile[below(13)] ^= (uint8_t)(1u << below(8));
+}
+
+/* A start: the profile sensible, cut, lengthened, or random. */
+static void make_start(void)
+{
+    uint8_t profile[FRAME_CAP];
+    size_t n = 13;
+    memcpy(profile, random_bytes(), FRAME_CAP);
+    if (chance(92))
+        sensible_profile(profile);
+    if (chance(25))
+        n = 13 + below(FRAME_CAP - 12);
+    else if (chance(8))
+        n = below(14);
+    call c = {START, 0, profile, n, below(64)};
+    make(&c);
+}
+
+/* A command that a planner makes. */
+static void make_command(planner *planned_by)
+{
+    write_command(planned_by);
+    call c = {COMMAND, 0, frame, frame_size, buffer_size(255)};
+    make(&c);
+}
+
+/* A command of random bytes. */
+static void make_random(void)
+{
+    planned = 0;
+    write_random();
+    call c = {COMMAND, 0, frame, frame_size, buffer_size(255)};
+    make(&c);
+}
+
+/* An arrival: mostly where the link is established. */
+static void make_arrival(void)
+{
+    uint8_t channel = pick_channel(is_established);
+    call c = {ARRIVAL, channel, random_bytes(), arrival_size(channel), buffer_size(16)};
+    make(&c);
+}
+
+/* A take: mostly where bytes are ready. */
+static void make_take(void)
+{
+    uint8_t channel = pick_channel(is_ready);
+    call c = {TAKE, channel, noise, 0, take_size(channel)};
+    make(&c);
+}
+
+/* A drop: mostly where the link is established. */
+static void make_drop(void)
+{
+    call c = {DROP, pick_channel(is_established), noise, 0, buffer_size(16)};
+    make(&c);
+}
+
+static planner *const planners[] = {
+    plan_open, plan_close, plan_receive, plan_send, plan_status, plan_more_time, plan_event_list, plan_other,
+};
+
+enum { PLANNERS = 8, KINDS = 12, MOODS = 6 };
+
+/* How often each kind of call comes in each mood: the planners, random bytes, arrival, take, drop. */
+static const uint8_t moods[MOODS][KINDS] = {
+    {10, 3, 14, 18, 3, 2, 3, 1, 1, 26, 12, 1},  /* mixed */
+    {40, 16, 5, 6, 5, 2, 6, 1, 1, 10, 5, 1},    /* opening */
+    {6, 1, 4, 40, 1, 1, 2, 1, 0, 40, 4, 0},     /* filling */
+    {3, 1, 36, 14, 1, 1, 1, 0, 0, 16, 26, 0},   /* emptying */
+    {20, 20, 10, 8, 8, 2, 4, 1, 1, 12, 8, 6},   /* closing */
+    {20, 6, 15, 15, 6, 8, 10, 6, 6, 6, 4, 2},   /* rough */
+};
+
+/* A kind of call, by the weights of a mood. */
+static uint32_t pick_kind(const uint8_t *weights)
+{
+    uint32_t all = 0, kind = 0;
+    for (uint32_t i = 0; i < KINDS; i++)
+        all += weights[i];
+    uint32_t at_weight = below(all);
+    while (at_weight >= weights[kind])
+        at_weight -= weights[kind++];
+    return kind;
+}
+
+/* One call in a mood. */
+static void step(uint32_t mood)
+{
+    uint32_t kind = pick_kind(moods[mood]);
+    rough = mood == MOODS - 1;
+    if (kind < PLANNERS)
+        make_command(planners[kind]);
+    else if (kind == PLANNERS)
+        make_random();
+    else if (kind == PLANNERS + 1)
+        make_arrival();
+    else if (kind == PLANNERS + 2)
+        make_take();
+    else
+        make_drop();
+}
+
+/* The whole history: starts anew now and then, and changes its mood. */
+static void history(void)
+{
+    uint32_t mood = 1, rest = 20;
+    make_start();
+    while (made < calls) {
+        if (rest-- == 0) {
+            mood = below(MOODS);
+            rest = 10 + below(120);
+            focus = channel_with(is_open);
+        }
+        if (below(400) == 0) {
+            compare_state();
+            make_start();
+            mood = 1;
+            rest = 20;
+        } else {
+            step(mood);
+        }
+        if (made % 200 == 0)
+            compare_state();
+    }
+    compare_state();
+}
+
+/* ---- The counts ---- */
+
+/* Prints how often each answer to a command came. */
+static void print_answers(void)
+{
+    printf("\n%-14s", "answers");
+    for (int j = 0; j < COLUMNS; j++)
+        printf("%8s", column_names[j]);
+    for (int i = 0; i < ROWS; i++) {
+        printf("\n%-14s", row_names[i]);
+        for (int j = 0; j < COLUMNS; j++)
+            if (known[i][j] == 'x')
+                printf("%8" PRIu64, answers[i][j]);
+            else
+                printf("%8s", "-");
+    }
+    printf("\n");
+}
+
+/* Prints how often each refusal came. */
+static void print_refusals(void)
+{
+    static const char *const given[6] = {"", "", ".xx....", ".x.xxxx", "...xxx.", ".x.xxx."};
+    printf("\n%-14s%8s%8s%8s%8s%8s%8s", "refusals", "R1", "R2", "R3", "R4", "R5", "R6");
+    for (int i = COMMAND; i <= DROP; i++) {
+        printf("\n%-14s", kind_names[i]);
+        for (int j = 1; j <= 6; j++)
+            if (given[i][j] == 'x')
+                printf("%8" PRIu64, refusals[i][j]);
+            else
+                printf("%8s", "-");
+    }
+    printf("\n");
+}
+
+/* Prints how often the history came by each place. */
+static void print_places(void)
+{
+    printf("\nplaces\n");
+    for (int i = 0; i < PLACES; i++)
+        printf("%-38s%8" PRIu64 "\n", place_names[i], places[i]);
+}
+
+/* Runs one history and prints what it came by. */
+int main(int argc, char **argv)
+{
+    seed = argc > 1 ? strtoull(argv[1], NULL, 0) : 1;
+    calls = argc > 2 ? strtoull(argv[2], NULL, 0) : 1000000;
+    random_state = seed;
+    fill_noise();
+    history();
+    printf("seed %" PRIu64 ": %" PRIu64 " calls, %" PRIu64 " more on copies, no difference\n", seed, made, made_on_copies);
+    print_answers();
+    print_refusals();
+    print_places();
+    return 0;
+}

@@ -1,0 +1,764 @@
+/* The modem of "Data channels: the rules", section by section. */
+#include "reference.h"
+
+#include <stdbool.h>
+#include <string.h>
+
+/* A planted fault: 1 the count left by its low byte, 2 arrivals cut to the room, 3 the highest unused number. */
+#ifndef FAULT
+#define FAULT 0
+#endif
+
+enum { CELLS = 256, CELL = 32, GRANT_CAP = 1500, DATA_CAP = 237 };
+enum { COMMAND_CAP = 256, RESPONSE_SPACE = 255, EVENT_SPACE = 16 };
+enum { EVENT_ARRIVAL = 0x09, EVENT_DROP = 0x0A };
+enum { BEARER_02 = 0x02, BEARER_03 = 0x03, TCP = 0x02, IMMEDIATELY = 0x01 };
+enum { CARD = 0x81, TERMINAL = 0x82, FIRST_CHANNEL = 0x21, LAST_CHANNEL = 0x27 };
+
+/* The refusals. */
+enum { R1 = REFERENCE_REFUSED + 1, R2, R3, R4, R5, R6 };
+
+/* The results. */
+enum {
+    DONE = 0x00,
+    PARTLY_READ = 0x01,
+    FEWER = 0x02,
+    LESS_GRANTED = 0x07,
+    BEYOND = 0x30,
+    UNKNOWN_TYPE = 0x31,
+    BAD_DATA = 0x32,
+    VALUES_MISSING = 0x36,
+    CHANNEL_PROBLEM = 0x3A
+};
+
+/* The causes of result 3A. */
+enum { NO_CHANNEL = 1, LINK_DROPPED = 2, UNOPENED = 3, NO_ROOM = 4, NO_TRANSPORT = 6 };
+
+/* The seven types. */
+enum { MORE_TIME = 0x02, EVENT_LIST = 0x05, OPEN = 0x40, CLOSE, RECEIVE, SEND, STATUS };
+
+/* A place for each tag number that some command may carry. */
+enum {
+    NOWHERE,
+    P_01,
+    P_02,
+    P_04,
+    P_05,
+    P_0D,
+    P_19,
+    P_1E,
+    P_35,
+    P_36,
+    P_37,
+    P_39,
+    P_3C,
+    P_3E,
+    P_47,
+    PLACES
+};
+
+#define B(place) (1u << (place))
+
+/* The place of each tag number. */
+static const uint8_t place_of[128] = {
+    [0x01] = P_01, [0x02] = P_02, [0x04] = P_04, [0x05] = P_05, [0x0D] = P_0D, [0x19] = P_19, [0x1E] = P_1E,
+    [0x35] = P_35, [0x36] = P_36, [0x37] = P_37, [0x39] = P_39, [0x3C] = P_3C, [0x3E] = P_3E, [0x47] = P_47,
+};
+
+/* The length that each object must have; 0 where it may have any (35 has a rule of its own). */
+static const uint8_t length_of[PLACES] = {
+    [P_01] = 3, [P_02] = 2, [P_04] = 2, [P_1E] = 2, [P_37] = 1, [P_39] = 2, [P_3C] = 3,
+};
+
+/* What a type needs: its place in the profile, and the objects it carries. */
+typedef struct {
+    uint8_t byte, bit;  /* both numbered from 1 */
+    uint16_t required;
+    uint16_t may;       /* the required ones too */
+    uint16_t twice;
+} rule;
+
+#define ALWAYS (B(P_01) | B(P_02))
+#define SHOWN (B(P_05) | B(P_1E))
+#define TWICE (B(P_04) | B(P_0D) | B(P_3E))
+#define OPENING (ALWAYS | B(P_35) | B(P_39))
+
+static const rule rule_more_time = {3, 4, ALWAYS, ALWAYS, 0};
+static const rule rule_event_list = {5, 1, ALWAYS | B(P_19), ALWAYS | B(P_19), 0};
+static const rule rule_channel[5] = {
+    {12, 1, OPENING, OPENING | SHOWN | B(P_3C) | B(P_47) | TWICE, TWICE},
+    {12, 2, ALWAYS, ALWAYS | SHOWN, 0},
+    {12, 3, ALWAYS | B(P_37), ALWAYS | B(P_37) | SHOWN, 0},
+    {12, 4, ALWAYS | B(P_36), ALWAYS | B(P_36) | SHOWN, 0},
+    {12, 5, ALWAYS, ALWAYS, 0},
+};
+static const rule rule_other = {0, 0, 0, 0, 0};
+
+/* An object as it stands in the command. */
+typedef struct {
+    uint8_t tag;
+    uint8_t length;
+    const uint8_t *value;
+} object;
+
+/* A command as the walk leaves it. */
+typedef struct {
+    const uint8_t *details;
+    const rule *rule;
+    uint32_t once, again; /* places of the objects that count: the first, and the second of a pair */
+    bool flagged;         /* an unexpected object had its flag set */
+    bool ignored;         /* an unexpected object had its flag clear */
+    bool misfit;          /* an object that counts has a wrong length */
+    object at[PLACES];    /* the first object of each place in `once` */
+} asked;
+
+static const uint8_t no_details[3] = {0, 0, 0};
+
+/* The lesser of two counts. */
+static uint32_t lesser(uint32_t a, uint32_t b)
+{
+    return a < b ? a : b;
+}
+
+/* A count in one byte, at most FF. */
+static uint8_t capped(uint32_t count)
+{
+    return (uint8_t)lesser(count, 0xFF);
+}
+
+/* The count of bytes still held after RECEIVE DATA. */
+static uint8_t count_left(uint32_t held)
+{
+    return FAULT == 1 ? (uint8_t)held : capped(held);
+}
+
+/* ---- Queues ---- */
+
+/* Copies few bytes one by one and many at once. */
+static inline void copy(uint8_t *to, const uint8_t *from, uint32_t n)
+{
+    if (n == 1) {
+        *to = *from;
+        return;
+    }
+    memcpy(to, from, n);
+}
+
+/* Adds n bytes behind those held. */
+static void put(reference_queue *q, const uint8_t *bytes, uint32_t n)
+{
+    uint32_t place = (q->first + q->held) & (REFERENCE_RING - 1);
+    uint32_t straight = lesser(n, REFERENCE_RING - place);
+    q->held += n;
+    copy(q->bytes + place, bytes, straight);
+    if (straight < n)
+        copy(q->bytes, bytes + straight, n - straight);
+}
+
+/* Hands out the n oldest bytes. */
+static void hand_out(reference_queue *q, uint8_t *out, uint32_t n)
+{
+    uint32_t straight = lesser(n, REFERENCE_RING - q->first);
+    copy(out, q->bytes + q->first, straight);
+    if (straight < n)
+        copy(out + straight, q->bytes, n - straight);
+    q->first = (q->first + n) & (REFERENCE_RING - 1);
+    q->held -= n;
+}
+
+/* Forgets all bytes held. */
+static void clear(reference_queue *q)
+{
+    q->first = 0;
+    q->held = 0;
+}
+
+/* ---- Profile ---- */
+
+/* Whether a bit of the profile is set; byte and bit are numbered from 1. */
+static bool allowed(const reference_session *s, uint8_t byte, uint8_t bit)
+{
+    return (s->profile[byte - 1] >> (bit - 1)) & 1;
+}
+
+/* The number N of channels: byte 13, bits 6 to 8. */
+static uint32_t channels_allowed(const reference_session *s)
+{
+    return s->profile[12] >> 5;
+}
+
+/* The bit of an event in the list, or 0 where it is unknown or not allowed. */
+static uint8_t event_bit(const reference_session *s, uint8_t event)
+{
+    if (event == EVENT_ARRIVAL && allowed(s, 6, 3))
+        return 1;
+    if (event == EVENT_DROP && allowed(s, 6, 4))
+        return 2;
+    return 0;
+}
+
+/* A fresh session over a profile of any length. */
+void reference_start(reference_session *s, const uint8_t *profile, size_t n)
+{
+    for (size_t i = 0; i < REFERENCE_PROFILE; i++)
+        s->profile[i] = i < n ? profile[i] : 0;
+    s->listed = 0;
+    s->promised = 0;
+    for (size_t i = 0; i < REFERENCE_CHANNELS; i++)
+        s->channel[i].link = REFERENCE_UNOPENED;
+}
+
+/* ---- Pool and grants ---- */
+
+/* The cells for g bytes of one way. */
+static uint32_t cells(uint32_t g)
+{
+    return (g + CELL - 1) / CELL;
+}
+
+/* The grant for a request, with at least two cells unpromised. */
+static uint32_t grant_for(uint32_t request, uint32_t unpromised)
+{
+    uint32_t w = lesser(request, GRANT_CAP);
+    if (2 * cells(w) <= unpromised)
+        return w;
+    return CELL * (unpromised / 2);
+}
+
+/* ---- Bytes the modem writes ---- */
+
+/* The first nine bytes of a response: details and devices. */
+static uint8_t *write_head(uint8_t *out, const uint8_t *details)
+{
+    out[0] = 0x81;
+    out[1] = 0x03;
+    out[2] = details[0];
+    out[3] = details[1];
+    out[4] = details[2];
+    out[5] = 0x82;
+    out[6] = 0x02;
+    out[7] = TERMINAL;
+    out[8] = CARD;
+    return out + 9;
+}
+
+/* A response up to its result. */
+static uint8_t *write_result(uint8_t *out, const uint8_t *details, uint8_t result)
+{
+    uint8_t *at = write_head(out, details);
+    at[0] = 0x83;
+    at[1] = 0x01;
+    at[2] = result;
+    return at + 3;
+}
+
+/* A response that ends with its result. */
+static uint32_t answer(uint8_t *out, const uint8_t *details, uint8_t result)
+{
+    return (uint32_t)(write_result(out, details, result) - out);
+}
+
+/* A response with result 3A and a cause. */
+static uint32_t problem(uint8_t *out, const uint8_t *details, uint8_t cause)
+{
+    uint8_t *at = write_head(out, details);
+    at[0] = 0x83;
+    at[1] = 0x02;
+    at[2] = CHANNEL_PROBLEM;
+    at[3] = cause;
+    return (uint32_t)(at + 4 - out);
+}
+
+/* Object 37: a count. */
+static uint8_t *write_count(uint8_t *at, uint8_t count)
+{
+    at[0] = 0x37;
+    at[1] = 0x01;
+    at[2] = count;
+    return at + 3;
+}
+
+/* Object 38: the status of channel `number`. */
+static uint8_t *write_status(uint8_t *at, const reference_channel *c, uint32_t number)
+{
+    at[0] = 0x38;
+    at[1] = 0x02;
+    at[2] = (uint8_t)(number + (c->link == REFERENCE_ESTABLISHED ? 0x80 : 0));
+    at[3] = c->link == REFERENCE_DROPPED ? 0x05 : 0x00;
+    return at + 4;
+}
+
+/* The tag and the shortest length of object 36. */
+static uint8_t *write_data_head(uint8_t *at, uint32_t n)
+{
+    *at++ = 0x36;
+    if (n >= 0x80)
+        *at++ = 0x81;
+    *at++ = (uint8_t)n;
+    return at;
+}
+
+/* The result where nothing was cut: 01 if an unexpected object was ignored, else 00. */
+static uint8_t whole(const asked *a)
+{
+    return a->ignored ? PARTLY_READ : DONE;
+}
+
+/* ---- Frames and objects ---- */
+
+/* Reads a length at p; the place behind it, or NULL for any form but the two. */
+static inline const uint8_t *read_length(const uint8_t *p, const uint8_t *end, uint8_t *length)
+{
+    if (p == end)
+        return NULL;
+    if (*p < 0x80) {
+        *length = *p;
+        return p + 1;
+    }
+    if (*p != 0x81 || p + 1 == end || p[1] < 0x80)
+        return NULL;
+    *length = p[1];
+    return p + 2;
+}
+
+/* Reads the object at p; the place behind it, or NULL at a fault. */
+static inline const uint8_t *read_object(const uint8_t *p, const uint8_t *end, object *o)
+{
+    uint8_t number = *p & 0x7F;
+    if (number == 0 || number == 0x7F)
+        return NULL;
+    o->tag = *p;
+    o->value = read_length(p + 1, end, &o->length);
+    if (o->value == NULL || end - o->value < o->length)
+        return NULL;
+    return o->value + o->length;
+}
+
+/* Opens the outer frame: D0, a length, and exactly as many bytes; the place of its objects, or NULL. */
+static const uint8_t *open_frame(const uint8_t *command, const uint8_t *end)
+{
+    uint8_t length;
+    if (command[0] != 0xD0)
+        return NULL;
+    const uint8_t *objects = read_length(command + 1, end, &length);
+    if (objects == NULL || end - objects != length)
+        return NULL;
+    return objects;
+}
+
+/* The rule of a type. */
+static const rule *rule_of(uint8_t type)
+{
+    if (type == MORE_TIME)
+        return &rule_more_time;
+    if (type == EVENT_LIST)
+        return &rule_event_list;
+    if (type >= OPEN && type <= STATUS)
+        return &rule_channel[type - OPEN];
+    return &rule_other;
+}
+
+/* Whether the length of an object 35 fits its bearer type. */
+static bool bearer_fits(const object *o)
+{
+    if (o->length == 0)
+        return false;
+    if (o->value[0] == BEARER_02)
+        return o->length == 7;
+    if (o->value[0] == BEARER_03)
+        return o->length == 1;
+    return true;
+}
+
+/* Whether an object that counts has a length it may have. */
+static bool length_fits(const object *o, uint8_t place)
+{
+    if (place == P_35)
+        return bearer_fits(o);
+    return length_of[place] == 0 || length_of[place] == o->length;
+}
+
+/* Notes an object that does not count. */
+static void note_unexpected(asked *a, const object *o)
+{
+    if (o->tag & 0x80)
+        a->flagged = true;
+    else
+        a->ignored = true;
+}
+
+/* Sorts an object of the walk into those that count and the unexpected. */
+static void sort(asked *a, const object *o)
+{
+    uint8_t place = place_of[o->tag & 0x7F];
+    uint32_t bit = B(place);
+    if (!(a->rule->may & bit)) {
+        note_unexpected(a, o);
+        return;
+    }
+    if (!(a->once & bit)) {
+        a->once |= bit;
+        a->at[place] = *o;
+        a->misfit |= !length_fits(o, place);
+        return;
+    }
+    if (!(a->rule->twice & bit) || (a->again & bit)) {
+        note_unexpected(a, o);
+        return;
+    }
+    a->again |= bit;
+    a->misfit |= !length_fits(o, place);
+}
+
+/* Walks the objects behind the first; false at the first fault. */
+static bool walk(asked *a, const uint8_t *at, const uint8_t *end)
+{
+    object o;
+    while (at != end) {
+        at = read_object(at, end, &o);
+        if (at == NULL)
+            return false;
+        sort(a, &o);
+    }
+    return true;
+}
+
+/* ---- Order of checks on a command ---- */
+
+/* Step 8: whether source and destination fit the type. */
+static bool devices_fit(const asked *a)
+{
+    const uint8_t *devices = a->at[P_02].value;
+    uint8_t type = a->details[1];
+    if (devices[0] != CARD)
+        return false;
+    if (type == CLOSE || type == RECEIVE || type == SEND)
+        return devices[1] >= FIRST_CHANNEL && devices[1] <= LAST_CHANNEL;
+    return devices[1] == TERMINAL;
+}
+
+/* Steps 5 to 8: the result that ends the command, or DONE. */
+static uint8_t judge(const reference_session *s, const asked *a)
+{
+    if (a->rule == &rule_other)
+        return UNKNOWN_TYPE;
+    if (!allowed(s, a->rule->byte, a->rule->bit))
+        return BEYOND;
+    if (a->flagged)
+        return BAD_DATA;
+    if ((a->once & a->rule->required) != a->rule->required)
+        return VALUES_MISSING;
+    if (a->misfit)
+        return BAD_DATA;
+    if (!devices_fit(a))
+        return BAD_DATA;
+    return DONE;
+}
+
+/* The channel number that the destination names. */
+static uint32_t number_named(const asked *a)
+{
+    return a->at[P_02].value[1] - 0x20u;
+}
+
+/* ---- Own checks ---- */
+
+/* 05: all values allowed, or the list stays. */
+static uint32_t set_event_list(reference_session *s, const asked *a, uint8_t *out)
+{
+    const object *list = &a->at[P_19];
+    uint8_t listed = 0;
+    for (uint32_t i = 0; i < list->length; i++) {
+        uint8_t bit = event_bit(s, list->value[i]);
+        if (bit == 0)
+            return answer(out, a->details, BEYOND);
+        listed |= bit;
+    }
+    s->listed = listed;
+    return answer(out, a->details, whole(a));
+}
+
+/* Whether a channel may be opened over this bearer type. */
+static bool bearer_allowed(const reference_session *s, uint8_t type)
+{
+    if (type == BEARER_03)
+        return true;
+    return type == BEARER_02 && allowed(s, 13, 2);
+}
+
+/* The lowest number from 1 to N that is unused, or 0. */
+static uint32_t unused_number(const reference_session *s)
+{
+    uint32_t n = channels_allowed(s);
+    uint32_t found = 0;
+    for (uint32_t number = 1; number <= n; number++) {
+        if (s->channel[number - 1].link != REFERENCE_UNOPENED)
+            continue;
+        if (FAULT != 3)
+            return number;
+        found = number;
+    }
+    return found;
+}
+
+/* Opens a channel with its grant. */
+static reference_channel *open_with(reference_session *s, uint32_t number, uint32_t grant, bool established)
+{
+    reference_channel *c = &s->channel[number - 1];
+    c->link = established ? REFERENCE_ESTABLISHED : REFERENCE_NOT_YET;
+    c->grant = grant;
+    c->ready = 0;
+    clear(&c->receive);
+    clear(&c->send);
+    s->promised += 2 * cells(grant);
+    return c;
+}
+
+/* The response to an OPEN CHANNEL that opened. */
+static uint32_t tell_opened(const reference_channel *c, uint32_t number, const asked *a, uint8_t result, uint8_t *out)
+{
+    const object *bearer = &a->at[P_35];
+    uint8_t *at = write_result(out, a->details, result);
+    at = write_status(at, c, number);
+    *at++ = 0x35;
+    *at++ = bearer->length;
+    memcpy(at, bearer->value, bearer->length);
+    at += bearer->length;
+    at[0] = 0x39;
+    at[1] = 0x02;
+    at[2] = (uint8_t)(c->grant >> 8);
+    at[3] = (uint8_t)c->grant;
+    return (uint32_t)(at + 4 - out);
+}
+
+/* 40: bearer, transport, size, number, cells; then the lowest unused number is opened. */
+static uint32_t open_channel(reference_session *s, const asked *a, uint8_t *out)
+{
+    const uint8_t *size = a->at[P_39].value;
+    uint32_t request = (uint32_t)(size[0] << 8 | size[1]);
+    uint32_t unpromised = CELLS - s->promised;
+    uint32_t number = unused_number(s);
+    if (!bearer_allowed(s, a->at[P_35].value[0]))
+        return answer(out, a->details, BEYOND);
+    if ((a->once & B(P_3C)) && a->at[P_3C].value[0] != TCP)
+        return problem(out, a->details, NO_TRANSPORT);
+    if (request == 0)
+        return problem(out, a->details, NO_ROOM);
+    if (number == 0)
+        return problem(out, a->details, NO_CHANNEL);
+    if (unpromised < 2)
+        return problem(out, a->details, NO_ROOM);
+    uint32_t grant = grant_for(request, unpromised);
+    reference_channel *c = open_with(s, number, grant, a->details[2] & IMMEDIATELY);
+    return tell_opened(c, number, a, grant < request ? LESS_GRANTED : whole(a), out);
+}
+
+/* 41: the channel ends and its cells are free. */
+static uint32_t close_channel(reference_session *s, reference_channel *c, const asked *a, uint8_t *out)
+{
+    c->link = REFERENCE_UNOPENED;
+    s->promised -= 2 * cells(c->grant);
+    return answer(out, a->details, whole(a));
+}
+
+/* 42: the least of the request, the bytes held and 237. */
+static uint32_t receive_data(reference_channel *c, const asked *a, uint8_t *out)
+{
+    uint32_t request = a->at[P_37].value[0];
+    uint32_t n = lesser(lesser(request, c->receive.held), DATA_CAP);
+    uint8_t *at = write_result(out, a->details, n < request ? FEWER : whole(a));
+    at = write_data_head(at, n);
+    hand_out(&c->receive, at, n);
+    at = write_count(at + n, count_left(c->receive.held));
+    return (uint32_t)(at - out);
+}
+
+/* Marks all bytes held as ready and establishes the link. */
+static void send_now(reference_channel *c)
+{
+    c->ready = c->send.held;
+    c->link = REFERENCE_ESTABLISHED;
+}
+
+/* 43: stores, and with bit 1 marks as ready. */
+static uint32_t send_data(reference_channel *c, const asked *a, uint8_t *out)
+{
+    const object *data = &a->at[P_36];
+    if (c->link == REFERENCE_DROPPED)
+        return problem(out, a->details, LINK_DROPPED);
+    if (data->length > c->grant - c->send.held)
+        return problem(out, a->details, NO_ROOM);
+    put(&c->send, data->value, data->length);
+    if (a->details[2] & IMMEDIATELY)
+        send_now(c);
+    uint8_t *at = write_result(out, a->details, whole(a));
+    at = write_count(at, capped(c->grant - c->send.held));
+    return (uint32_t)(at - out);
+}
+
+/* 44: the status of each open channel, or 00 00. */
+static uint32_t channel_status(const reference_session *s, const asked *a, uint8_t *out)
+{
+    static const uint8_t none[4] = {0x38, 0x02, 0x00, 0x00};
+    uint8_t *first = write_result(out, a->details, whole(a));
+    uint8_t *at = first;
+    for (uint32_t number = 1; number <= REFERENCE_CHANNELS; number++)
+        if (s->channel[number - 1].link != REFERENCE_UNOPENED)
+            at = write_status(at, &s->channel[number - 1], number);
+    if (at == first) {
+        memcpy(at, none, sizeof none);
+        at += sizeof none;
+    }
+    return (uint32_t)(at - out);
+}
+
+/* 41, 42 and 43: an unopened channel is 3A 03. */
+static uint32_t on_channel(reference_session *s, const asked *a, uint8_t *out)
+{
+    reference_channel *c = &s->channel[number_named(a) - 1];
+    if (c->link == REFERENCE_UNOPENED)
+        return problem(out, a->details, UNOPENED);
+    if (a->details[1] == CLOSE)
+        return close_channel(s, c, a, out);
+    if (a->details[1] == RECEIVE)
+        return receive_data(c, a, out);
+    return send_data(c, a, out);
+}
+
+/* Step 9. */
+static uint32_t own(reference_session *s, const asked *a, uint8_t *out)
+{
+    switch (a->details[1]) {
+    case MORE_TIME:
+        return answer(out, a->details, whole(a));
+    case EVENT_LIST:
+        return set_event_list(s, a, out);
+    case OPEN:
+        return open_channel(s, a, out);
+    case STATUS:
+        return channel_status(s, a, out);
+    default:
+        return on_channel(s, a, out);
+    }
+}
+
+/* Steps 3 to 9, over the objects of a frame that is right. */
+static uint32_t read_objects(reference_session *s, const uint8_t *at, const uint8_t *end, uint8_t *out)
+{
+    object first;
+    asked a;
+    if (at == end)
+        return answer(out, no_details, VALUES_MISSING);
+    at = read_object(at, end, &first);
+    if (at == NULL)
+        return answer(out, no_details, BAD_DATA);
+    if ((first.tag & 0x7F) != 0x01 || first.length != 3)
+        return answer(out, no_details, VALUES_MISSING);
+    a.details = first.value;
+    a.rule = rule_of(first.value[1]);
+    a.once = B(P_01);
+    a.again = 0;
+    a.flagged = a.ignored = a.misfit = false;
+    if (!walk(&a, at, end))
+        return answer(out, a.details, BAD_DATA);
+    uint8_t result = judge(s, &a);
+    if (result != DONE)
+        return answer(out, a.details, result);
+    return own(s, &a, out);
+}
+
+/* A command from the card: R1, R2, the frame, the objects. */
+uint32_t reference_command(reference_session *s, const uint8_t *command, size_t n, uint8_t *out, size_t size)
+{
+    if (size < RESPONSE_SPACE)
+        return R1;
+    if (n == 0 || n > COMMAND_CAP)
+        return R2;
+    const uint8_t *objects = open_frame(command, command + n);
+    if (objects == NULL)
+        return answer(out, no_details, BAD_DATA);
+    return read_objects(s, objects, command + n, out);
+}
+
+/* ---- Calls from the radio and the bench ---- */
+
+/* R3 to R5: the refusal, or 0 where the link of the channel is established. */
+static uint32_t refusal(const reference_session *s, uint8_t channel)
+{
+    if (channel < 1 || channel > REFERENCE_CHANNELS)
+        return R3;
+    if (s->channel[channel - 1].link == REFERENCE_UNOPENED)
+        return R4;
+    if (s->channel[channel - 1].link != REFERENCE_ESTABLISHED)
+        return R5;
+    return 0;
+}
+
+/* The first bytes of an event: frame, event list, devices, status. */
+static uint8_t *write_event(uint8_t *at, uint8_t length, uint8_t event, const reference_channel *c, uint8_t channel)
+{
+    at[0] = 0xD6;
+    at[1] = length;
+    at[2] = 0x19;
+    at[3] = 0x01;
+    at[4] = event;
+    at[5] = 0x82;
+    at[6] = 0x02;
+    at[7] = TERMINAL;
+    at[8] = CARD;
+    return write_status(at + 9, c, channel);
+}
+
+/* Bytes from the network: stored whole, and told if 09 is listed. */
+uint32_t reference_arrival(reference_session *s, uint8_t channel, const uint8_t *bytes, size_t n, uint8_t *out, size_t size)
+{
+    if (size < EVENT_SPACE)
+        return R1;
+    uint32_t refused = refusal(s, channel);
+    if (refused)
+        return refused;
+    reference_channel *c = &s->channel[channel - 1];
+    uint32_t room = c->grant - c->receive.held;
+    if (FAULT == 2 && n > room)
+        n = room;
+    if (n > room)
+        return R6;
+    if (n == 0)
+        return 0;
+    put(&c->receive, bytes, (uint32_t)n);
+    if (!(s->listed & 1))
+        return 0;
+    uint8_t *at = write_event(out, 0x0E, EVENT_ARRIVAL, c, channel);
+    at = write_count(at, capped(c->receive.held));
+    return (uint32_t)(at - out);
+}
+
+/* The radio takes as many ready bytes as fit. */
+uint32_t reference_take(reference_session *s, uint8_t channel, uint8_t *out, size_t size)
+{
+    uint32_t refused = refusal(s, channel);
+    if (refused)
+        return refused;
+    reference_channel *c = &s->channel[channel - 1];
+    uint32_t n = c->ready <= size ? c->ready : (uint32_t)size;
+    if (n == 0)
+        return 0;
+    hand_out(&c->send, out, n);
+    c->ready -= n;
+    return n;
+}
+
+/* The network drops the link; what is held stays. */
+uint32_t reference_drop(reference_session *s, uint8_t channel, uint8_t *out, size_t size)
+{
+    if (size < EVENT_SPACE)
+        return R1;
+    uint32_t refused = refusal(s, channel);
+    if (refused)
+        return refused;
+    reference_channel *c = &s->channel[channel - 1];
+    c->link = REFERENCE_DROPPED;
+    if (!(s->listed & 2))
+        return 0;
+    return (uint32_t)(write_event(out, 0x0B, EVENT_DROP, c, channel) - out);
+}

@@ -1,0 +1,54 @@
+/* The modem of "Data channels: the rules", written a second time straight from the paper. */
+#ifndef REFERENCE_H
+#define REFERENCE_H
+
+#include <stddef.h>
+#include <stdint.h>
+
+enum {
+    REFERENCE_CHANNELS = 7,       /* channel numbers 1 to 7 */
+    REFERENCE_PROFILE = 13,       /* profile bytes that are looked at */
+    REFERENCE_RING = 2048,        /* bytes of a queue: a power of two above the largest grant */
+    REFERENCE_REFUSED = 0x1000000 /* a refusal returns this plus its number */
+};
+
+/* Where the link of a channel stands. */
+typedef enum {
+    REFERENCE_UNOPENED,
+    REFERENCE_NOT_YET,
+    REFERENCE_ESTABLISHED,
+    REFERENCE_DROPPED
+} reference_link;
+
+/* Bytes held in the order they came, in a ring. */
+typedef struct {
+    uint32_t first; /* place of the oldest byte */
+    uint32_t held;
+    uint8_t bytes[REFERENCE_RING];
+} reference_queue;
+
+/* One channel: its grant holds for each of the two ways. */
+typedef struct {
+    reference_link link;
+    uint32_t grant;
+    uint32_t ready; /* how many of the oldest bytes of `send` a take may hand out */
+    reference_queue receive;
+    reference_queue send;
+} reference_channel;
+
+/* One session; channel number 1 stands first. */
+typedef struct {
+    uint8_t profile[REFERENCE_PROFILE];
+    uint8_t listed;    /* events: bit 0 for 09, bit 1 for 0A */
+    uint32_t promised; /* cells of the pool promised to the open channels */
+    reference_channel channel[REFERENCE_CHANNELS];
+} reference_session;
+
+/* Each call returns the count of bytes written to `out`, or REFERENCE_REFUSED plus the refusal. */
+void reference_start(reference_session *s, const uint8_t *profile, size_t n);
+uint32_t reference_command(reference_session *s, const uint8_t *command, size_t n, uint8_t *out, size_t size);
+uint32_t reference_arrival(reference_session *s, uint8_t channel, const uint8_t *bytes, size_t n, uint8_t *out, size_t size);
+uint32_t reference_take(reference_session *s, uint8_t channel, uint8_t *out, size_t size);
+uint32_t reference_drop(reference_session *s, uint8_t channel, uint8_t *out, size_t size);
+
+#endif

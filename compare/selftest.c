@@ -1,0 +1,395 @@
+/* Holds reference.c to the paper's own numbers; every answer here was written down by hand from the paper. */
+#include "reference.h"
+
+#include <stdio.h>
+#include <string.h>
+
+enum { SPACE = 2048, TAKE_CAP = 1500 };
+
+static reference_session session;
+static unsigned steps, wrong;
+static const char *part;
+
+/* The value of a hexadecimal digit. */
+static unsigned digit(char c)
+{
+    return c <= '9' ? (unsigned)(c - '0') : (unsigned)(c - 'A' + 10);
+}
+
+/* Bytes from hexadecimal; blanks may stand between them. */
+static size_t unhex(const char *text, uint8_t *bytes)
+{
+    size_t n = 0;
+    for (; *text; text++) {
+        if (*text == ' ')
+            continue;
+        bytes[n++] = (uint8_t)(digit(text[0]) << 4 | digit(text[1]));
+        text++;
+    }
+    return n;
+}
+
+/* Prints an answer as the line program does. */
+static void print_answer(const char *who, uint32_t returned, const uint8_t *bytes)
+{
+    printf("  %s: ", who);
+    if (returned >= REFERENCE_REFUSED)
+        printf("R%u", (unsigned)(returned - REFERENCE_REFUSED));
+    for (uint32_t i = 0; returned < REFERENCE_REFUSED && i < returned; i++)
+        printf("%02X", bytes[i]);
+    printf(returned == 0 ? "--\n" : "\n");
+}
+
+/* What a line of the paper's output says: a number as the calls return it, and the bytes. */
+static uint32_t meaning(const char *line, uint8_t *bytes)
+{
+    if (line[0] == 'R')
+        return REFERENCE_REFUSED + digit(line[1]);
+    if (line[0] == '-')
+        return 0;
+    return (uint32_t)unhex(line, bytes);
+}
+
+/* Holds one answer to the line that the paper asks for, with every byte behind it untouched. */
+static void hold(const char *in, uint32_t returned, const uint8_t *out, const char *line)
+{
+    uint8_t expected[SPACE];
+    memset(expected, 0x5A, SPACE);
+    uint32_t asked = meaning(line, expected);
+    steps++;
+    if (returned == asked && memcmp(out, expected, SPACE) == 0)
+        return;
+    wrong++;
+    printf("%s: %.60s\n", part, in);
+    print_answer("the paper", asked, expected);
+    print_answer("reference", returned, out);
+}
+
+/* Starts a session over a profile. */
+static void start(const char *name, const char *profile)
+{
+    uint8_t bytes[SPACE];
+    part = name;
+    reference_start(&session, bytes, unhex(profile, bytes));
+}
+
+/* One frame of the line program, with buffers of the given size, and its line. */
+static void says_in(size_t size, const char *in, const char *line)
+{
+    uint8_t frame[SPACE], out[SPACE];
+    size_t n = unhex(in, frame);
+    memset(out, 0x5A, SPACE);
+    if (frame[0] == 0xA0)
+        hold(in, reference_arrival(&session, frame[1], frame + 2, n - 2, out, size), out, line);
+    else if (frame[0] == 0xA1)
+        hold(in, reference_take(&session, frame[1], out, (size_t)(frame[2] << 8 | frame[3])), out, line);
+    else if (frame[0] == 0xA2)
+        hold(in, reference_drop(&session, frame[1], out, size), out, line);
+    else
+        hold(in, reference_command(&session, frame, n, out, size), out, line);
+}
+
+/* One frame with a buffer that is large enough. */
+static void says(const char *in, const char *line)
+{
+    says_in(TAKE_CAP, in, line);
+}
+
+/* A line: a beginning, then n bytes counted up from `from`, then an end. */
+static const char *counted(char *to, const char *beginning, unsigned from, unsigned n, const char *end)
+{
+    char *at = to + sprintf(to, "%s", beginning);
+    for (unsigned i = 0; i < n; i++)
+        at += sprintf(at, "%02X", (from + i) & 0xFF);
+    sprintf(at, "%s", end);
+    return to;
+}
+
+static char one[8192], two[8192];
+
+#define FULL "00000800010C00000000001F82"
+#define SEVEN "00000800010C00000000001FE2"
+#define OPEN_1500 "D015810301400182028182350103390205DC3C03021F90"
+#define OPENED_1500 "81030140018202828183010038028100350103390205DC"
+#define LIST_09 "D00C810301050082028182190109"
+#define LISTED "810301050082028281830100"
+
+/* An arrival of n bytes counted up from `from`, told with its status and the count held. */
+static void arrives(unsigned from, unsigned n, const char *line)
+{
+    says(counted(one, "A001", from, n, ""), line);
+}
+
+/* The listing of "The line program", which is numbers 1 to 5. */
+static void listing(void)
+{
+    start("the listing", FULL);
+    says(OPEN_1500, OPENED_1500);
+    says(LIST_09, LISTED);
+    says("A001414243", "D60E1901098202828138028100370103");
+    says("D00C810301420082028121370105", "8103014200820282818301023603414243370100");
+    says("A00200", "R4");
+}
+
+/* Numbers 6 and 7: the third OPEN of 1500, and the fourth. */
+static void third_and_fourth(void)
+{
+    start("numbers 6 and 7", FULL);
+    says(OPEN_1500, OPENED_1500);
+    says(OPEN_1500, "81030140018202828183010038028200350103390205DC");
+    says(OPEN_1500, "8103014001820282818301073802830035010339020440");
+    says(OPEN_1500, "81030140018202828183023A04");
+}
+
+/* Number 8: request 255 of 300 held is 237, 02, 3F left, 255 bytes in all. */
+static void number_8(void)
+{
+    start("number 8", FULL);
+    says(OPEN_1500, OPENED_1500);
+    arrives(0, 300, "--");
+    says("D00C8103014200820281213701FF", counted(two, "8103014200820282818301023681ED", 0, 237, "37013F"));
+    says("D00C8103014200820281213701FF", counted(two, "810301420082028281830102363F", 237, 63, "370100"));
+}
+
+/* Numbers 9 and 10: request 237 of 492 and of 493 held leaves FF. */
+static void numbers_9_and_10(void)
+{
+    start("number 9", FULL);
+    says(OPEN_1500, OPENED_1500);
+    arrives(0, 492, "--");
+    says("D00C8103014200820281213701ED", counted(two, "8103014200820282818301003681ED", 0, 237, "3701FF"));
+    start("number 10", FULL);
+    says(OPEN_1500, OPENED_1500);
+    arrives(0, 493, "--");
+    says("D00C8103014200820281213701ED", counted(two, "8103014200820282818301003681ED", 0, 237, "3701FF"));
+    says("D00C8103014200820281213701ED", counted(two, "8103014200820282818301003681ED", 237, 237, "370113"));
+}
+
+/* Numbers 11 and 12: an unexpected object, its flag clear and set. */
+static void numbers_11_and_12(void)
+{
+    start("numbers 11 and 12", FULL);
+    says("D00C810301020082028182050141", "810301020082028281830101");
+    says("D00C810301020082028182850141", "810301020082028281830132");
+}
+
+/* "Run only": data of 127 and 128, request 0, a grant filled, length 81 7F. */
+static void run_only(void)
+{
+    start("run only", FULL);
+    says(OPEN_1500, OPENED_1500);
+    says(LIST_09, LISTED);
+    arrives(0, 255, "D60E19010982028281380281003701FF");
+    says("D00C81030142008202812137017F", counted(two, "810301420082028281830100367F", 0, 127, "370180"));
+    says("D00C810301420082028121370180", counted(two, "810301420082028281830100368180", 127, 128, "370100"));
+    says("D00C810301420082028121370100", "8103014200820282818301003600370100");
+    arrives(0, 1499, "D60E19010982028281380281003701FF");
+    arrives(7, 1, "D60E19010982028281380281003701FF");
+    arrives(8, 1, "R6");
+    arrives(0, 0, "--");
+    says(counted(one, "D0817F81030102008202818205744142", 0, 114, ""), "810300000082028281830132");
+    says(counted(one, "D07F810301020082028182057441", 0, 115, ""), "810301020082028281830101");
+}
+
+/* "Order of checks", a line for each step, each with what would be a later fault. */
+static void order_of_checks(void)
+{
+    start("order of checks", FULL);
+    says_in(254, "", "R1");
+    says_in(255, "", "R2");
+    says(counted(one, "D081FE", 0, 254, ""), "R2");
+    says("D1098103010200820281", "810300000082028281830132");
+    says("D0", "810300000082028281830132");
+    says("D081", "810300000082028281830132");
+    says("D0820009", "810300000082028281830132");
+    says("D080", "810300000082028281830132");
+    says("D00A810301020082028182", "810300000082028281830132");
+    says("D008810301020082028182", "810300000082028281830132");
+    says("D000", "810300000082028281830136");
+    says("D0050003010200", "810300000082028281830132");
+    says("D005FF03010200", "810300000082028281830132");
+    says("D006818103010200", "810300000082028281830132");
+    says("D00181", "810300000082028281830132");
+    says("D0048103010200", "810300000082028281830132");
+    says("D00481030102", "810300000082028281830132");
+    says("D00481020102", "810300000082028281830136");
+    says("D00982028182810301 0200", "810300000082028281830136");
+    says("D00582028182FF", "810300000082028281830136");
+    says("D006820281828103", "810300000082028281830136");
+    says("D006810301990082", "810301990082028281830132");
+    says("D007810301990080 00", "810301990082028281830132");
+    says("D009810301990082038182", "810301990082028281830132");
+    says("D005010301990F", "810301990F82028281830131");
+    says("D0050103019900", "810301990082028281830131");
+    says("D0050103000000", "810300000082028281830131");
+    says("D0078103010200E700", "810301020082028281830132");
+    says("D005810301020F", "81030102 0F 82028281830136");
+    says("D008810301020082 0181", "810301020082028281830132");
+    says("D009810301020082028381", "810301020082028281830132");
+    says("D009810301020082028121", "810301020082028281830132");
+    says("D009810301410082028182", "810301410082028281830132");
+    says("D009810301410082028120", "810301410082028281830132");
+    says("D009810301410082028128", "810301410082028281830132");
+    says("D009810301410082028127", "81030141008202828183023A03");
+    says("D00C810301420082028127370105", "81030142008202828183023A03");
+    says("D00B81030143008202812736 00", "81030143008202828183023A03");
+    says("D009010301020002028182", "810301020082028281830100");
+    start("a profile that forbids", "");
+    says("D0050103010200", "810301020082028281830130");
+    says("D0050103014000", "810301400082028281830130");
+    says("D0050103019900", "810301990082028281830131");
+    says("D006810301020082", "810301020082028281830132");
+}
+
+/* "Frames and objects": what may stand, how often, and which lengths count. */
+static void objects(void)
+{
+    start("objects", FULL);
+    says("D00E810301020082028182 0203818201", "810301020082028281830101");
+    says("D00D8103010200820281820202FFFF", "810301020082028281830101");
+    says("D00D8103010200820281828202FFFF", "810301020082028281830132");
+    says("D00D810301020002028383 02028182", "810301020082028281830132");
+    says("D00B810301410082028121 0500", "81030141008202828183023A03");
+    says("D00C810301410082028121 1E0100", "810301410082028281830132");
+    says("D00C810301020082028182 1E0100", "810301020082028281830101");
+    says("D00C810301440082028182 050141", "81030144008202828183010138020000");
+    says("D00D810301420082028121 37020001", "810301420082028281830132");
+    says("D00C810301400082028182 350103", "810301400082028281830136");
+    says("D00D810301400082028182 350103 00", "810301400082028281830132");
+    says("D00D810301400082028182 390205DC", "810301400082028281830136");
+    says("D00F810301400082028182350039020001", "810301400082028281830132");
+    says("D0108103014000820281823501023902 0001", "810301400082028281830132");
+    says("D011810301400082028182 35020300 39020001", "810301400082028281830132");
+    says("D010810301400082028182 350109 39020001", "810301400082028281830130");
+    says("D012810301400082028182 3503090000 39020001", "810301400082028281830130");
+    says("D00F810301400082028182 350103 390101", "810301400082028281830132");
+    says("D015810301400082028182 350103 39020001 3C03011F90", "81030140008202828183023A06");
+    says("D014810301400082028182 350103 39020001 3C020100", "810301400082028281830132");
+    says("D010810301400082028182 350103 39020000", "81030140008202828183023A04");
+    says("D018810301400082028182 350103 39020000 04020101 04020102", "81030140008202828183023A04");
+    says("D017810301400082028182 350103 39020000 04020101 040102", "810301400082028281830132");
+    says("D01B810301400082028182 350103 39020001 04020101 04020102 040102",
+         "810301400082028281830101 38020100 350103 39020001");
+    says("D01B810301400082028182 350103 39020001 04020101 04020102 840102", "810301400082028281830132");
+    says("D028810301400182028182 B9020021 B50702010203040506 3E00 0D0141 3E0121 4700 0500 0D00 1E020001",
+         "810301400182028281830100 38028200 350702010203040506 39020021");
+    says("D0098103014400 82028182", "810301440082028281830100 38020100 38028200");
+    start("bearer 02 forbidden", "0000000000000000000000 1FE0");
+    says("D016810301400182028182 B9020021 B50702010203040506", "810301400182028281830130");
+}
+
+/* "Pool and grants" and OPEN's own checks. */
+static void pool(void)
+{
+    start("pool", SEVEN);
+    says("D010810301400182028182 350103 3902FFFF", "810301400182028281830107 38028100 350103 390205DC");
+    says("D010810301400182028182 350103 390205DD", "810301400182028281830107 38028200 350103 390205DC");
+    says("D010810301400082028182 350103 39020420", "810301400082028281830100 38020300 350103 39020420");
+    says("D010810301400082028182 350103 39020021", "810301400082028281830107 38020400 350103 39020020");
+    says("D010810301400082028182 350103 39020001", "81030140008202828183023A04");
+    says("D009810302410082028122", "810302410082028281830100");
+    says("D010810301400082028182 350103 390205DC", "810301400082028281830100 38020200 350103 390205DC");
+    says("D009810302410082028124", "810302410082028281830100");
+    says("D010810301400082028182 350103 39020001", "810301400082028281830100 38020400 350103 39020001");
+    start("no channel", "0000000000000000000000 1F20");
+    says("D010810301400082028182 350103 39020001", "810301400082028281830100 38020100 350103 39020001");
+    says("D010810301400082028182 350103 39020000", "81030140008202828183023A04");
+    says("D010810301400082028182 350103 39020001", "81030140008202828183023A01");
+    start("N is 0", "0000000000000000000000 1F00");
+    says("D010810301400082028182 350103 39020001", "81030140008202828183023A01");
+}
+
+/* "05": the list is replaced whole, or stays. */
+static void event_list(void)
+{
+    start("event list", FULL);
+    says("D010810301400182028182 350103 39020040", "810301400182028281830100 38028100 350103 39020040");
+    says("A00141", "--");
+    says("D00D810301050082028182 99020A09", LISTED);
+    says("D00D810301050082028182 99020908", "810301050082028281830130");
+    says("A00141", "D60E1901098202828138028100370102");
+    says("D00B810301050082028182 9900", LISTED);
+    says("A00141", "--");
+    says("D00C810301050082028182 99010A", LISTED);
+    says("A00141", "--");
+    says("A201", "D60B19010A820282813802 0105");
+    start("one event allowed", "00000800010400000000001F82");
+    says("D00C810301050082028182 99010A", "810301050082028281830130");
+    says(LIST_09, LISTED);
+}
+
+/* 43 and takes: stored, ready, room, a link not yet established. */
+static void sending(void)
+{
+    start("sending", FULL);
+    says("D010810301400082028182 350103 39020102", "810301400082028281830100 38020100 350103 39020102");
+    says("A00141", "R5");
+    says("A1010001", "R5");
+    says("A201", "R5");
+    says("D00C810302430082028121 360141", "810302430082028281830100 3701FF");
+    says("D00D810302430082028121 36024243", "810302430082028281830100 3701FF");
+    says("D00B810302430082028121 3600", "810302430082028281830100 3701FF");
+    says("D009810301440082028182", "810301440082028281830100 38020100");
+    says("D00C810302430182028121 360144", "810302430182028281830100 3701FE");
+    says("D009810301440082028182", "810301440082028281830100 38028100");
+    says("D00C810302430082028121 360145", "810302430082028281830100 3701FD");
+    says("A1010000", "--");
+    says("A1010003", "414243");
+    says("A10105DC", "44");
+    says("A10105DC", "--");
+    says("D00B810302430182028121 3600", "810302430182028281830100 3701FF");
+    says("A10105DC", "45");
+    says(counted(one, "D081F1 8103014300 82028121 3681E5", 0, 229, ""), "810301430082028281830100 37011D");
+    says(counted(one, "D029 8103014300 82028121 361E", 0, 30, ""), "81030143008202828183023A04");
+    says(counted(one, "D028 8103014301 82028121 361D", 0, 29, ""), "810301430182028281830100 370100");
+    says("D00B810302430082028121 3600", "810302430082028281830100 370100");
+    says("D00C810302430082028121 360145", "81030243008202828183023A04");
+}
+
+/* Drop and close: what stays, what is refused, what is discarded. */
+static void dropping(void)
+{
+    start("dropping", FULL);
+    says("D010810301400182028182 350103 39020040", "810301400182028281830100 38028100 350103 39020040");
+    says("A0014142", "--");
+    says("D00C810302430182028121 360144", "810302430182028281830100 37013F");
+    says_in(15, "A201", "R1");
+    says_in(15, "A000", "R1");
+    says_in(16, "A000", "R3");
+    says("A008", "R3");
+    says("A002", "R4");
+    says_in(16, "A201", "--");
+    says("D009810301440082028182", "810301440082028281830100 38020105");
+    says("A201", "R5");
+    says("A001", "R5");
+    says("A1010001", "R5");
+    says("D00B810302430182028121 3600", "81030243018202828183023A02");
+    says("D00C810301420082028121 370101", "810301420082028281830100 360141 370101");
+    says("D00C810301410082028121 050141", "810301410082028281830100");
+    says("D009810301410082028121", "81030141008202828183023A03");
+    says("D009810301440082028182", "81030144008202828183010038020000");
+    says("D010810301400182028182 350103 39020040", "810301400182028281830100 38028100 350103 39020040");
+    says("D00C810301420082028121 370101", "810301420082028281830102 3600 370100");
+    says("A1010005", "--");
+    start("a new start", FULL);
+    says("A001", "R4");
+}
+
+/* Runs every part and counts what is wrong. */
+int main(void)
+{
+    listing();
+    third_and_fourth();
+    number_8();
+    numbers_9_and_10();
+    numbers_11_and_12();
+    run_only();
+    order_of_checks();
+    objects();
+    pool();
+    event_list();
+    sending();
+    dropping();
+    printf("selftest: %u answers held to the paper, %u wrong\n", steps, wrong);
+    return wrong != 0;
+}
