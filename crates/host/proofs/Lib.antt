@@ -1,3 +1,4 @@
 pub mod Packing
 pub mod Lending
 pub mod Serving
+pub mod ByNumber

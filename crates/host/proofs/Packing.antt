@@ -4,9 +4,11 @@ use Prim.Native.Nat.{ℕ, _≤_, min}
 use mathlib.Core.Path.{_≡_, refl, sym, ap, subst, _∙_}
 use mathlib.Core.List.{List}
 use native.Mathlib.Omega.{arith}
-use lib.ListN.{length, length-take}
+use lib.ListN.{length-take}
+use Rattle.rules.specs.declared.ChannelNumber.{ChannelNumber}
 use Rattle.rules.specs.State.{State, chan}
 use Rattle.rules.specs.Command.{Answer, Outcome, wrote, refused}
+use Rattle.rules.specs.Radio.{taking}
 use Rattle.rules.specs.Run.{Call, starting, commanding, arriving, takingOut, droppingLink, step}
 use Rattle.rules.specs.Sound.{Sound, Within}
 use Rattle.rules.proofs.Cases.{taking-cases}
@@ -23,20 +25,19 @@ within-fits k (wrote s) h w = omega arith
 within-fits k (refused r) h w = tt
 
 -- what a take hands out is ready, and so within the grant
-take-within : (a : State) (c : Call) (buffer : ℕ) → Sound a → (n : _) → c ≡ takingOut buffer n → Within 1500 (step a c .outcome)
-unfolding step
-take-within a c buffer h n e =
-    subst (λ (x : Call). Within 1500 (step a x .outcome)) (sym e)
-    (taking-cases (λ (x : Answer). Within 1500 (x .outcome)) a (λ _. tt) buffer n
+take-within : (a : State) (buffer : ℕ) (n : ChannelNumber) → Sound a → Within 1500 (taking a buffer n .outcome)
+take-within a buffer n h =
+    taking-cases (λ (x : Answer). Within 1500 (x .outcome)) a (λ _. tt) buffer n
     (λ _.
     let s = chan-sound a n h in
-    let t = length-take (min buffer (chan a n .ready)) (chan a n .send) in omega (arith, s .capped, s .send-fits)))
+    let t = length-take (min buffer (chan a n .ready)) (chan a n .send) in omega (arith, s .capped, s .send-fits))
 
 call-fits : (a : State) (c : Call) → Sound a → Fits (endedOf (step a c .outcome))
+unfolding step
 call-fits a (starting p) h = within-fits 0 _ (omega arith) (written-within a (starting p) h)
 call-fits a (commanding buffer s) h = within-fits 255 _ (omega arith) (written-within a (commanding buffer s) h)
 call-fits a (arriving buffer n s) h = within-fits 16 _ (omega arith) (written-within a (arriving buffer n s) h)
-call-fits a (takingOut buffer n) h = within-fits 1500 _ (omega arith) (take-within a (takingOut buffer n) buffer h n refl)
+call-fits a (takingOut buffer n) h = within-fits 1500 _ (omega arith) (take-within a buffer n h)
 call-fits a (droppingLink buffer n) h = within-fits 16 _ (omega arith) (written-within a (droppingLink buffer n) h)
 
 module _ (a : State) (c : Call) (l : Ledger) (p : List ℕ) (e : Ended) (before after : List ℕ) (h : Answers (step a c) l p e before after) where

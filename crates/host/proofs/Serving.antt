@@ -70,13 +70,13 @@ body d f xs =
     return))))))
 
 -- the types of the locals
-abbrev τs : Ty
+abbrev pub τs : Ty
 τs = tyRef (named 0) mut (pointee (T.the-row .written))
 
-abbrev τp : Ty
+abbrev pub τp : Ty
 τp = tyRef erased mut (tyArray (tyInt w8) 8192)
 
-abbrev τa : Ty
+abbrev pub τa : Ty
 τa = tyRef erased mut (tyInt w8)
 
 -- the locals of a function, by their places

@@ -5,21 +5,17 @@ use radio::arrival_in;
 use radio::dropping_in;
 use radio::taking_in;
 use rules::ChannelNumber;
-use rules::Refusal;
 use session::Ended;
 use session::Ledger;
 use session::Lent;
 use session::Session;
 use session::fresh_ledger;
 ghost use mathlib.Core.Path.{_≡_};
-ghost use mathlib.Core.List.{List};
-ghost use Prim.Native.Nat.{ℕ, _≤_};
 ghost use lib.ListN.{length};
 ghost use Rattle.rules.specs.State.{start};
 ghost use Rattle.rules.specs.Command.{command};
 ghost use Rattle.rules.specs.Radio.{arrival, taking, dropping};
 ghost use Rattle.session.specs.Picture.{Good, GoodIn, Shows, shown, view};
-ghost use Rattle.session.specs.Calls.{Answers};
 ghost use Rattle.host.specs.Packed.{packed, Fits, Hosts, Packs};
 
 // What a call over the lent parts of the record hands back: the ledger to store, and the number that tells how it ended.

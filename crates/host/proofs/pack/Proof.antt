@@ -1,6 +1,6 @@
 -- `host::pack` meets its contract: a case for each way to end.
 -- Assumes nothing.
-use mathlib.Core.Path.{_≡_, subst}
+use mathlib.Core.Path.{subst}
 use native.Mathlib.Omega.{arith}
 use Rattle.host.specs.Packed.{packed, Fits}
 use borrow.Author.Needs.{needs}
