@@ -2,3 +2,4 @@ pub mod Packing
 pub mod Lending
 pub mod Serving
 pub mod ByNumber
+pub mod Settled

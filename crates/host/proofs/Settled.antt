@@ -1,0 +1,51 @@
+-- The contract of each exported call settles its outcome: the number, the record and the buffer.
+-- Assumes nothing.
+use Prim.Native.Nat.{ℕ}
+use mathlib.Core.Path.{_≡_, sym, _∙_}
+use mathlib.Core.List.{List}
+use Rattle.outcomes.specs.Settles.{Settles}
+use Rattle.outcomes.proofs.Claims.{from-claims}
+use Rattle.rules.specs.Command.{Answer}
+use Rattle.session.specs.declared.Session.{Session}
+use Rattle.session.proofs.Alike.{lent-alike, session-alike}
+use Rattle.host.specs.Packed.{Hosts}
+use Rattle.host.proofs.pomerassol_start as start-call
+use Rattle.host.proofs.pomerassol_command as command-call
+use Rattle.host.proofs.pomerassol_arrival as arrival-call
+use Rattle.host.proofs.pomerassol_take as take-call
+use Rattle.host.proofs.pomerassol_drop as drop-call
+
+-- two that hand back one answer
+module _ {r : Answer} {m n : ℕ} {before after after′ : List ℕ} (s t : Session) (p : Hosts r s m before after) (q : Hosts r t n before after′) where
+  pub number-alike : m ≡ n
+  number-alike = p .told ∙ sym (q .told)
+
+  pub record-alike : s ≡ t
+  record-alike = session-alike s t (p .answers .shows) (q .answers .shows)
+
+  pub buffer-alike : after ≡ after′
+  buffer-alike = lent-alike (p .answers) (q .answers)
+
+pub start-settled : Settles start-call.ended (λ M 𝓤. start-call.clauses 𝓤)
+start-settled M 𝓤 H A mem run κs a g x y v w =
+    from-claims 𝓤 _ _ _ _ (λ p q. (λ i. tt, λ i. (session-alike (v .0) (w .0) (p .0) (q .0) i, (tt, tt))))
+
+pub command-settled : Settles command-call.ended (λ M 𝓤. command-call.clauses 𝓤)
+command-settled M 𝓤 H A mem run κs a g x y v w =
+    from-claims 𝓤 _ _ _ _
+    (λ p q. (number-alike (v .0) (w .0) p q, λ i. (record-alike (v .0) (w .0) p q i, (tt, (buffer-alike (v .0) (w .0) p q i, tt)))))
+
+pub arrival-settled : Settles arrival-call.ended (λ M 𝓤. arrival-call.clauses 𝓤)
+arrival-settled M 𝓤 H A mem run κs a g x y v w =
+    from-claims 𝓤 _ _ _ _
+    (λ p q. (number-alike (v .0) (w .0) p q, λ i. (record-alike (v .0) (w .0) p q i, (tt, (tt, (buffer-alike (v .0) (w .0) p q i, tt))))))
+
+pub take-settled : Settles take-call.ended (λ M 𝓤. take-call.clauses 𝓤)
+take-settled M 𝓤 H A mem run κs a g x y v w =
+    from-claims 𝓤 _ _ _ _
+    (λ p q. (number-alike (v .0) (w .0) p q, λ i. (record-alike (v .0) (w .0) p q i, (tt, (buffer-alike (v .0) (w .0) p q i, tt)))))
+
+pub drop-settled : Settles drop-call.ended (λ M 𝓤. drop-call.clauses 𝓤)
+drop-settled M 𝓤 H A mem run κs a g x y v w =
+    from-claims 𝓤 _ _ _ _
+    (λ p q. (number-alike (v .0) (w .0) p q, λ i. (record-alike (v .0) (w .0) p q i, (tt, (buffer-alike (v .0) (w .0) p q i, tt)))))
