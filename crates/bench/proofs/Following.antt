@@ -156,7 +156,7 @@ module _ (s : List ℕ) (d : Details) (x : ℕ) (b : Begun s d x) (t : d .kind �
       sym (take-append-drop (start + n - start) (drop start s))
       ∙ ap (λ (k : List ℕ). v ++ k) (drop-drop (start + n - start) start s ∙ ap (λ (k : ℕ). drop k s) (omega-sum start n) ∙ e ∙ ap (λ (k : List ℕ). 0x37 ∷ 0x01 ∷ k) u) in
       further-heard s d x b (Received start n left) (subst (λ (j : ℕ). furtherProper j (received v left) ≡ true) (sym t) (le-leb (length v) 237 (omega arith)))
-      (p .size ∙ (λ i. (0x36 ∷ lengthBytes (sym m i)) ++ w i) ∙ sym (received-written v left)) (p .place)
+      (p .size ∙ (λ i. (0x36 ∷ lengthBytes (sym m i)) ++ w i) ∙ sym (received-written v left)) (p .place, l)
     where
       omega-sum : (a k : ℕ) → a + (a + k - a) ≡ a + k
       omega-sum a k = omega arith

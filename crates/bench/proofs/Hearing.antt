@@ -90,7 +90,7 @@ silent s h =
 module _ (s : List ℕ) (d : Details) (h : Headed s d) where
   -- the form of a response with these details
   pub result-heard :
-      (v : Verdict) → resultProper d (resultOf v s) ≡ true → drop 10 s ≡ tailBytes (resultOf v s) → VerdictAt v → Hears s (Heard d v)
+      (v : Verdict) → resultProper d (resultOf v s) ≡ true → drop 10 s ≡ tailBytes (resultOf v s) → VerdictAt v s → Hears s (Heard d v)
   unfolding heardOf proper
   result-heard v p e a =
       let r : Response = record { details = d; result = resultOf v s } in
@@ -202,7 +202,7 @@ error-large d x =
 module _ (s : List ℕ) (d : Details) (x : ℕ) (b : Begun s d x) where
   -- what follows a success
   pub further-heard :
-      (f : Further) → furtherProper (d .kind) (furtherOf f s) ≡ true → drop 12 s ≡ written (furtherObjects (furtherOf f s)) → FurtherAt f →
+      (f : Further) → furtherProper (d .kind) (furtherOf f s) ≡ true → drop 12 s ≡ written (furtherObjects (furtherOf f s)) → FurtherAt f s →
       Hears s (Heard d (Done x f))
   unfolding resultOf resultProper tailBytes
   further-heard f p e a =

@@ -6,3 +6,4 @@ pub mod Hearing
 pub mod Following
 pub mod Opening
 pub mod Rising
+pub mod Settled

@@ -184,14 +184,14 @@ module _ (s : List ℕ) (d : Details) (x : ℕ) (b : Begun s d x) (t : d .kind �
   pub opened-heard :
       (n : ChannelNumber) (link : Link) (m g : ℕ) →
       Opens (record { number = n; link = link }) (bearerIn (part 18 (18 + m) s)) g →
-      drop 12 s ≡ openedForm (record { number = n; link = link }) (bearerIn (part 18 (18 + m) s)) g →
+      drop 12 s ≡ openedForm (record { number = n; link = link }) (bearerIn (part 18 (18 + m) s)) g → length s ≡ 18 + m + 4 →
       Hears s (Heard d (Done x (Opened n link 18 m g)))
   unfolding furtherOf
-  opened-heard n link m g o e =
+  opened-heard n link m g o e l =
       let st : Status = record { number = n; link = link } in
       let c = bearerIn (part 18 (18 + m) s) in
       further-heard s d x b (Opened n link 18 m g) (subst (λ (j : ℕ). furtherProper j (opened st c g) ≡ true) (sym t) (opens-proper st c g o))
-      (e ∙ sym (opened-written st c g)) refl
+      (e ∙ sym (opened-written st c g)) (refl, l)
 
 -- the second byte of a status is 00 where the link is not dropped
 second-zero : (n : ChannelNumber) (l : Link) (u : List ℕ) → isDropped l ≡ false → getD (objectBytes (statusObject n l) ++ u) 3 0 ≡ 0
@@ -337,4 +337,4 @@ module _ (s : List ℕ) (n : ChannelNumber) (link : Link) (m : ℕ) (w : Bearing
         ∙ ap (λ (v : List ℕ). 0x39 ∷ 0x02 ∷ v) (sym f) in
         opened-heard s d x b t n link m g
         (record { some = w .some; most = w .most; linked = w .linked; bearer = value-proper; least = least; top = top })
-        (w .status ∙ ap (λ (v : List ℕ). objectBytes (statusObject n link) ++ v) (value-form ∙ ap (λ (v : List ℕ). objectBytes (unflagged 0x35 (bearerBytes (bearerIn value))) ++ v) tail))
+        (w .status ∙ ap (λ (v : List ℕ). objectBytes (statusObject n link) ++ v) (value-form ∙ ap (λ (v : List ℕ). objectBytes (unflagged 0x35 (bearerBytes (bearerIn value))) ++ v) tail)) l

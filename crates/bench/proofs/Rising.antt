@@ -178,15 +178,15 @@ module _ (s : List ℕ) (d : Details) (x : ℕ) (b : Begun s d x) where
 
     statuses-heard :
         (k : ℕ) → rising 0 (statusesAt k (drop 12 s)) ≡ true → drop 12 s ≡ written (statusObjects (statusesAt k (drop 12 s))) →
-        Hears s (Heard d (Done x (Statuses k)))
+        12 + 4 * k ≤ length s → Hears s (Heard d (Done x (Statuses k)))
     unfolding furtherProper furtherOf furtherObjects
-    statuses-heard k r e =
-        further-heard s d x b (Statuses k) (subst (λ (j : ℕ). furtherProper j (statuses (statusesAt k (drop 12 s))) ≡ true) (sym t) r) e tt
+    statuses-heard k r e h =
+        further-heard s d x b (Statuses k) (subst (λ (j : ℕ). furtherProper j (statuses (statusesAt k (drop 12 s))) ≡ true) (sym t) r) e h
 
     -- 38 02 00 00 alone, or with bytes behind it
     pub none-heard : drop 12 s ≡ 0x38 ∷ 0x02 ∷ 0x00 ∷ 0x00 ∷ drop 16 s → length s ≡ 16 → Hears s (Heard d (Done x (Statuses 0)))
     unfolding statusesAt rising statusObjects written objectBytes lengthBytes _⇒_else_
-    none-heard e l = statuses-heard 0 refl (e ∙ ap (λ (v : List ℕ). 0x38 ∷ 0x02 ∷ 0x00 ∷ 0x00 ∷ v) (at-end s 16 l))
+    none-heard e l = statuses-heard 0 refl (e ∙ ap (λ (v : List ℕ). 0x38 ∷ 0x02 ∷ 0x00 ∷ 0x00 ∷ v) (at-end s 16 l)) (omega (arith, l))
 
     pub none-silent : drop 12 s ≡ 0x38 ∷ 0x02 ∷ 0x00 ∷ 0x00 ∷ drop 16 s → (length s ≡ 16 → ⊥) → Hears s Silence
     unfolding statusObjects written objectBytes lengthBytes _⇒_else_
@@ -217,10 +217,10 @@ module _ (s : List ℕ) (d : Details) (x : ℕ) (b : Begun s d x) where
           let z = ap length (sym (at-end s 12 l) ∙ f ∙ status-form (st .number) (st .link) (told ss)) in
           omega arith)
 
-    pub some-heard : (k : ℕ) → (k ≡ 0 → ⊥) → Good k 0 (drop 12 s) → Hears s (Heard d (Done x (Statuses k)))
+    pub some-heard : (k : ℕ) → (k ≡ 0 → ⊥) → Good k 0 (drop 12 s) → 12 + 4 * k ≤ length s → Hears s (Heard d (Done x (Statuses k)))
     unfolding statusesAt statusObjects
-    some-heard zero n g = absurd (n refl)
-    some-heard (suc k) n g = statuses-heard (suc k) (g .rise) (g .is)
+    some-heard zero n g h = absurd (n refl)
+    some-heard (suc k) n g h = statuses-heard (suc k) (g .rise) (g .is) h
 
   -- a result that nothing follows
   known-success : successProper (d .kind) x ≡ true → known (d .kind) ≡ true

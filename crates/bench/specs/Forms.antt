@@ -54,7 +54,7 @@ pub record Begun (s : List ℕ) (d : Details) (x : ℕ) : Type 0 where
 -- the answer of the reader
 pub record Hears (s : List ℕ) (r : heard.Heard) : Type 0 where
   pub is : benchRead s ≡ heardOf r s
-  pub at : PlacesAt r
+  pub at : PlacesAt r s
 
 -- the two bytes of a status
 abbrev pub ShownBy : Seen → List ℕ → Type 0

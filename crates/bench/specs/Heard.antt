@@ -1,5 +1,5 @@
 -- A response that was read, as the code tells it: its data stands in the bytes, at the places told.
-use Prim.Native.Nat.{ℕ, zero, suc, _+_}
+use Prim.Native.Nat.{ℕ, zero, suc, _+_, _*_, _≤_}
 use mathlib.Core.Path.{_≡_}
 use mathlib.Core.List.{List, [], _∷_}
 use lib.ListN.{length, drop}
@@ -40,19 +40,19 @@ unfoldable pub heardOf : Heard → List ℕ → Told
 heardOf (Response d v) s = told (record { details = d; result = resultOf v s })
 heardOf Silence s = untold NoResponse
 
--- where the data stands: the bearer behind the status, the data behind its tag and length
-abbrev pub FurtherAt : Further → Type 0
-FurtherAt Plain = Unit {0}
-FurtherAt (Opened n link start len grant) = start ≡ 18
-FurtherAt (Received start len left) = start ≡ 12 + length (0x36 ∷ lengthBytes len)
-FurtherAt (Sent room) = Unit {0}
-FurtherAt (Statuses count) = Unit {0}
+-- where the data stands, and that the bytes end with what follows it: the bearer behind the status, the data behind its tag and length
+abbrev pub FurtherAt : Further → List ℕ → Type 0
+FurtherAt Plain s = Unit {0}
+FurtherAt (Opened n link start len grant) s = (start ≡ 18) × (length s ≡ start + len + 4)
+FurtherAt (Received start len left) s = (start ≡ 12 + length (0x36 ∷ lengthBytes len)) × (length s ≡ start + len + 3)
+FurtherAt (Sent room) s = Unit {0}
+FurtherAt (Statuses count) s = 12 + 4 * count ≤ length s
 
-abbrev pub VerdictAt : Verdict → Type 0
-VerdictAt (Error e) = Unit {0}
-VerdictAt (Problem cause) = Unit {0}
-VerdictAt (Done r f) = FurtherAt f
+abbrev pub VerdictAt : Verdict → List ℕ → Type 0
+VerdictAt (Error e) s = Unit {0}
+VerdictAt (Problem cause) s = Unit {0}
+VerdictAt (Done r f) s = FurtherAt f s
 
-abbrev pub PlacesAt : Heard → Type 0
-PlacesAt (Response d v) = VerdictAt v
-PlacesAt Silence = Unit {0}
+abbrev pub PlacesAt : Heard → List ℕ → Type 0
+PlacesAt (Response d v) s = VerdictAt v s
+PlacesAt Silence s = Unit {0}

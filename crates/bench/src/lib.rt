@@ -632,7 +632,7 @@ fn read_problem(s: &[u8], d: Details) -> Heard
 // Reads a response from its one form, or hears silence, which is R8.
 pub fn read(s: &[u8]) -> Heard
     ensures { λ r. ⌜ benchRead (now (s .entry)) ≡ heardOf r (now (s .entry)) ⌝ }
-    ensures { λ r. ⌜ PlacesAt r ⌝ }
+    ensures { λ r. ⌜ PlacesAt r (now (s .entry)) ⌝ }
 {
     if !headed(s) {
         return Heard::Silence;

@@ -7,7 +7,7 @@ use mathlib.Core.List.{List, [], _∷_, _++_, append-nil}
 use mathlib.Core.Option.{Option, none, some}
 use native.Mathlib.Omega.{arith}
 use lib.ListN.{length, take, drop, length-append, length-take}
-use lib.Seq.{take-all, take-nil, append-snoc}
+use lib.Seq.{take-all, take-nil, append-snoc, length-take-le}
 use lib.Dec.{leb, eqb}
 use borrow.Author.Tests.{leb-true, leb-false, lt-ltb}
 use Rattle.rules.specs.Checks.{_⇒_else_, isEmpty, member, some-of}
@@ -249,6 +249,17 @@ module _ (c : Running) (p line out : List ℕ) (at : ℕ) (x : Reader) (z : Hold
 pub line-stays : (d : Progress) (k : ℕ) (line line′ : List ℕ) → Keeps d k (10 ∷ []) 0 line line′ → line′ ≡ line
 unfolding fitting beforeFeed _⇒_else_
 line-stays d k line line′ t = t .kept ∙ ap (pasted line k) (take-nil (3201 - k)) ∙ sym (paste-none line k)
+
+pub next-one : (d : Progress) (k : ℕ) (line line′ : List ℕ) → Keeps d k (10 ∷ []) 0 line line′ → d .next ≡ 1
+unfolding piece beforeFeed member some-of _⇒_else_
+next-one d k line line′ t = t .next
+
+-- what is held has a reader
+pub reader-of :
+    (c : Running) (p line : List ℕ) → Ready c p line → Holds (record { begun = c .begun; state = shown (c .ledger) p; pending = take (c .len) line }) c p line
+reader-of c p line y =
+    let e = length-take-le (c .len) line (omega (arith, y .size, y .kept)) in
+    record { begun = refl; shows = y .good .shows; pending = sym (take-all 3201 (take (c .len) line) (omega (arith, y .kept))); count = omega (arith, y .kept) }
 
 -- before the first byte
 pub first-held : (l : Ledger) (p line : List ℕ) → Shows (start []) l p → Holds atFirst (record { begun = false; ledger = l; len = 0 }) p line

@@ -6,8 +6,7 @@ use mathlib.Core.Bool.{Bool}
 use mathlib.Core.List.{List, [], _++_, append-nil}
 use mathlib.Core.Option.{Option, none, some}
 use native.Mathlib.Omega.{arith}
-use lib.ListN.{length, take, drop, replicate, length-append, length-replicate, drop-of-length-le}
-use lib.Seq.{take-append-seam}
+use lib.ListN.{length, drop, replicate, length-replicate, drop-of-length-le}
 use Rattle.rules.specs.declared.Refusal.the-variants.{Unreadable as R9}
 use Rattle.rules.specs.State.{State, start}
 use Rattle.rules.specs.Command.{refused}
@@ -17,30 +16,16 @@ use Rattle.rules.proofs.Soundness.{start-sound}
 use Rattle.octets.specs.Parts.{pasted, cleared}
 use Rattle.session.specs.declared.Ledger.{Ledger}
 use Rattle.session.specs.Picture.{Shows, GoodIn, ledgerOf}
-use Rattle.session.specs.Calls.{overlaid}
 use Rattle.session.proofs.Starts.{empty-pool}
 use Rattle.session.proofs.Views.{shows-good}
 use Rattle.text.specs.declared.Frame.{Frame}
-use Rattle.text.specs.declared.Frame.the-variants.{Bytes, Unreadable}
-use Rattle.text.specs.Frames.{frameTold, frameBytes}
+use Rattle.text.specs.declared.Frame.the-variants.{Unreadable}
+use Rattle.text.specs.Frames.{frameTold}
 use Rattle.text.proofs.Stores.{paste-none}
 use Rattle.lines.specs.declared.Performed.{Performed}
 use Rattle.lines.specs.Says.{Says, SaysLine, SaysFed}
 
--- a frame that was read: its bytes stand at the front of the buffer
-pub record Read (o : Option (List ℕ)) (n : ℕ) (buffer : List ℕ) : Type 0 where
-  pub fits : n ≤ length buffer
-  pub bytes : o ≡ some (take n buffer)
-
-pub frame-read :
-    (o : Option (List ℕ)) (f : Frame) (n : ℕ) (before after : List ℕ) → (f ≡ frameTold o) × (after ≡ overlaid (frameBytes o) before) → f ≡ Bytes n → Read o n after
-unfolding frameTold frameBytes overlaid
-frame-read none f n before after t e = absurd (let z : _≡_ {A = ℕ} 0 1 = cc in omega arith)
-frame-read (some s) f n before after t e =
-    let size : n ≡ length s = cc in
-    let long = ap length (t .1) ∙ length-append s (drop (length s) before) in
-    record { fits = omega arith; bytes = sym (ap some ((λ i. take (size i) (t .1 i)) ∙ take-append-seam s (drop (length s) before))) }
-
+-- a line that was not read has no frame
 pub frame-unread : (o : Option (List ℕ)) (f : Frame) → f ≡ frameTold o → f ≡ Unreadable → o ≡ none
 unfolding frameTold
 frame-unread none f t e = refl

@@ -6,7 +6,7 @@ use mathlib.Core.Bool.{_&&_}
 use mathlib.Core.List.{List}
 use mathlib.Core.Option.{Option, none, some}
 use native.Mathlib.Omega.{arith}
-use lib.ListN.{length, take, drop, getD, length-append}
+use lib.ListN.{length, take, drop, getD}
 use lib.Seq.{take-append-seam, length-take-le}
 use lib.Dec.{eqb}
 use borrow.Rule.Slice.PartAt.{part-to-end}
@@ -29,15 +29,11 @@ use Rattle.text.specs.declared.Spoken.{Spoken}
 use Rattle.text.specs.declared.Spoken.the-variants.{Arrival, Take}
 use Rattle.text.specs.Calls.{callSpoken}
 use Rattle.text.specs.Prints.{countOf, outcomeOf, lineOf}
+use Rattle.text.proofs.Bounds.{count-within}
 use Rattle.lines.specs.declared.Performed.{Performed}
 use Rattle.lines.specs.Says.{Says, SaysLine}
 
 -- the bytes that a call wrote stand at the front of its buffer
-front-size : (o : Outcome) (d : List ℕ) → countOf (endedOf o) ≤ length (overlaid (writtenBy o) d)
-unfolding countOf endedOf overlaid writtenBy
-front-size (wrote s) d = simp length-append (omega arith)
-front-size (refused r) d = omega arith
-
 front-back : (o : Outcome) (d : List ℕ) → outcomeOf (endedOf o) (overlaid (writtenBy o) d) ≡ o
 unfolding outcomeOf endedOf overlaid writtenBy
 front-back (wrote s) d = ap wrote (take-append-seam s (drop (length s) d))
@@ -45,7 +41,7 @@ front-back (refused r) d = refl
 
 module _ (x : Answer) (l : Ledger) (p : List ℕ) (e : Ended) (before reply : List ℕ) (t : Answers x l p e before reply) where
   pub count-fits : countOf e ≤ length reply
-  count-fits = subst (λ (k : ℕ). k ≤ length reply) (ap countOf (sym (t .ended))) (subst (λ (s : List ℕ). countOf (endedOf (x .outcome)) ≤ length s) (sym (t .lent)) (front-size (x .outcome) before))
+  count-fits = count-within (x .outcome) e before reply (t .ended, t .lent)
 
   outcome-is : outcomeOf e reply ≡ x .outcome
   outcome-is = (λ i. outcomeOf (t .ended i) (t .lent i)) ∙ front-back (x .outcome) before

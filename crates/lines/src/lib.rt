@@ -19,7 +19,7 @@ use text::read_frame;
 ghost use mathlib.Core.Path.{_≡_};
 ghost use mathlib.Core.List.{List};
 ghost use mathlib.Core.Option.{some};
-ghost use Prim.Native.Nat.{ℕ, _+_, _*_, _≤_};
+ghost use Prim.Native.Nat.{ℕ, _+_, _*_, _≤_, min};
 ghost use lib.ListN.{length, drop, replicate};
 ghost use Rattle.rules.specs.declared.Refusal.the-variants.{Unreadable};
 ghost use Rattle.rules.specs.Command.{Answer, refused};
@@ -285,6 +285,7 @@ pub fn finish(
     requires { ⌜ at + 3003 ≤ length (now out) ⌝ }
     ensures { λ r. ⌜ ((x : Reader) → Holds x running (now (pool .entry)) (now (line .entry)) → Goes x (lastPiece x) r (now (pool .exit)) (now (line .exit)) (now (out .entry)) at (now (out .exit))) ⌝ }
     ensures { λ r. ⌜ now (line .exit) ≡ now (line .entry) ⌝ }
+    ensures { λ r. ⌜ r .next ≡ min (running .len) 1 ⌝ }
 {
     if running.len < 1 {
         return Progress {

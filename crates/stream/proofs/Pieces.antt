@@ -14,11 +14,12 @@ use Rattle.rules.specs.Checks.{_⇒_else_, member, some-of}
 use Rattle.rules.specs.Input.{Reader, Fed, feeds, atFirst}
 use Rattle.rules.proofs.Input.{fed-pieces}
 use Rattle.octets.specs.Parts.{pasted}
-use Rattle.session.specs.Picture.{GoodIn, shown}
+use Rattle.session.specs.Picture.{GoodIn}
 use Rattle.text.specs.Gathers.{beforeFeed}
 use Rattle.lines.specs.declared.Running.{Running}
 use Rattle.lines.specs.declared.Progress.{Progress}
 use Rattle.lines.specs.Holds.{Ready, Holds, piece, Goes, Keeps}
+use Rattle.lines.proofs.Feeding.{reader-of}
 
 -- a piece has the first byte, and ends there or goes on
 piece-cons : (c : ℕ) (s : List ℕ) → (piece (c ∷ s) ≡ c ∷ []) ⊎ (piece (c ∷ s) ≡ c ∷ piece s)
@@ -45,13 +46,6 @@ piece-some (c ∷ s) h = ⊎-elim (λ e. let k = ap length e in omega arith) (λ
 
 piece-few : (s : List ℕ) → length (piece s) ≤ length s
 piece-few s = let e = ap length (piece-front s) in let k = length-take (length (piece s)) s in omega arith
-
--- what is held has a reader
-pub reader-of :
-    (c : Running) (p line : List ℕ) → Ready c p line → Holds (record { begun = c .begun; state = shown (c .ledger) p; pending = take (c .len) line }) c p line
-reader-of c p line y =
-    let e = length-take-le (c .len) line (omega (arith, y .size, y .kept)) in
-    record { begun = refl; shows = y .good .shows; pending = sym (take-all 3201 (take (c .len) line) (omega (arith, y .kept))); count = omega (arith, y .kept) }
 
 -- what is printed stands within the output
 pub place-within :

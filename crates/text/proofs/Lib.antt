@@ -5,4 +5,5 @@ pub mod Calls
 pub mod Stores
 pub mod Gathering
 pub mod Printing
+pub mod Bounds
 pub mod Settled

@@ -18,7 +18,7 @@ use Rattle.text.proofs.Stores.{store-after}
 use Rattle.octets.specs.Parts.{pasted}
 use Rattle.octets.proofs.Copies.{Copied, copied-none, copied-more, copied-all}
 
-hex-size : (s : List ℕ) → length (hex s) ≡ 2 * length s
+pub hex-size : (s : List ℕ) → length (hex s) ≡ 2 * length s
 unfolding hex
 hex-size [] = refl
 hex-size (b ∷ s) = let e = hex-size s in omega arith

@@ -66,7 +66,7 @@ returns-5 : tie.Need-returns-5 Inv-loop μ-loop
 returns-5 c = empty-silent (now (c .before .before .before .before .before .before .before .args .s)) _ _ (c .before .before .before .before .before .before .before .pre .0) (c .before .before .before .before .before .before .before .pre .1) (missed (now (c .before .before .before .before .before .before .before .args .s)) 12 _ _ (c .before .before .before .before .stands .ensures) (c .before .before .before .if1 .left)) _ _ _ (c .before .before .loop .inv) (c .if4 .taken) (c .before .loop-test .left)
 
 returns-6 : tie.Need-returns-6 Inv-loop μ-loop
-returns-6 c = some-heard (now (c .before .before .before .before .before .before .before .args .s)) _ _ (c .before .before .before .before .before .before .before .pre .0) (c .before .before .before .before .before .before .before .pre .1) _ (c .if4 .left) (all-seen (now (c .before .before .before .before .before .before .before .args .s)) _ _ _ (c .before .before .loop .inv) (c .before .loop-test .left))
+returns-6 c = some-heard (now (c .before .before .before .before .before .before .before .args .s)) _ _ (c .before .before .before .before .before .before .before .pre .0) (c .before .before .before .before .before .before .before .pre .1) _ (c .if4 .left) (all-seen (now (c .before .before .before .before .before .before .before .args .s)) _ _ _ (c .before .before .loop .inv) (c .before .loop-test .left)) (omega (arith, c .before .before .loop .inv .place, c .before .before .loop .inv .within))
 
 pub read-statuses-spec : {M : Type 1} → statement M
 read-statuses-spec =

@@ -3,7 +3,8 @@
 use mathlib.Core.Path.{sym}
 use lib.Seq.{length-take-le}
 use denote.Ref.{now}
-use Rattle.lines.proofs.Reading.{frame-read, frame-unread, first-read, first-unread}
+use Rattle.text.proofs.Bounds.{frame-read}
+use Rattle.lines.proofs.Reading.{frame-unread, first-read, first-unread}
 use borrow.Author.Needs.{needs}
 use Rattle.lines.proofs.begin.Statement.{statement}
 use Rattle.lines.proofs.begin.Tie as tie

@@ -5,7 +5,8 @@ use lib.Seq.{length-take-le}
 use Rattle.rules.specs.Lines.{callIn}
 use Rattle.rules.specs.Input.{goes}
 use Rattle.lines.proofs.Telling.{unread-says}
-use Rattle.lines.proofs.Reading.{frame-read, frame-unread, line-told}
+use Rattle.text.proofs.Bounds.{frame-read}
+use Rattle.lines.proofs.Reading.{frame-unread, line-told}
 use borrow.Author.Needs.{needs}
 use Rattle.lines.proofs.perform.Statement.{statement}
 use Rattle.lines.proofs.perform.Tie as tie

@@ -1,7 +1,8 @@
 -- `stream::end` writes what the last line printed.
 -- Assumes nothing.
 use native.Mathlib.Omega.{arith}
-use Rattle.stream.proofs.Pieces.{place-within, reader-of}
+use Rattle.lines.proofs.Feeding.{reader-of}
+use Rattle.stream.proofs.Pieces.{place-within}
 use borrow.Author.Needs.{needs}
 use Rattle.stream.proofs.end.Statement.{statement}
 use Rattle.stream.proofs.end.Tie as tie
