@@ -25,12 +25,10 @@ use Rattle.command.specs.declared.Handler.the-variants.{MoreTime, EventL
 use Rattle.command.specs.declared.Request.{Request}
 use Rattle.command.specs.declared.Read.{Read}
 use Rattle.command.specs.declared.Read.the-variants.{Wrong, Asked}
-use Rattle.command.specs.declared.Survey.{Survey}
 use Rattle.command.specs.declared.Plan.{Plan}
 use Rattle.command.specs.declared.Planned.{Planned}
 use Rattle.command.specs.declared.Planned.the-variants.{Of, Unknown}
 use Rattle.command.specs.Plans.{handlerKind, PlanOf, Plans}
-use Rattle.command.specs.Surveys.{Surveyed}
 use Rattle.command.specs.Requests.{Frames, ownNumber, lastNumber, AskedFor, Reads}
 
 -- where the objects start
@@ -39,10 +37,6 @@ framed-alike (At a) (At b) s p q = ap At (drop-alike s a b (p .within) (q .withi
 framed-alike (At a) Not s p q = absurd (true≢false (sym (p .is) ∙ q))
 framed-alike Not (At b) s p q = absurd (false≢true (sym p ∙ q .is))
 framed-alike Not Not s p q = refl
-
-pub survey-alike : (x y : Survey) (s : List ℕ) (h : Handler) → Surveyed x s h → Surveyed y s h → x ≡ y
-survey-alike x y s h p q =
-    λ i. record { flagged = (p .flagged ∙ sym (q .flagged)) i; ignored = (p .ignored ∙ sym (q .ignored)) i; misfit = (p .misfit ∙ sym (q .misfit)) i }
 
 -- a handler, read back from its type
 handlerIn : ℕ → Handler

@@ -1,5 +1,6 @@
 pub mod Tables
 pub mod Sifting
+pub mod Sorting
 pub mod Lengths
 pub mod Framing
 pub mod Counting

@@ -26,7 +26,7 @@ use Rattle.command.specs.declared.Handler.{Handler}
 use Rattle.command.specs.declared.Handler.the-variants.{MoreTime, EventList, Open, Close, Receive, Send, Status}
 use Rattle.command.specs.declared.Plan.{Plan}
 use Rattle.command.specs.Plans.{handlerKind, PlanOf}
-use Rattle.command.specs.Requests.{theDetails, Began, Typed, Begun, Detailed}
+use Rattle.command.specs.Requests.{theDetails, Began, Typed, Begun, Headed, Detailed}
 use Rattle.command.proofs.Lengths.{part-size, part-first}
 use Rattle.command.proofs.Steps.{read-none, read-faulty, read-stranger, read-cut, read-unknown, read-forbidden}
 
@@ -83,6 +83,9 @@ module _ (s : List ℕ) (h : length s ≡ 0 → ⊥) where
         read-stranger p s (some s h) some-objects
         (begins
         ∙ (λ i. eq-eqb (tag % 128) 0x01 e i && ne-eqb (length (part start (start + n) s)) 3 (λ q. l (sym z ∙ q)) i))
+
+    pub headed : tag % 128 ≡ 0x01 → n ≡ 3 → Headed s next
+    headed e l = record { tag = tag; start = start; stands = subst (λ (k : ℕ). Stands s 0 tag start k next) l st; number = e }
 
     pub detailed :
         tag % 128 ≡ 0x01 → n ≡ 3 → length s ≤ 256 →

@@ -2,7 +2,7 @@
 -- Assumes nothing.
 use mathlib.Core.Path.{refl, sym, _∙_}
 use Rattle.outcomes.specs.Determined.{Determined}
-use Rattle.command.proofs.Alike.{planned-alike, survey-alike, framed-alike, read-alike}
+use Rattle.command.proofs.Alike.{planned-alike, framed-alike, read-alike}
 use Rattle.command.proofs.plan_of.Kinds as plan-of-kinds
 use Rattle.command.proofs.plan_of.Reads as plan-of-reads
 use Rattle.command.proofs.allowed.Kinds as allowed-kinds
@@ -11,8 +11,6 @@ use Rattle.command.proofs.times.Kinds as times-kinds
 use Rattle.command.proofs.times.Reads as times-reads
 use Rattle.command.proofs.fits.Kinds as fits-kinds
 use Rattle.command.proofs.fits.Reads as fits-reads
-use Rattle.command.proofs.go_through.Kinds as go-through-kinds
-use Rattle.command.proofs.go_through.Reads as go-through-reads
 use Rattle.command.proofs.frame_start.Kinds as frame-start-kinds
 use Rattle.command.proofs.frame_start.Reads as frame-start-reads
 use Rattle.command.proofs.read_objects.Kinds as read-objects-kinds
@@ -29,9 +27,6 @@ times-settled κs a _ x y v w p q = (p ∙ sym q, refl)
 
 pub fits-settled : Determined 1 fits-kinds.ps fits-kinds.r fits-reads.Pre fits-reads.Post
 fits-settled κs a _ x y v w p q = (p ∙ sym q, refl)
-
-pub go-through-settled : Determined 1 go-through-kinds.ps go-through-kinds.r go-through-reads.Pre go-through-reads.Post
-go-through-settled κs a _ x y v w p q = (survey-alike x y _ _ p q, refl)
 
 pub frame-start-settled : Determined 1 frame-start-kinds.ps frame-start-kinds.r frame-start-reads.Pre frame-start-reads.Post
 frame-start-settled κs a _ x y v w p q = (framed-alike x y _ p q, refl)

@@ -9,12 +9,10 @@ use lib.ListN.{length, drop, getD, set, replicate, length-append, length-set, le
 use lib.Seq.{getD-set-same, getD-set-other}
 use lib.Dec.{ltb, leb, eqb}
 use borrow.Author.Tests.{eqb-true, eqb-false, eq-eqb, ne-eqb}
-use Rattle.rules.specs.declared.Ending.{Ending}
 use Rattle.rules.specs.Checks.{_⇒_else_, isEmpty, every, some-of, occurrences}
-use Rattle.rules.specs.Frames.{Object, objectAt, faulty, Walk, walk}
+use Rattle.rules.specs.Frames.{Object, Walk, walk}
 use Rattle.rules.specs.Table.{Row, rowOf, Sifted, sift, times, lengthFits, measured}
 use Rattle.rules.proofs.Laws.{branch, stop, skip}
-use Rattle.rules.proofs.Walks.{walk-end, walk-fault}
 use Rattle.octets.specs.Parts.{part}
 use Rattle.objects.specs.Places.{Stands}
 use Rattle.objects.proofs.Sizes.{objectOf}
@@ -182,11 +180,6 @@ count-small s h counts v at n w k =
     let c = numbers-length (w .before) in
     omega (arith, w .few)
 
--- a walk that begins with a fault, or has no bytes, has no objects
-no-objects : (l : List ℕ) (e : Ending) → objectAt l ≡ faulty e → walk l .objects ≡ []
-no-objects [] e f = ap (λ (x : Walk). x .objects) walk-end
-no-objects (b ∷ l) e f = ap (λ (x : Walk). x .objects) (walk-fault b l e f)
-
 -- the three findings after one object more
 module _ (f : Sifted) (o : Object) (v : Survey) where
   flagged-more :
@@ -274,9 +267,8 @@ module _ (s : List ℕ) (h : Handler) (counts : List ℕ) (v : Survey) (at : ℕ
           misfit = misfit-more f o v b (w .misfit) ∙ ap (λ (x : Sifted). not (measured (x .counting))) e;
         }
 
-  pub noted-all : (e : Ending) → objectAt (drop at s) ≡ faulty e → Surveyed v s h
-  noted-all e f =
-      let none = no-objects (drop at s) e f in
+  pub noted-all : walk (drop at s) .objects ≡ [] → Surveyed v s h
+  noted-all none =
       let all : w .before ≡ walk s .objects = sym (w .objects ∙ ap (λ (l : List Object). w .before ++ l) none ∙ append-nil (w .before)) in
       record {
         flagged = w .flagged ∙ ap (λ (l : List Object). some-of Flag (sift (rowOf (handlerKind h)) [] l .unexpected)) all;

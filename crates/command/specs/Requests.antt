@@ -1,7 +1,7 @@
 -- What a reading hands on: an error with its details, or what is asked, with places in the bytes of the objects.
-use Prim.Native.Nat.{ℕ, _+_, _*_, _≤_}
+use Prim.Native.Nat.{ℕ, _+_, _*_, _%_, _≤_}
 use mathlib.Core.Path.{_≡_}
-use mathlib.Core.Bool.{Bool, true, false}
+use mathlib.Core.Bool.{Bool, true, false, not}
 use mathlib.Core.List.{List, []}
 use mathlib.Core.Option.{Option}
 use lib.ListN.{length, drop, getD}
@@ -14,7 +14,7 @@ use Rattle.rules.specs.Table.{known, rowOf, sift, present, valueOf, bearerFits}
 use Rattle.rules.specs.Reading.{Reading, wrong, asked, Command, Body, Transport, moreTime, eventList, openChannel, closeChannel, receiveData, sendData, channelStatus, bearerIn, detailsIn, commandIn, startsWithDetails, isFault, addressed, readObjects}
 use Rattle.rules.specs.Own.{isTcp}
 use Rattle.octets.specs.Parts.{part}
-use Rattle.objects.specs.Places.{First, placeOf}
+use Rattle.objects.specs.Places.{Stands, First, Finds, placeOf}
 use Rattle.command.specs.declared.Framed.{Framed}
 use Rattle.command.specs.declared.Framed.the-variants.{At, Not}
 use Rattle.command.specs.declared.Handler.{Handler}
@@ -22,6 +22,7 @@ use Rattle.command.specs.declared.Handler.the-variants.{MoreTime, EventL
 use Rattle.command.specs.declared.Request.{Request}
 use Rattle.command.specs.declared.Read.{Read}
 use Rattle.command.specs.declared.Read.the-variants.{Wrong, Asked}
+use Rattle.command.specs.declared.Sorted.{Sorted}
 use Rattle.command.specs.declared.Span.{Span}
 use Rattle.command.specs.declared.Survey.{Survey}
 use Rattle.command.specs.Plans.{handlerKind}
@@ -107,11 +108,19 @@ pub record Begun (s : List ℕ) (d : Details) (h : Handler) : Type 0 where
   pub kind : d .kind ≡ handlerKind h
   pub small : length s ≤ 256
 
--- a survey that found nothing flagged, and the devices at their place
-pub record Named (s : List ℕ) (d : Details) (h : Handler) (v : Survey) (devices : Span) : Type 0 where
+-- the objects are sorted for a handler: surveyed, walked to the end or to a fault, and the three that it needs found
+pub record Sorts (v : Sorted) (s : List ℕ) (h : Handler) : Type 0 where
+  pub surveyed : Surveyed (v .survey) s h
+  pub whole : v .whole ≡ not (isFault (walk s .ending))
+  pub devices : Finds (v .devices) s 0x02
+  pub own : Finds (v .own) s (ownNumber h)
+  pub last : Finds (v .last) s (lastNumber h)
+
+-- nothing unexpected is flagged, and the devices stand at their place
+pub record Named (s : List ℕ) (d : Details) (h : Handler) (v : Sorted) (devices : Span) : Type 0 where
   pub begun : Begun s d h
-  pub surveyed : Surveyed v s h
-  pub unflagged : v .flagged ≡ false
+  pub sorted : Sorts v s h
+  pub unflagged : v .survey .flagged ≡ false
   pub first-02 : First s 0x02 (devices .at) (devices .len)
 
 -- the three objects that settle a reading stand at these places
@@ -141,6 +150,13 @@ pub record Typed (p s : List ℕ) : Type 0 where
 -- step 8, with the type's handler and two bytes
 abbrev pub addressedBy : Handler → ℕ → ℕ → Bool
 addressedBy h from to = addressed (handlerKind h) (record { 0 = from }) (record { 0 = to })
+
+-- the first object is 01 with three bytes, and the second begins there
+pub record Headed (s : List ℕ) (second : ℕ) : Type 0 where
+  pub tag : ℕ
+  pub start : ℕ
+  pub stands : Stands s 0 tag start 3 second
+  pub number : tag % 128 ≡ 0x01
 
 -- step 3 is passed, with these details
 pub record Detailed (s : List ℕ) (d : Details) : Type 0 where

@@ -6,6 +6,8 @@ use mathlib.Core.List.{List, []}
 use Rattle.rules.specs.Checks.{_⇒_else_, isEmpty, some-of}
 use Rattle.rules.specs.Frames.{Object, walk}
 use Rattle.rules.specs.Table.{rowOf, Sifted, sift, measured}
+use Rattle.objects.specs.declared.Where.{Where}
+use Rattle.objects.specs.declared.Where.the-variants.{At, Nowhere}
 use Rattle.command.specs.declared.Handler.{Handler}
 use Rattle.command.specs.declared.Survey.{Survey}
 use Rattle.command.specs.Plans.{handlerKind}
@@ -15,6 +17,11 @@ unfoldable pub noted : Survey → Bool → Bool → Bool → Survey
 noted v counts fit flag =
     counts ⇒ record { flagged = v .flagged; ignored = v .ignored; misfit = v .misfit || not fit } else
     record { flagged = v .flagged || flag; ignored = true; misfit = v .misfit }
+
+-- where the first of such objects stands, once one more was met: where it did, or here if this is such a one
+unfoldable pub firstOf : Where → Bool → ℕ → ℕ → Where
+firstOf (At before count) such start n = At before count
+firstOf Nowhere such start n = such ⇒ At start n else Nowhere
 
 -- the objects of a command, sifted by the row of a handler's type
 abbrev pub sifted : List ℕ → Handler → Sifted

@@ -3,7 +3,6 @@ use objects::Cursor;
 use objects::Found;
 use objects::Sized;
 use objects::Where;
-use objects::find;
 use objects::length_at;
 use objects::walk;
 use rules::Details;
@@ -16,14 +15,12 @@ ghost use lib.Dec.{leb};
 ghost use mathlib.Core.Bool.{_&&_};
 ghost use mathlib.Core.List.{List};
 ghost use Rattle.rules.specs.Profile.{bit};
-ghost use Rattle.rules.specs.Table.{times, rowOf, bearerFits, lengthFits};
+ghost use Rattle.rules.specs.Table.{times, rowOf, known, bearerFits, lengthFits};
 ghost use Rattle.octets.specs.Parts.{part};
-ghost use Rattle.command.specs.Plans.{handlerKind, Plans};
-ghost use Rattle.command.specs.Surveys.{noted, Surveyed};
-ghost use Rattle.command.specs.Requests.{Frames, ownNumber, lastNumber, addressedBy, Settled, Named, Detailed, Typed, Begun, Reads};
+ghost use Rattle.command.specs.Plans.{handlerKind, PlanOf, Plans};
+ghost use Rattle.command.specs.Surveys.{noted, firstOf};
+ghost use Rattle.command.specs.Requests.{Frames, ownNumber, lastNumber, addressedBy, Settled, Sorts, Named, Headed, Detailed, Typed, Begun, Reads};
 ghost use mathlib.Core.Bool.{false};
-ghost use Rattle.rules.specs.Frames.{walk};
-ghost use Rattle.rules.specs.Reading.{isFault};
 
 // What is done for a type.
 pub enum Handler {
@@ -234,19 +231,59 @@ impl Survey {
     }
 }
 
-// Goes through the objects of a command whose type has this handler.
-pub fn go_through(s: &[u8], handler: Handler) -> Survey
-    requires { ⌜ length (now s) ≤ 256 ⌝ }
-    ensures { λ r. ⌜ Surveyed r (now (s .entry)) handler ⌝ }
+// What a walk over a command's objects found: the survey, whether it came to the end, and where the devices and the type's own objects stand.
+struct Sorted {
+    survey: Survey,
+    whole: bool,
+    devices: Where,
+    own: Where,
+    last: Where,
+}
+
+// Where the first of such objects stands, once one object more was met.
+fn first(found: Where, such: bool, start: usize, len: usize) -> Where
+    ensures { λ r. ⌜ r ≡ firstOf found such start len ⌝ }
 {
+    match found {
+        Where::At(before, count) => Where::At(before, count),
+        Where::Nowhere => {
+            if such {
+                return Where::At(start, len);
+            }
+            Where::Nowhere
+        }
+    }
+}
+
+// Goes through the objects behind the first, which is 01, of a command whose type has this handler.
+fn go_through(s: &[u8], handler: Handler, second: Cursor) -> Sorted
+    requires { ⌜ (length (now s) ≤ 256) × Headed (now s) (second .at) ⌝ }
+    ensures { λ r. ⌜ Sorts r (now (s .entry)) handler ⌝ }
+{
+    let needed = value_number(handler);
+    let further = last_number(handler);
     let mut counts = [0u8; 128];
-    let mut found = Survey {
+    counts[1] = 1;
+    let mut survey = Survey {
         flagged: false,
         ignored: false,
         misfit: false,
     };
-    let mut c = Cursor { at: 0 };
+    let mut devices = Where::Nowhere;
+    let mut own = Where::Nowhere;
+    let mut last = Where::Nowhere;
+    let mut c = second;
     loop {
+        let at = c.at;
+        if s.len() <= at {
+            break Sorted {
+                survey,
+                whole: true,
+                devices,
+                own,
+                last,
+            };
+        }
         match c.object(s) {
             Found::Object(tag, start, len, next) => {
                 let number = tag % 128;
@@ -254,10 +291,21 @@ pub fn go_through(s: &[u8], handler: Handler) -> Survey
                 let seen = counts[k];
                 counts[k] = seen + 1;
                 let counted = seen < times(handler, number);
-                found = found.note(counted, fits(number, s, start, len), 127 < tag);
+                survey = survey.note(counted, fits(number, s, start, len), 127 < tag);
+                devices = first(devices, number == 0x02, start, len);
+                own = first(own, number == needed, start, len);
+                last = first(last, number == further, start, len);
                 c = next;
             }
-            Found::Fault(_) => break found,
+            Found::Fault(_) => {
+                break Sorted {
+                    survey,
+                    whole: false,
+                    devices,
+                    own,
+                    last,
+                }
+            }
         }
     }
 }
@@ -405,30 +453,36 @@ fn settle(
 }
 
 // Steps 6 to 8 of a command whose type has this handler.
-fn read_known(s: &[u8], d: Details, handler: Handler) -> Read
-    requires { ⌜ Begun (now s) d handler ⌝ }
+fn read_known(s: &[u8], d: Details, handler: Handler, v: Sorted) -> Read
+    requires { ⌜ Begun (now s) d handler × Sorts v (now s) handler ⌝ }
     ensures { λ r. ⌜ ((p : List ℕ) → Typed p (now (s .entry)) → Reads r p (now (s .entry))) ⌝ }
 {
-    let v = go_through(s, handler);
-    if v.flagged {
+    let survey = v.survey;
+    if survey.flagged {
         return Read::Wrong(d, 0x32);
     }
-    match find(s, 0x02) {
+    let devices = v.devices;
+    match devices {
         Where::At(at, len) => read_own(s, d, handler, v, Span { at, len }),
         Where::Nowhere => Read::Wrong(d, 0x36),
     }
 }
 
 // Steps 7 and 8 once the devices are found.
-fn read_own(s: &[u8], d: Details, handler: Handler, v: Survey, devices: Span) -> Read
+fn read_own(s: &[u8], d: Details, handler: Handler, v: Sorted, devices: Span) -> Read
     requires { ⌜ Named (now s) d handler v devices ⌝ }
     ensures { λ r. ⌜ ((p : List ℕ) → Typed p (now (s .entry)) → Reads r p (now (s .entry))) ⌝ }
 {
-    match find(s, value_number(handler)) {
+    let survey = v.survey;
+    let own = v.own;
+    let last = v.last;
+    match own {
         Where::At(at, len) => {
-            let own = Span { at, len };
-            match find(s, last_number(handler)) {
-                Where::At(at, len) => settle(s, d, handler, v, devices, own, Span { at, len }),
+            let needed = Span { at, len };
+            match last {
+                Where::At(at, len) => {
+                    settle(s, d, handler, survey, devices, needed, Span { at, len })
+                }
                 Where::Nowhere => Read::Wrong(d, 0x36),
             }
         }
@@ -436,37 +490,47 @@ fn read_own(s: &[u8], d: Details, handler: Handler, v: Survey, devices: Span) ->
     }
 }
 
-// Steps 4 and 5, and those behind them, once the details are known.
-fn read_typed(profile: [u8; 13], s: &[u8], d: Details) -> Read
-    requires { ⌜ Detailed (now s) d ⌝ }
-    ensures { λ r. ⌜ Reads r profile (now (s .entry)) ⌝ }
+// Steps 4 and 5 of a command whose type is not one of the seven.
+fn read_unknown(s: &[u8], d: Details) -> Read
+    requires { ⌜ Detailed (now s) d × (known (d .kind) ≡ false) ⌝ }
+    ensures { λ r. ⌜ ((p : List ℕ) → Reads r p (now (s .entry))) ⌝ }
 {
     let stop = walk(s);
     let ending = stop.ending;
     match ending {
-        Ending::End => read_planned(profile, s, d),
+        Ending::End => Read::Wrong(d, 0x31),
         Ending::BadTag => Read::Wrong(d, 0x32),
         Ending::BadLength => Read::Wrong(d, 0x32),
         Ending::CutValue => Read::Wrong(d, 0x32),
     }
 }
 
-// Step 5, and those behind it, of a command whose objects are whole.
-fn read_planned(profile: [u8; 13], s: &[u8], d: Details) -> Read
-    requires { ⌜ Detailed (now s) d × (isFault (walk (now s) .ending) ≡ false) ⌝ }
+// Steps 4 to 8 of a command whose type has this plan.
+fn read_planned(profile: [u8; 13], s: &[u8], d: Details, plan: Plan, second: Cursor) -> Read
+    requires { ⌜ Detailed (now s) d × PlanOf plan (d .kind) × Headed (now s) (second .at) ⌝ }
+    ensures { λ r. ⌜ Reads r profile (now (s .entry)) ⌝ }
+{
+    let handler = plan.handler;
+    let v = go_through(s, handler, second);
+    if !v.whole {
+        return Read::Wrong(d, 0x32);
+    }
+    let place = plan.place;
+    if !allowed(profile, place) {
+        return Read::Wrong(d, 0x30);
+    }
+    read_known(s, d, handler, v)
+}
+
+// Steps 4 to 8 once the details are known, and where the second object begins.
+fn read_typed(profile: [u8; 13], s: &[u8], d: Details, second: Cursor) -> Read
+    requires { ⌜ Detailed (now s) d × Headed (now s) (second .at) ⌝ }
     ensures { λ r. ⌜ Reads r profile (now (s .entry)) ⌝ }
 {
     let kind = d.kind;
     match plan_of(kind) {
-        Planned::Of(plan) => {
-            let place = plan.place;
-            if !allowed(profile, place) {
-                return Read::Wrong(d, 0x30);
-            }
-            let handler = plan.handler;
-            read_known(s, d, handler)
-        }
-        Planned::Unknown => Read::Wrong(d, 0x31),
+        Planned::Of(plan) => read_planned(profile, s, d, plan, second),
+        Planned::Unknown => read_unknown(s, d),
     }
 }
 
@@ -485,7 +549,7 @@ pub fn read_objects(profile: [u8; 13], s: &[u8]) -> Read
     }
     let c = Cursor { at: 0 };
     match c.object(s) {
-        Found::Object(tag, start, len, _) => {
+        Found::Object(tag, start, len, next) => {
             if tag % 128 != 0x01 {
                 return Read::Wrong(none, 0x36);
             }
@@ -497,7 +561,7 @@ pub fn read_objects(profile: [u8; 13], s: &[u8]) -> Read
                 kind: s[start + 1],
                 qualifier: s[start + 2],
             };
-            read_typed(profile, s, d)
+            read_typed(profile, s, d, next)
         }
         Found::Fault(_) => Read::Wrong(none, 0x32),
     }

@@ -7,7 +7,7 @@ use Rattle.rules.specs.Reading.{zeros}
 use Rattle.objects.specs.declared.Found.{Found}
 use Rattle.objects.specs.declared.Found.the-variants.{Object, Fault}
 use Rattle.objects.specs.Places.{Meets}
-use Rattle.command.proofs.Opening.{none-read, faulty-read, stranger-number, stranger-length, detailed}
+use Rattle.command.proofs.Opening.{none-read, faulty-read, stranger-number, stranger-length, headed, detailed}
 use borrow.Author.Needs.{needs}
 use Rattle.command.proofs.read_objects.Statement.{statement}
 use Rattle.command.proofs.read_objects.Tie as tie
@@ -44,36 +44,36 @@ returns-3 c =
     let m : Meets (Object _ _ _ _) s 0 = subst (λ (r : Found). Meets r s 0) (c .before .before .before .tag .given .1) (c .before .before .before .before .before .object .ensures) in
     stranger-length s (c .before .before .before .before .before .before .if1 .left) _ _ _ _ m _ (c .before .if2 .left) (c .if3 .taken)
 
-shared-slice-read-t13 : tie.Need-shared-slice-read-t13
-shared-slice-read-t13 c =
+shared-slice-read-t14 : tie.Need-shared-slice-read-t14
+shared-slice-read-t14 c =
     let z = c .before .before .before .before .before .before .before .before .before in
     let s = now (z .args .s) in
     let m : Meets (Object _ _ _ _) s 0 = subst (λ (r : Found). Meets r s 0) (c .before .before .before .before .tag .given .1) (c .before .before .before .before .before .before .object .ensures) in
     omega (arith, m .ends, m .within, c .before .if3 .left)
 
-add-t16 : tie.Need-add-t16
-add-t16 c =
+add-t17 : tie.Need-add-t17
+add-t17 c =
     let z = c .before .before .before .before .before .before .before .before .before in
     let s = now (z .args .s) in
     let m : Meets (Object _ _ _ _) s 0 = subst (λ (r : Found). Meets r s 0) (c .before .before .before .before .tag .given .1) (c .before .before .before .before .before .before .object .ensures) in
     omega (arith, m .ends, m .within, c .before .if3 .left)
 
-shared-slice-read-t18 : tie.Need-shared-slice-read-t18
-shared-slice-read-t18 c =
+shared-slice-read-t19 : tie.Need-shared-slice-read-t19
+shared-slice-read-t19 c =
     let z = c .before .before .before .before .before .before .before .before .before .before in
     let s = now (z .args .s) in
     let m : Meets (Object _ _ _ _) s 0 = subst (λ (r : Found). Meets r s 0) (c .before .before .before .before .before .tag .given .1) (c .before .before .before .before .before .before .before .object .ensures) in
     omega (arith, m .ends, m .within, c .before .before .if3 .left)
 
-add-t19 : tie.Need-add-t19
-add-t19 c =
+add-t20 : tie.Need-add-t20
+add-t20 c =
     let z = c .before .before .before .before .before .before .before .before .before .before in
     let s = now (z .args .s) in
     let m : Meets (Object _ _ _ _) s 0 = subst (λ (r : Found). Meets r s 0) (c .before .before .before .before .before .tag .given .1) (c .before .before .before .before .before .before .before .object .ensures) in
     omega (arith, m .ends, m .within, c .before .before .if3 .left)
 
-shared-slice-read-t21 : tie.Need-shared-slice-read-t21
-shared-slice-read-t21 c =
+shared-slice-read-t22 : tie.Need-shared-slice-read-t22
+shared-slice-read-t22 c =
     let z = c .before .before .before .before .before .before .before .before .before .before .before in
     let s = now (z .args .s) in
     let m : Meets (Object _ _ _ _) s 0 = subst (λ (r : Found). Meets r s 0) (c .before .before .before .before .before .before .tag .given .1) (c .before .before .before .before .before .before .before .before .object .ensures) in
@@ -81,10 +81,9 @@ shared-slice-read-t21 c =
 
 read-typed-requires : tie.Need-read-typed-requires
 read-typed-requires c κs =
-    let z = c .before .before .before .before .before .before .before .before .before .before .before in
-    let s = now (z .args .s) in
+    let s = now (c .before .before .before .before .before .before .before .before .before .before .before .args .s) in
     let m : Meets (Object _ _ _ _) s 0 = subst (λ (r : Found). Meets r s 0) (c .before .before .before .before .before .before .tag .given .1) (c .before .before .before .before .before .before .before .before .object .ensures) in
-    detailed s (c .before .before .before .before .before .before .before .before .before .if1 .left) _ _ _ _ m (c .before .before .before .before .if2 .left) (c .before .before .before .if3 .left) (z .pre)
+    (detailed s (c .before .before .before .before .before .before .before .before .before .if1 .left) _ _ _ _ m (c .before .before .before .before .if2 .left) (c .before .before .before .if3 .left) (c .before .before .before .before .before .before .before .before .before .before .before .pre), headed s (c .before .before .before .before .before .before .before .before .before .if1 .left) _ _ _ _ m (c .before .before .before .before .if2 .left) (c .before .before .before .if3 .left))
 
 enum-told : tie.Need-enum-told
 enum-told c = search needs
@@ -109,11 +108,11 @@ read-objects-spec =
     enum-known-tag
     returns-2
     returns-3
-    shared-slice-read-t13
-    add-t16
-    shared-slice-read-t18
-    add-t19
-    shared-slice-read-t21
+    shared-slice-read-t14
+    add-t17
+    shared-slice-read-t19
+    add-t20
+    shared-slice-read-t22
     read-typed-requires
     enum-told
     returns-4

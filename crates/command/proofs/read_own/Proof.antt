@@ -1,5 +1,6 @@
 -- `command::read_own` meets its contract: step 7 for the type's own objects.
 -- Assumes nothing.
+use mathlib.Core.Path.{refl}
 use denote.Ref.{now}
 use Rattle.objects.specs.declared.Where.the-variants.{At, Nowhere}
 use Rattle.objects.specs.Places.{Finds}
@@ -11,40 +12,25 @@ use Rattle.command.proofs.read_own.Statement.{statement}
 use Rattle.command.proofs.read_own.Tie as tie
 use Rattle.command.proofs.read_own.Reads as reads
 use Rattle.command.proofs.read_own.Lts as lts
-use Rattle.command.proofs.last_number.Reads as last-number-reads
 use Rattle.command.proofs.settle.Reads as settle-reads
-use Rattle.command.proofs.value_number.Reads as value-number-reads
-use Rattle.objects.proofs.find.Reads as find-reads
 
-value-number-requires : tie.Need-value-number-requires
-value-number-requires c κs = search needs
+enum-known-own : tie.Need-enum-known-own
+enum-known-own c = search needs
 
-find-requires : tie.Need-find-requires
-find-requires c κs = search needs
-
-enum-known-at : tie.Need-enum-known-at
-enum-known-at c = search needs
-
-last-number-requires : tie.Need-last-number-requires
-last-number-requires c κs = search needs
-
-find-requires-2 : tie.Need-find-requires-2
-find-requires-2 c κs = search needs
-
-enum-known-at-2 : tie.Need-enum-known-at-2
-enum-known-at-2 c = search needs
+enum-known-last : tie.Need-enum-known-last
+enum-known-last c = search needs
 
 settle-requires : tie.Need-settle-requires
 settle-requires c κs =
-    let z = c .before .before .before .before .before .before .before .before .before .before .before in
-    let s = now (z .args .s) in
-    let w1 : Finds (At _ _) s (ownNumber (z .args .handler)) = found-as s (c .before .before .before .before .before .before .at .given .1) (c .before .before .before .before .before .before .before .before .before .value-number .ensures) (c .before .before .before .before .before .before .before .before .find .ensures) in
-    let w2 : Finds (At _ _) s (lastNumber (z .args .handler)) = found-as s (c .before .at2 .given .1) (c .before .before .before .before .last-number .ensures) (c .before .before .before .find2 .ensures) in
+    let z = c .before .before .before .before .before .before .before .before .pre in
+    let s = now (c .before .before .before .before .before .before .before .before .args .s) in
+    let w1 : Finds (At _ _) s (ownNumber (c .before .before .before .before .before .before .before .before .args .handler)) = found-as s (c .before .before .before .before .own .given .1) refl (z .sorted .own) in
+    let w2 : Finds (At _ _) s (lastNumber (c .before .before .before .before .before .before .before .before .args .handler)) = found-as s (c .before .last .given .1) refl (z .sorted .last) in
     record {
-      begun = z .pre .begun;
-      surveyed = z .pre .surveyed;
-      unflagged = z .pre .unflagged;
-      first-02 = z .pre .first-02;
+      begun = z .begun;
+      surveyed = z .sorted .surveyed;
+      unflagged = z .unflagged;
+      first-02 = z .first-02;
       first-own = w1 .0;
       first-last = w2 .0;
       own-place = w1 .1;
@@ -62,29 +48,25 @@ returns c = search needs
 
 returns-2 : tie.Need-returns-2
 returns-2 c =
-    let z = c .before .before .before .before .before .before .before .before .before .before in
-    let s = now (z .args .s) in
-    let w1 : Finds (At _ _) s (ownNumber (z .args .handler)) = found-as s (c .before .before .before .before .before .at .given .1) (c .before .before .before .before .before .before .before .before .value-number .ensures) (c .before .before .before .before .before .before .before .find .ensures) in
-    let w2 : Finds (Nowhere) s (lastNumber (z .args .handler)) = found-as s (c .enum-told .given .1) (c .before .before .before .last-number .ensures) (c .before .before .find2 .ensures) in
-    λ p t. known-no-last s _ _ (z .pre .begun) _ (z .pre .surveyed) (z .pre .unflagged) (z .pre .first-02 .there) (w1 .0 .there) p t w2
+    let z = c .before .before .before .before .before .before .before .pre in
+    let s = now (c .before .before .before .before .before .before .before .args .s) in
+    let w1 : Finds (At _ _) s (ownNumber (c .before .before .before .before .before .before .before .args .handler)) = found-as s (c .before .before .before .own .given .1) refl (z .sorted .own) in
+    let w2 : Finds (Nowhere) s (lastNumber (c .before .before .before .before .before .before .before .args .handler)) = found-as s (c .enum-told .given .1) refl (z .sorted .last) in
+    λ p t. known-no-last s _ _ (z .begun) _ (z .sorted .surveyed) (z .unflagged) (z .first-02 .there) (w1 .0 .there) p t w2
 
 returns-3 : tie.Need-returns-3
 returns-3 c =
-    let z = c .before .before .before .before .before in
-    let s = now (z .args .s) in
-    let w1 : Finds (Nowhere) s (ownNumber (z .args .handler)) = found-as s (c .enum-told2 .given .1) (c .before .before .before .value-number .ensures) (c .before .before .find .ensures) in
-    λ p t. known-no-own s _ _ (z .pre .begun) _ (z .pre .surveyed) (z .pre .unflagged) (z .pre .first-02 .there) p t w1
+    let z = c .before .before .before .before .pre in
+    let s = now (c .before .before .before .before .args .s) in
+    let w1 : Finds (Nowhere) s (ownNumber (c .before .before .before .before .args .handler)) = found-as s (c .enum-told2 .given .1) refl (z .sorted .own) in
+    λ p t. known-no-own s _ _ (z .begun) _ (z .sorted .surveyed) (z .unflagged) (z .first-02 .there) p t w1
 
 pub read-own-spec : {M : Type 1} → statement M
 read-own-spec =
     tie.close
     (tie.spec
-    value-number-requires
-    find-requires
-    enum-known-at
-    last-number-requires
-    find-requires-2
-    enum-known-at-2
+    enum-known-own
+    enum-known-last
     settle-requires
     enum-told
     enum-told-2
