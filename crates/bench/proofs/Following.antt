@@ -24,7 +24,7 @@ use Rattle.bench.specs.declared.Verdict.the-variants.{Done}
 use Rattle.bench.specs.declared.Heard.the-variants.{Response as Heard, Silence}
 use Rattle.bench.specs.Heard.{furtherOf}
 use Rattle.bench.specs.Forms.{Begun, Hears, Data}
-use Rattle.bench.proofs.Writes.{short-length, long-length}
+use Rattle.objects.proofs.Writing.{short-length, long-length}
 use Rattle.bench.proofs.Hearing.{at-place, at-end, of-kind, further-heard, further-silent}
 
 -- the form of a length, byte by byte

@@ -33,7 +33,7 @@ use Rattle.bench.specs.declared.Seen.the-variants.{Shows, Nothing}
 use Rattle.bench.specs.Heard.{furtherOf}
 use Rattle.bench.specs.Forms.{Begun, Hears, ShownBy, ShownAt, Bearing}
 use Rattle.bench.proofs.Fits.{bearer-two, bearer-three}
-use Rattle.bench.proofs.Writes.{short-length}
+use Rattle.objects.proofs.Writing.{short-length}
 use Rattle.bench.proofs.Hearing.{at-place, at-end, of-kind, further-heard, further-silent}
 
 -- a status is 38 02 and two bytes

@@ -20,6 +20,7 @@ use Rattle.rules.specs.Bench.{bodyProper, transportObjects, bodyObjects, comman
 use Rattle.session.specs.declared.Ended.the-variants as ended
 use Rattle.session.specs.Calls.{endedOf, writtenBy, overlaid}
 use Rattle.octets.proofs.Pastes.{paste-after, length-pasted}
+use Rattle.objects.proofs.Writing.{short-length}
 use Rattle.rules.proofs.Laws.{stop, skip}
 use Rattle.rules.proofs.Sizes.{length-bytes}
 use Rattle.session.proofs.Answers.{front-over}
@@ -80,21 +81,14 @@ pub alone :
 unfolding written
 alone o at end before after w = as-form (objectBytes o) _ at end before after (append-nil (objectBytes o)) w
 
--- the two forms of a length
-pub short-length : (n : ℕ) → n < 128 → lengthBytes n ≡ n ∷ []
-unfolding lengthBytes
-short-length n h = stop _ _ _ (lt-ltb n 128 h)
-
-pub long-length : (n : ℕ) → 128 ≤ n → lengthBytes n ≡ 0x81 ∷ n ∷ []
-unfolding lengthBytes
-long-length n h = skip _ _ _ (le-ltb n 128 h)
-
--- a tag and a length
+-- a tag and a length, put at a place
 pub length-wrote :
-    (l : List ℕ) (tag n at end : ℕ) (before after : List ℕ) → lengthBytes n ≡ l → at + length (tag ∷ l) ≤ length before →
-    end ≡ at + length (tag ∷ l) → after ≡ pasted before at (tag ∷ l) → Wrote (tag ∷ lengthBytes n) at end before after
-length-wrote l tag n at end before after f r e p =
-    as-form (tag ∷ l) (tag ∷ lengthBytes n) at end before after (ap (λ (x : List ℕ). tag ∷ x) f) (by-put (tag ∷ l) at end before after r e p)
+    (tag n at end : ℕ) (before after : List ℕ) → at + 3 ≤ length before →
+    (after ≡ pasted before at (tag ∷ lengthBytes n)) × (end ≡ at + length (tag ∷ lengthBytes n)) →
+    Wrote (tag ∷ lengthBytes n) at end before after
+length-wrote tag n at end before after r e =
+    let b = length-bytes n in
+    by-put (tag ∷ lengthBytes n) at end before after (omega arith) (e .1) (e .0)
 
 -- the objects of an OPEN CHANNEL: bearer, size and transport level
 abbrev pub behindBearer : ℕ → Level → List ℕ

@@ -1,4 +1,5 @@
 // The bench: writes commands from records, and reads responses, each from its one form.
+use objects;
 use octets;
 use rules::ChannelNumber;
 use rules::Details;
@@ -172,27 +173,12 @@ fn body_size(asking: Asking, bytes: &[u8]) -> usize
     }
 }
 
-// Writes a tag and a length in its shortest form, and tells the place behind them.
-fn write_length(out: &mut [u8], at: usize, tag: u8, len: u8) -> usize
-    requires { ⌜ at + 3 ≤ length (now out) ⌝ }
-    ensures { λ r. ⌜ Wrote (tag ∷ lengthBytes len) at r (now (out .entry)) (now (out .exit)) ⌝ }
-{
-    if len < 0x80 {
-        let short = [tag, len];
-        octets::put(out, at, &short);
-        return at + 2;
-    }
-    let long = [tag, 0x81, len];
-    octets::put(out, at, &long);
-    at + 3
-}
-
 // Writes an object, and tells the place behind it.
 fn write_object(out: &mut [u8], at: usize, tag: u8, value: &[u8]) -> usize
     requires { ⌜ (at + 3 + length (now value) ≤ length (now out)) × (length (now value) ≤ 241) ⌝ }
     ensures { λ r. ⌜ Wrote (tag ∷ lengthBytes (length (now (value .entry))) ++ now (value .entry)) at r (now (out .entry)) (now (out .exit)) ⌝ }
 {
-    let start = write_length(out, at, tag, value.len() as u8);
+    let start = objects::write_length(out, at, tag, value.len() as u8);
     octets::put(out, start, value);
     start + value.len()
 }
@@ -202,7 +188,7 @@ fn write_front(out: &mut [u8], order: Record, kind: u8, size: usize) -> usize
     requires { ⌜ (12 ≤ length (now out)) × (size ≤ 244) ⌝ }
     ensures { λ r. ⌜ Wrote (frontBytes order kind size) 0 r (now (out .entry)) (now (out .exit)) ⌝ }
 {
-    let start = write_length(out, 0, 0xD0, (9 + size) as u8);
+    let start = objects::write_length(out, 0, 0xD0, (9 + size) as u8);
     let objects = [
         0x81u8,
         0x03,

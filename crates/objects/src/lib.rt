@@ -1,9 +1,12 @@
-// Objects at places of a byte slice: one object, the walk to the first fault or the end, and finding an object.
+// Objects at places of a byte slice: one object, the walk to the first fault or the end, finding an object, and writing a tag and a length.
+use octets;
 use rules::Ending;
 ghost use mathlib.Core.Path.{_≡_};
+ghost use mathlib.Core.List.{_∷_};
 ghost use Prim.Native.Nat.{_+_, _≤_};
 ghost use lib.ListN.{length};
-ghost use Rattle.rules.specs.Frames.{walk};
+ghost use Rattle.octets.specs.Parts.{pasted};
+ghost use Rattle.rules.specs.Frames.{lengthBytes, walk};
 ghost use Rattle.objects.specs.Places.{Measures, Meets, Finds};
 
 // A length at a place: how many bytes it says, and where they start.
@@ -58,6 +61,22 @@ pub fn length_at(s: &[u8], at: usize) -> Sized
         return Sized::Not;
     }
     Sized::By(c as usize, next + 1)
+}
+
+// Writes the tag and the length of an object, in the shortest form, and tells the place behind them.
+pub fn write_length(out: &mut [u8], at: usize, tag: u8, len: u8) -> usize
+    requires { ⌜ at + 3 ≤ length (now out) ⌝ }
+    ensures { λ r. ⌜ now (out .exit) ≡ pasted (now (out .entry)) at (tag ∷ lengthBytes len) ⌝ }
+    ensures { λ r. ⌜ r ≡ at + length (tag ∷ lengthBytes len) ⌝ }
+{
+    if len < 0x80 {
+        let short = [tag, len];
+        octets::put(out, at, &short);
+        return at + 2;
+    }
+    let long = [tag, 0x81, len];
+    octets::put(out, at, &long);
+    at + 3
 }
 
 impl Cursor {

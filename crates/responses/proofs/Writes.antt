@@ -15,11 +15,10 @@ use Rattle.rules.specs.Frames.{lengthBytes, objectBytes, written}
 use Rattle.rules.specs.Reading.{Bearer}
 use Rattle.rules.specs.Own.{Further, error, problem, done, opened, received, sent}
 use Rattle.rules.specs.Written.{unflagged, detailsBytes, bearerBytes, pairBytes, statusBytes, statusObject, furtherObjects, resultBytes, resultObjects, responseObjects, responseBytes}
-use Rattle.rules.proofs.Laws.{stop, skip}
 use Rattle.rules.proofs.Sizes.{length-bytes}
-use borrow.Author.Tests.{lt-ltb, le-ltb}
 use Rattle.octets.specs.Parts.{part, pasted}
 use Rattle.octets.proofs.Pastes.{paste-after, length-pasted}
+use Rattle.objects.proofs.Writing.{short-length}
 use Rattle.session.specs.Calls.{overlaid}
 use Rattle.session.proofs.Answers.{front-over}
 use Rattle.responses.specs.Stands.{response, Stands}
@@ -90,22 +89,6 @@ sent-stands d x room n before out after h w e =
     let z = h .counted ∙ head-size d x in
     subst (λ (t : List ℕ). Stands t (n + 3) before after) (sym (behind-head d x (sent room)))
     (more (response d (error x)) (0x37 ∷ 0x01 ∷ room ∷ []) n (n + 3) before out after h refl (omega arith) e)
-
--- the two forms of a length
-pub short-length : (n : ℕ) → n < 128 → lengthBytes n ≡ n ∷ []
-unfolding lengthBytes
-short-length n h = stop _ _ _ (lt-ltb n 128 h)
-
-pub long-length : (n : ℕ) → 128 ≤ n → lengthBytes n ≡ 0x81 ∷ n ∷ []
-unfolding lengthBytes
-long-length n h = skip _ _ _ (le-ltb n 128 h)
-
--- a tag and a length, put at a place
-pub form-put :
-    (out after : List ℕ) (at tag n k : ℕ) (l : List ℕ) → lengthBytes n ≡ l → after ≡ pasted out at (tag ∷ l) → k ≡ at + length (tag ∷ l) →
-    (after ≡ pasted out at (tag ∷ lengthBytes n)) × (k ≡ at + length (tag ∷ lengthBytes n))
-form-put out after at tag n k l e p c =
-    (p ∙ ap (λ (x : List ℕ). pasted out at (tag ∷ x)) (sym e), c ∙ ap (λ (x : List ℕ). at + length (tag ∷ x)) (sym e))
 
 -- three pieces behind a head: a up to m, then s of k bytes, then z
 module _ (d : Details) (x n m k : ℕ) (a s z before out after : List ℕ) (h : Stands (response d (error x)) n before out) (y : length s ≡ k)

@@ -1,4 +1,5 @@
 // The responses, written straight into the buffer that the host lends.
+use objects;
 use octets;
 use rules::ChannelNumber;
 use rules::Details;
@@ -6,11 +7,11 @@ use rules::Link;
 use session::Channel;
 use session::link_of;
 ghost use mathlib.Core.Path.{_≡_};
-ghost use mathlib.Core.List.{List, _∷_};
+ghost use mathlib.Core.List.{List};
 ghost use Prim.Native.Nat.{ℕ, _+_, _-_, _≤_, _<_};
 ghost use lib.ListN.{length};
 ghost use Rattle.octets.specs.Parts.{part, pasted};
-ghost use Rattle.rules.specs.Frames.{lengthBytes, objectBytes};
+ghost use Rattle.rules.specs.Frames.{objectBytes};
 ghost use Rattle.rules.specs.Reading.{Bearer};
 ghost use Rattle.rules.specs.Own.{error, problem, done, opened, received, sent, statuses, statusesFrom};
 ghost use Rattle.rules.specs.Written.{bearerBytes, statusBytes, statusObject};
@@ -75,22 +76,6 @@ pub fn tell_sent(out: &mut [u8], d: Details, result: u8, room: u8) -> usize
     at + 3
 }
 
-// Writes the tag and the length of an object, in the shortest form, and tells the place behind them.
-fn tell_length(out: &mut [u8], at: usize, tag: u8, len: u8) -> usize
-    requires { ⌜ at + 3 ≤ length (now out) ⌝ }
-    ensures { λ r. ⌜ now (out .exit) ≡ pasted (now (out .entry)) at (tag ∷ lengthBytes len) ⌝ }
-    ensures { λ r. ⌜ r ≡ at + length (tag ∷ lengthBytes len) ⌝ }
-{
-    if len < 0x80 {
-        let short = [tag, len];
-        octets::put(out, at, &short);
-        return at + 2;
-    }
-    let long = [tag, 0x81, len];
-    octets::put(out, at, &long);
-    at + 3
-}
-
 // Writes the answer to RECEIVE DATA: a result, bytes straight from the pool, and the count of those left.
 pub fn tell_received(
     out: &mut [u8],
@@ -105,7 +90,7 @@ pub fn tell_received(
     ensures { λ r. ⌜ Stands (response d (done result (received (part from (from + count) (now (pool .entry))) left))) r (now (out .entry)) (now (out .exit)) ⌝ }
 {
     let head = tell_result(out, d, result);
-    let at = tell_length(out, head, 0x36, count);
+    let at = objects::write_length(out, head, 0x36, count);
     let end = from + count as usize;
     octets::put_part(out, at, pool, from, end);
     let behind = at + count as usize;

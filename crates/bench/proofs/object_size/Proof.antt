@@ -3,7 +3,7 @@
 use mathlib.Core.Path.{ap}
 use native.Mathlib.Omega.{arith}
 use lib.ListN.{length}
-use Rattle.bench.proofs.Writes.{short-length, long-length}
+use Rattle.objects.proofs.Writing.{short-length, long-length}
 use borrow.Author.Needs.{needs}
 use Rattle.bench.proofs.object_size.Statement.{statement}
 use Rattle.bench.proofs.object_size.Tie as tie

@@ -5,7 +5,7 @@ use mathlib.Core.Path.{refl}
 use native.Mathlib.Omega.{arith}
 use Rattle.rules.proofs.Sizes.{length-bytes}
 use Rattle.bench.specs.Wrote.{frontBytes}
-use Rattle.bench.proofs.Writes.{still, then-put}
+use Rattle.bench.proofs.Writes.{still, then-put, length-wrote}
 use borrow.Author.Needs.{needs}
 use Rattle.bench.proofs.write_front.Statement.{statement}
 use Rattle.bench.proofs.write_front.Tie as tie
@@ -23,17 +23,29 @@ slice-aggregate-put : tie.Need-slice-aggregate-put
 slice-aggregate-put c = search needs
 
 put-requires : tie.Need-put-requires
-put-requires c κs = omega (arith, c .before .before .before .before .before .before .before .pre .0, c .before .before .before .before .write-length .ensures .behind, length-bytes (9 + c .before .before .before .before .before .before .before .args .size), still _ _ _ _ _ (c .before .before .before .before .write-length .ensures))
+put-requires c κs =
+    let s = c .before .before .before .before .before .before .before in
+    let n = 9 + s .args .size in
+    let w = length-wrote 0xD0 n 0 _ _ _ (omega (arith, s .pre .0)) (c .before .before .before .before .write-length .ensures) in
+    omega (arith, s .pre .0, w .behind, length-bytes n, still _ _ _ _ _ w)
 
 add-result : tie.Need-add-result
-add-result c = search needs
+add-result c =
+    let s = c .before .before .before .before .before .before .before .before .before .before in
+    let n = 9 + s .args .size in
+    let e = c .before .before .before .before .before .before .before .write-length .ensures in
+    omega (arith, s .pre .0, e .1, length-bytes n)
 
 same-length : tie.Need-same-length
 same-length c = search needs
 
 returns : tie.Need-returns
 unfolding frontBytes
-returns c = then-put _ _ _ _ _ _ _ _ (c .before .before .before .before .before .before .before .write-length .ensures) (omega (arith, c .before .before .before .before .before .before .before .before .before .before .pre .0, length-bytes (9 + c .before .before .before .before .before .before .before .before .before .before .args .size))) refl (c .before .before .put .ensures)
+returns c =
+    let s = c .before .before .before .before .before .before .before .before .before .before in
+    let n = 9 + s .args .size in
+    let w = length-wrote 0xD0 n 0 _ _ _ (omega (arith, s .pre .0)) (c .before .before .before .before .before .before .before .write-length .ensures) in
+    then-put _ _ _ _ _ _ _ _ w (omega (arith, s .pre .0, length-bytes n)) refl (c .before .before .put .ensures)
 
 pub write-front-spec : {M : Type 1} → statement M
 write-front-spec =

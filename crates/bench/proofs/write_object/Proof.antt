@@ -5,7 +5,7 @@ use native.Mathlib.Omega.{arith}
 use lib.ListN.{length}
 use denote.Ref.{now}
 use Rattle.rules.proofs.Sizes.{length-bytes}
-use Rattle.bench.proofs.Writes.{still, then-put}
+use Rattle.bench.proofs.Writes.{still, then-put, length-wrote}
 use borrow.Author.Needs.{needs}
 use Rattle.bench.proofs.write_object.Statement.{statement}
 use Rattle.bench.proofs.write_object.Tie as tie
@@ -17,16 +17,28 @@ write-length-requires : tie.Need-write-length-requires
 write-length-requires c κs = search needs
 
 put-requires : tie.Need-put-requires
-put-requires c κs = omega (arith, c .before .before .before .before .before .before .before .pre .0, c .before .before .before .write-length .ensures .behind, length-bytes (length (now (c .before .before .before .before .before .before .before .args .value))), still _ _ _ _ _ (c .before .before .before .write-length .ensures))
+put-requires c κs =
+    let s = c .before .before .before .before .before .before .before in
+    let n = length (now (s .args .value)) in
+    let w = length-wrote (s .args .tag) n _ _ _ _ (omega (arith, s .pre .0)) (c .before .before .before .write-length .ensures) in
+    omega (arith, s .pre .0, w .behind, length-bytes n, still _ _ _ _ _ w)
 
 add-result : tie.Need-add-result
-add-result c = search needs
+add-result c =
+    let s = c .before .before .before .before .before .before .before .before .before .before in
+    let n = length (now (s .args .value)) in
+    let e = c .before .before .before .before .before .before .write-length .ensures in
+    omega (arith, s .pre .0, e .1, length-bytes n)
 
 same-length : tie.Need-same-length
 same-length c = search needs
 
 returns : tie.Need-returns
-returns c = then-put _ (now (c .before .before .before .before .before .before .before .before .before .before .args .value)) _ _ _ _ _ _ (c .before .before .before .before .before .before .write-length .ensures) (omega (arith, c .before .before .before .before .before .before .before .before .before .before .pre .0, length-bytes (length (now (c .before .before .before .before .before .before .before .before .before .before .args .value))))) refl (c .before .before .put .ensures)
+returns c =
+    let s = c .before .before .before .before .before .before .before .before .before .before in
+    let n = length (now (s .args .value)) in
+    let w = length-wrote (s .args .tag) n _ _ _ _ (omega (arith, s .pre .0)) (c .before .before .before .before .before .before .write-length .ensures) in
+    then-put _ (now (s .args .value)) _ _ _ _ _ _ w (omega (arith, s .pre .0, length-bytes n)) refl (c .before .before .put .ensures)
 
 pub write-object-spec : {M : Type 1} → statement M
 write-object-spec =

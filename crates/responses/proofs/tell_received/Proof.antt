@@ -14,14 +14,14 @@ use Rattle.responses.proofs.tell_received.Reads as reads
 use Rattle.responses.proofs.tell_received.Lts as lts
 use Rattle.octets.proofs.put.Reads as put-reads
 use Rattle.octets.proofs.put_part.Reads as put-part-reads
-use Rattle.responses.proofs.tell_length.Reads as tell-length-reads
+use Rattle.objects.proofs.write_length.Reads as write-length-reads
 use Rattle.responses.proofs.tell_result.Reads as tell-result-reads
 
 tell-result-requires : tie.Need-tell-result-requires
 tell-result-requires c κs = search needs
 
-tell-length-requires : tie.Need-tell-length-requires
-tell-length-requires c κs =
+write-length-requires : tie.Need-write-length-requires
+write-length-requires c κs =
     let s = c .before .before .before .before .before .before .before in
     let h = c .before .before .before .tell-result .ensures in
     after-head _ _ _ _ _ 3 h (omega (arith, s .pre .0))
@@ -33,7 +33,7 @@ put-part-requires : tie.Need-put-part-requires
 put-part-requires c κs =
     let s = c .before .before .before .before .before .before .before .before .before .before .before in
     let h = c .before .before .before .before .before .before .before .tell-result .ensures in
-    let f = c .before .before .before .tell-length .ensures in
+    let f = c .before .before .before .write-length .ensures in
     let y = whole-part (now (s .args .pool)) (s .args .from) (s .args .count) (s .pre .1) in
     let g = second-fits (s .args .d) (s .args .result) _ _ (s .args .count) _ (part (s .args .from) (s .args .from + s .args .count) (now (s .args .pool))) (0x37 ∷ 0x01 ∷ s .args .left ∷ []) (now (s .args .out)) _ _ h y (received-size (s .args .count) _ (s .pre .0)) (f .1) (f .0) in
     (omega arith, s .pre .1, omega (arith, g))
@@ -42,7 +42,7 @@ add-behind : tie.Need-add-behind
 add-behind c =
     let s = c .before .before .before .before .before .before .before .before .before .before .before .before .before .before in
     let h = c .before .before .before .before .before .before .before .before .before .before .tell-result .ensures in
-    let f = c .before .before .before .before .before .before .tell-length .ensures in
+    let f = c .before .before .before .before .before .before .write-length .ensures in
     let y = whole-part (now (s .args .pool)) (s .args .from) (s .args .count) (s .pre .1) in
     omega (arith, first-end (s .args .d) (s .args .result) _ _ (s .args .count) _ (part (s .args .from) (s .args .from + s .args .count) (now (s .args .pool))) (0x37 ∷ 0x01 ∷ s .args .left ∷ []) (now (s .args .out)) _ _ h y (received-size (s .args .count) _ (s .pre .0)) (f .1) (f .0), length-bytes (s .args .count), (s .pre .0))
 
@@ -53,7 +53,7 @@ put-requires : tie.Need-put-requires
 put-requires c κs =
     let s = c .before .before .before .before .before .before .before .before .before .before .before .before .before .before .before .before in
     let h = c .before .before .before .before .before .before .before .before .before .before .before .before .tell-result .ensures in
-    let f = c .before .before .before .before .before .before .before .before .tell-length .ensures in
+    let f = c .before .before .before .before .before .before .before .before .write-length .ensures in
     let y = whole-part (now (s .args .pool)) (s .args .from) (s .args .count) (s .pre .1) in
     third-fits (s .args .d) (s .args .result) _ _ (s .args .count) _ (part (s .args .from) (s .args .from + s .args .count) (now (s .args .pool))) (0x37 ∷ 0x01 ∷ s .args .left ∷ []) (now (s .args .out)) _ _ h y (received-size (s .args .count) _ (s .pre .0)) (f .1) (f .0) _ (c .before .before .before .before .put-part .ensures)
 
@@ -61,7 +61,7 @@ add-result : tie.Need-add-result
 add-result c =
     let s = c .before .before .before .before .before .before .before .before .before .before .before .before .before .before .before .before .before .before .before in
     let h = c .before .before .before .before .before .before .before .before .before .before .before .before .before .before .before .tell-result .ensures in
-    let f = c .before .before .before .before .before .before .before .before .before .before .before .tell-length .ensures in
+    let f = c .before .before .before .before .before .before .before .before .before .before .before .write-length .ensures in
     let y = whole-part (now (s .args .pool)) (s .args .from) (s .args .count) (s .pre .1) in
     omega (arith, first-end (s .args .d) (s .args .result) _ _ (s .args .count) _ (part (s .args .from) (s .args .from + s .args .count) (now (s .args .pool))) (0x37 ∷ 0x01 ∷ s .args .left ∷ []) (now (s .args .out)) _ _ h y (received-size (s .args .count) _ (s .pre .0)) (f .1) (f .0), length-bytes (s .args .count), (s .pre .0))
 
@@ -72,7 +72,7 @@ returns : tie.Need-returns
 returns c =
     let s = c .before .before .before .before .before .before .before .before .before .before .before .before .before .before .before .before .before .before .before in
     let h = c .before .before .before .before .before .before .before .before .before .before .before .before .before .before .before .tell-result .ensures in
-    let f = c .before .before .before .before .before .before .before .before .before .before .before .tell-length .ensures in
+    let f = c .before .before .before .before .before .before .before .before .before .before .before .write-length .ensures in
     let y = whole-part (now (s .args .pool)) (s .args .from) (s .args .count) (s .pre .1) in
     three-stand (s .args .d) (s .args .result) _ _ (s .args .count) _ (part (s .args .from) (s .args .from + s .args .count) (now (s .args .pool))) (0x37 ∷ 0x01 ∷ s .args .left ∷ []) (now (s .args .out)) _ _ h y (received-size (s .args .count) _ (s .pre .0)) (f .1) (f .0) _ (c .before .before .before .before .before .before .before .put-part .ensures) _ _ (c .before .before .put .ensures) (received-pieces (s .args .d) (s .args .result) (s .args .left) (s .args .count) _ y)
 
@@ -81,7 +81,7 @@ tell-received-spec =
     tie.close
     (tie.spec
     tell-result-requires
-    tell-length-requires
+    write-length-requires
     add-end
     put-part-requires
     add-behind

@@ -1,12 +1,12 @@
--- `responses::tell_length` meets its contract: the form is the shortest.
+-- `objects::write_length` meets its contract: the form is the shortest.
 -- Assumes nothing.
 use mathlib.Core.Path.{refl}
-use Rattle.responses.proofs.Writes.{short-length, long-length, form-put}
+use Rattle.objects.proofs.Writing.{short-length, long-length, form-put}
 use borrow.Author.Needs.{needs}
-use Rattle.responses.proofs.tell_length.Statement.{statement}
-use Rattle.responses.proofs.tell_length.Tie as tie
-use Rattle.responses.proofs.tell_length.Reads as reads
-use Rattle.responses.proofs.tell_length.Lts as lts
+use Rattle.objects.proofs.write_length.Statement.{statement}
+use Rattle.objects.proofs.write_length.Tie as tie
+use Rattle.objects.proofs.write_length.Reads as reads
+use Rattle.objects.proofs.write_length.Lts as lts
 use Rattle.octets.proofs.put.Reads as put-reads
 
 slice-aggregate-put : tie.Need-slice-aggregate-put
@@ -43,8 +43,8 @@ returns-2 c =
     let s = c .before .before .before .before .before .before .before in
     form-put _ _ (s .args .at) (s .args .tag) (s .args .len) _ _ (long-length (s .args .len) (c .before .before .before .before .before .if1 .left)) (c .before .before .put2 .ensures) refl
 
-pub tell-length-spec : {M : Type 1} → statement M
-tell-length-spec =
+pub write-length-spec : {M : Type 1} → statement M
+write-length-spec =
     tie.close
     (tie.spec
     slice-aggregate-put
