@@ -1,11 +1,12 @@
 // Lines for the bench: it reads responses and records from standard input, one a line, and prints what a response says, or the command of a record.
-use bench;
-use bench::Asking;
-use bench::Further;
-use bench::Heard;
-use bench::Level;
-use bench::Record;
-use bench::Verdict;
+use bench_reader;
+use bench_reader::Further;
+use bench_reader::Heard;
+use bench_reader::Verdict;
+use bench_writer;
+use bench_writer::Asking;
+use bench_writer::Level;
+use bench_writer::Record;
 use io;
 use libc;
 use libc::STDIN_FILENO;
@@ -22,7 +23,7 @@ use text::read_frame;
 ghost use mathlib.Core.Path.{_≡_};
 ghost use Prim.Native.Nat.{_+_, _-_, _*_, _≤_, _<_};
 ghost use lib.ListN.{length};
-ghost use Rattle.bench.specs.Heard.{FurtherAt, VerdictAt};
+ghost use Rattle.bench_reader.specs.Heard.{FurtherAt, VerdictAt};
 
 // How far a piece of the input was read: how many bytes of a line are kept, the place behind what was read, and where the output goes on.
 struct Progress {
@@ -175,7 +176,7 @@ fn print_heard(s: &[u8], out: &mut [u8], at: usize) -> usize
     requires { ⌜ at + 2 * length (now s) + 30 ≤ length (now out) ⌝ }
     ensures { λ r. ⌜ r ≤ at + 2 * length (now (s .entry)) + 30 ⌝ }
 {
-    match bench::read(s) {
+    match bench_reader::read(s) {
         Heard::Response(d, verdict) => {
             let details = [d.number, d.kind, d.qualifier];
             let behind = print_value(&details, out, at);
@@ -210,7 +211,7 @@ fn print_command(frame: &[u8], asking: Asking, bytes: &[u8], out: &mut [u8], at:
         asking,
     };
     let mut command = [0u8; 256];
-    let ended = bench::write(order, bytes, &mut command);
+    let ended = bench_writer::write(order, bytes, &mut command);
     print(out, at, ended, &command)
 }
 

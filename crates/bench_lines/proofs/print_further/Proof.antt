@@ -3,8 +3,8 @@
 use mathlib.Core.Path.{subst}
 use native.Mathlib.Omega.{arith}
 use denote.Ref.{now}
-use Rattle.bench.specs.declared.Further.{Further}
-use Rattle.bench.specs.Heard.{FurtherAt}
+use Rattle.bench_reader.specs.declared.Further.{Further}
+use Rattle.bench_reader.specs.Heard.{FurtherAt}
 use borrow.Author.Needs.{needs}
 use Rattle.bench_lines.proofs.print_further.Statement.{statement}
 use Rattle.bench_lines.proofs.print_further.Tie as tie

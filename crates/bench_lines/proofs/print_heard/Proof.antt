@@ -3,8 +3,8 @@
 use mathlib.Core.Path.{subst}
 use native.Mathlib.Omega.{arith}
 use denote.Ref.{now}
-use Rattle.bench.specs.declared.Heard.{Heard}
-use Rattle.bench.specs.Heard.{PlacesAt}
+use Rattle.bench_reader.specs.declared.Heard.{Heard}
+use Rattle.bench_reader.specs.Heard.{PlacesAt}
 use borrow.Author.Needs.{needs}
 use Rattle.bench_lines.proofs.print_heard.Statement.{statement}
 use Rattle.bench_lines.proofs.print_heard.Tie as tie

@@ -3,8 +3,8 @@
 use mathlib.Core.Path.{subst}
 use native.Mathlib.Omega.{arith}
 use denote.Ref.{now}
-use Rattle.bench.specs.declared.Verdict.{Verdict}
-use Rattle.bench.specs.Heard.{VerdictAt}
+use Rattle.bench_reader.specs.declared.Verdict.{Verdict}
+use Rattle.bench_reader.specs.Heard.{VerdictAt}
 use borrow.Author.Needs.{needs}
 use Rattle.bench_lines.proofs.print_verdict.Statement.{statement}
 use Rattle.bench_lines.proofs.print_verdict.Tie as tie

@@ -5,9 +5,6 @@ use Rattle.objects.proofs.Writing.{short-length, long-length, form-put}
 use borrow.Author.Needs.{needs}
 use Rattle.objects.proofs.write_length.Statement.{statement}
 use Rattle.objects.proofs.write_length.Tie as tie
-use Rattle.objects.proofs.write_length.Reads as reads
-use Rattle.objects.proofs.write_length.Lts as lts
-use Rattle.octets.proofs.put.Reads as put-reads
 
 slice-aggregate-put : tie.Need-slice-aggregate-put
 slice-aggregate-put c = search needs

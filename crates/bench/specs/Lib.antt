@@ -1,4 +1,0 @@
-pub mod Records
-pub mod Wrote
-pub mod Heard
-pub mod Forms

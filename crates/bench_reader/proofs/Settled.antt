@@ -1,0 +1,76 @@
+-- The contract of the reader settles its outcome.
+-- Assumes nothing.
+use Prim.Native.Nat.{ℕ, zero, suc, _+_, _-_}
+use mathlib.Core.Path.{_≡_, refl, sym, ap, _∙_}
+use mathlib.Core.List.{List, _∷_}
+use native.Mathlib.Omega.{arith}
+use lib.ListN.{length, drop}
+use Rattle.rules.specs.Frames.{lengthBytes}
+use Rattle.rules.specs.Own as own
+use Rattle.rules.specs.Own.{Result, error, problem, done, opened, received, sent, statuses, nothing}
+use Rattle.rules.specs.Bench.{Told, told, untold}
+use Rattle.octets.specs.Parts.{part}
+use Rattle.octets.proofs.Copies.{length-part}
+use Rattle.outcomes.specs.Determined.{Determined}
+use Rattle.bench_reader.specs.declared.Further.{Further}
+use Rattle.bench_reader.specs.declared.Further.the-variants.{Plain, Opened, Received, Sent, Statuses}
+use Rattle.bench_reader.specs.declared.Verdict.{Verdict}
+use Rattle.bench_reader.specs.declared.Verdict.the-variants.{Error, Problem, Done}
+use Rattle.bench_reader.specs.declared.Heard.{Heard}
+use Rattle.bench_reader.specs.declared.Heard.the-variants.{Response, Silence}
+use Rattle.bench_reader.specs.Heard.{statusesAt, furtherOf, resultOf, heardOf, FurtherAt, VerdictAt, PlacesAt}
+use Rattle.bench_reader.proofs.read.Kinds as read-kinds
+use Rattle.bench_reader.proofs.read.Reads as read-reads
+
+-- so many statuses
+count-back : (k : ℕ) (t : List ℕ) → length (statusesAt k t) ≡ k
+unfolding statusesAt
+count-back zero t = refl
+count-back (suc k) t = ap suc (count-back k (drop 4 t))
+
+-- what the code tells, read back from what was told and the number of bytes: four stand behind a bearer
+further-in : own.Further → ℕ → Further
+further-in nothing n = Plain
+further-in (opened st b g) n = Opened (st .number) (st .link) 18 (n - 22) g
+further-in (received v left) n = Received (12 + length (0x36 ∷ lengthBytes (length v))) (length v) left
+further-in (sent room) n = Sent room
+further-in (statuses ss) n = Statuses (length ss)
+
+further-back : (f : Further) (s : List ℕ) → FurtherAt f s → further-in (furtherOf f s) (length s) ≡ f
+unfolding further-in furtherOf
+further-back Plain s h = refl
+further-back (Opened n link start len grant) s h =
+    let e : length s - 22 ≡ len = omega (arith, h .0, h .1) in
+    λ i. Opened n link (sym (h .0) i) (e i) grant
+further-back (Received start len left) s h =
+    let size = length-part start (start + len) s (omega (arith, h .1)) in
+    let e : length (part start (start + len) s) ≡ len = omega (arith, size) in
+    ap (λ (k : ℕ). Received (12 + length (0x36 ∷ lengthBytes k)) k left) e ∙ ap (λ (k : ℕ). Received k len left) (sym (h .0))
+further-back (Sent room) s h = refl
+further-back (Statuses count) s h = ap Statuses (count-back count (drop 12 s))
+
+verdict-in : Result → ℕ → Verdict
+verdict-in (error e) n = Error e
+verdict-in (problem cause) n = Problem cause
+verdict-in (done r f) n = Done r (further-in f n)
+
+verdict-back : (v : Verdict) (s : List ℕ) → VerdictAt v s → verdict-in (resultOf v s) (length s) ≡ v
+unfolding verdict-in resultOf
+verdict-back (Error e) s h = refl
+verdict-back (Problem cause) s h = refl
+verdict-back (Done r f) s h = ap (Done r) (further-back f s h)
+
+heard-in : Told → ℕ → Heard
+heard-in (told r) n = Response (r .details) (verdict-in (r .result) n)
+heard-in (untold r) n = Silence
+
+heard-back : (x : Heard) (s : List ℕ) → PlacesAt x s → heard-in (heardOf x s) (length s) ≡ x
+unfolding heard-in heardOf
+heard-back (Response d v) s h = ap (Response d) (verdict-back v s h)
+heard-back Silence s h = refl
+
+heard-alike : (x y : Heard) (s : List ℕ) → heardOf x s ≡ heardOf y s → PlacesAt x s → PlacesAt y s → x ≡ y
+heard-alike x y s e h k = sym (heard-back x s h) ∙ ap (λ (t : Told). heard-in t (length s)) e ∙ heard-back y s k
+
+pub read-settled : Determined 1 read-kinds.ps read-kinds.r read-reads.Pre read-reads.Post
+read-settled κs a _ x y v w p q = (heard-alike x y _ (sym (p .0) ∙ q .0) (p .1) (q .1), refl)
