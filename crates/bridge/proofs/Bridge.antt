@@ -16,7 +16,7 @@ use Rattle.rules.proofs.Histories.{follows}
 use Rattle.rules.proofs.Soundness.{start-sound, step-sound}
 use Rattle.session.specs.declared.Session.{Session}
 use Rattle.session.specs.declared.Ended.{Ended}
-use Rattle.session.specs.declared.Ledger.{Ledger}
+use Rattle.session.specs.Book.{Ledger}
 use Rattle.session.specs.Picture.{Good, GoodIn, Shows, shown, view}
 use Rattle.session.specs.Calls.{Answers, endedOf, writtenBy, overlaid}
 use Rattle.session.proofs.Views.{shows-back}

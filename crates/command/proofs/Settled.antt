@@ -19,7 +19,7 @@ use Rattle.command.proofs.read_objects.Reads as read-objects-reads
 pub plan-of-settled : Determined 0 plan-of-kinds.ps plan-of-kinds.r plan-of-reads.Pre plan-of-reads.Post
 plan-of-settled κs a _ x y v w p q = (planned-alike x y _ p q, refl)
 
-pub allowed-settled : Determined 0 allowed-kinds.ps allowed-kinds.r allowed-reads.Pre allowed-reads.Post
+pub allowed-settled : Determined 1 allowed-kinds.ps allowed-kinds.r allowed-reads.Pre allowed-reads.Post
 allowed-settled κs a _ x y v w p q = (p ∙ sym q, refl)
 
 pub times-settled : Determined 0 times-kinds.ps times-kinds.r times-reads.Pre times-reads.Post
@@ -31,5 +31,5 @@ fits-settled κs a _ x y v w p q = (p ∙ sym q, refl)
 pub frame-start-settled : Determined 1 frame-start-kinds.ps frame-start-kinds.r frame-start-reads.Pre frame-start-reads.Post
 frame-start-settled κs a _ x y v w p q = (framed-alike x y _ p q, refl)
 
-pub read-objects-settled : Determined 1 read-objects-kinds.ps read-objects-kinds.r read-objects-reads.Pre read-objects-reads.Post
+pub read-objects-settled : Determined 2 read-objects-kinds.ps read-objects-kinds.r read-objects-reads.Pre read-objects-reads.Post
 read-objects-settled κs a _ x y v w p q = (read-alike x y _ _ p q, refl)

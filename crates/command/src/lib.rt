@@ -100,7 +100,7 @@ pub fn plan_of(kind: u8) -> Planned
 }
 
 // The weight of a bit in its byte.
-fn weight(bit: u8) -> u8
+fn weight(bit: u8) -> u16
     requires { ⌜ (1 ≤ bit) × (bit ≤ 8) ⌝ }
     ensures { λ r. ⌜ r ≡ 2 ^ (bit - 1) ⌝ }
 {
@@ -117,9 +117,10 @@ fn weight(bit: u8) -> u8
 }
 
 // Whether the profile has the bit of a place set.
-pub fn allowed(profile: [u8; 13], place: Place) -> bool
+pub fn allowed(profile: &[u16], place: Place) -> bool
     requires { ⌜ ((1 ≤ place .byte) × (place .byte ≤ 13)) × ((1 ≤ place .bit) × (place .bit ≤ 8)) ⌝ }
-    ensures { λ r. ⌜ r ≡ bit profile (place .byte) (place .bit) ⌝ }
+    requires { ⌜ 13 ≤ length (now profile) ⌝ }
+    ensures { λ r. ⌜ r ≡ bit (now (profile .entry)) (place .byte) (place .bit) ⌝ }
 {
     let at = place.byte - 1;
     let b = profile[at];
@@ -506,9 +507,9 @@ fn read_unknown(s: &[u8], d: Details) -> Read
 }
 
 // Steps 4 to 8 of a command whose type has this plan.
-fn read_planned(profile: [u8; 13], s: &[u8], d: Details, plan: Plan, second: Cursor) -> Read
-    requires { ⌜ Detailed (now s) d × PlanOf plan (d .kind) × Headed (now s) (second .at) ⌝ }
-    ensures { λ r. ⌜ Reads r profile (now (s .entry)) ⌝ }
+fn read_planned(profile: &[u16], s: &[u8], d: Details, plan: Plan, second: Cursor) -> Read
+    requires { ⌜ Detailed (now s) d × PlanOf plan (d .kind) × Headed (now s) (second .at) × (13 ≤ length (now profile)) ⌝ }
+    ensures { λ r. ⌜ Reads r (now (profile .entry)) (now (s .entry)) ⌝ }
 {
     let handler = plan.handler;
     let v = go_through(s, handler, second);
@@ -523,9 +524,9 @@ fn read_planned(profile: [u8; 13], s: &[u8], d: Details, plan: Plan, second: Cur
 }
 
 // Steps 4 to 8 once the details are known, and where the second object begins.
-fn read_typed(profile: [u8; 13], s: &[u8], d: Details, second: Cursor) -> Read
-    requires { ⌜ Detailed (now s) d × Headed (now s) (second .at) ⌝ }
-    ensures { λ r. ⌜ Reads r profile (now (s .entry)) ⌝ }
+fn read_typed(profile: &[u16], s: &[u8], d: Details, second: Cursor) -> Read
+    requires { ⌜ Detailed (now s) d × Headed (now s) (second .at) × (13 ≤ length (now profile)) ⌝ }
+    ensures { λ r. ⌜ Reads r (now (profile .entry)) (now (s .entry)) ⌝ }
 {
     let kind = d.kind;
     match plan_of(kind) {
@@ -535,9 +536,9 @@ fn read_typed(profile: [u8; 13], s: &[u8], d: Details, second: Cursor) -> Read
 }
 
 // Reads the bytes of a command's objects: steps 3 to 8.
-pub fn read_objects(profile: [u8; 13], s: &[u8]) -> Read
-    requires { ⌜ length (now s) ≤ 256 ⌝ }
-    ensures { λ r. ⌜ Reads r profile (now (s .entry)) ⌝ }
+pub fn read_objects(profile: &[u16], s: &[u8]) -> Read
+    requires { ⌜ (length (now s) ≤ 256) × (13 ≤ length (now profile)) ⌝ }
+    ensures { λ r. ⌜ Reads r (now (profile .entry)) (now (s .entry)) ⌝ }
 {
     let none = Details {
         number: 0,

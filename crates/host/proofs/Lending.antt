@@ -29,7 +29,7 @@ use denote.Struct.Laws as LL
 use borrow.Rule.LendAt.{KeptOf, Fills}
 use borrow.Table.OneValue.{part-out-at, part-in-at}
 use borrow.Struct.Lend.{kept-record, record-fill, record-apart}
-use Rattle.session.specs.declared.Ledger.{Ledger}
+use Rattle.session.specs.Book.{Ledger}
 use Rattle.session.specs.declared.Session.{Session}
 use Rattle.session.proofs.Session as T
 use Rattle.session.proofs.Session.Laws as T′

@@ -15,7 +15,7 @@ use Rattle.rules.proofs.Cases.{taking-cases}
 use Rattle.rules.proofs.Sizes.{written-within}
 use Rattle.rules.proofs.Soundness.{chan-sound}
 use Rattle.session.specs.declared.Ended.{Ended}
-use Rattle.session.specs.declared.Ledger.{Ledger}
+use Rattle.session.specs.Book.{Ledger}
 use Rattle.session.specs.Calls.{endedOf, Answers}
 use Rattle.host.specs.Packed.{packed, Fits, Packs}
 

@@ -6,7 +6,7 @@ use Rattle.rules.specs.Words.{numberOf}
 use Rattle.rules.specs.Command.{Answer}
 use Rattle.session.specs.declared.Ended.{Ended}
 use Rattle.session.specs.declared.Ended.the-variants.{Wrote, Refused}
-use Rattle.session.specs.declared.Ledger.{Ledger}
+use Rattle.session.specs.Book.{Ledger}
 use Rattle.session.specs.declared.Session.{Session}
 use Rattle.session.specs.Calls.{endedOf, Answers}
 

@@ -18,7 +18,7 @@ use Rattle.rules.proofs.Laws.{stop, skip}
 use Rattle.rules.proofs.Input.{fed-pieces}
 use Rattle.octets.specs.Parts.{pasted}
 use Rattle.octets.proofs.Pastes.{take-pasted, length-pasted}
-use Rattle.session.specs.declared.Ledger.{Ledger}
+use Rattle.session.specs.Book.{Ledger}
 use Rattle.session.specs.Picture.{Shows, shown}
 use Rattle.text.specs.declared.Gathered.{Gathered}
 use Rattle.text.specs.Gathers.{beforeFeed, fitting, Gathers}

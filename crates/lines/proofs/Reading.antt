@@ -14,7 +14,7 @@ use Rattle.rules.specs.Lines.{printed, frameOf, callIn, perform, lineStep}
 use Rattle.rules.specs.Input.{Fed, lineBytes, begins, goes, lineEnds}
 use Rattle.rules.proofs.Soundness.{start-sound}
 use Rattle.octets.specs.Parts.{pasted, cleared}
-use Rattle.session.specs.declared.Ledger.{Ledger}
+use Rattle.session.specs.Book.{Ledger}
 use Rattle.session.specs.Picture.{Shows, GoodIn, ledgerOf}
 use Rattle.session.proofs.Starts.{empty-pool}
 use Rattle.session.proofs.Views.{shows-good}

@@ -9,7 +9,7 @@ use Rattle.rules.specs.State.{State, Chan}
 use Rattle.rules.specs.Pool.{cells, promisedTo, promised}
 use Rattle.rules.specs.Sound.{Each, SoundChan}
 use Rattle.session.specs.declared.Channel.{Channel}
-use Rattle.session.specs.declared.Ledger.{Ledger}
+use Rattle.session.specs.Book.{Ledger}
 use Rattle.session.specs.Picture.{entry, ledgerOf, shown, Shows, GoodIn}
 use Rattle.session.proofs.Facts.{bounds}
 use Rattle.session.proofs.Views.{shows-back}

@@ -22,7 +22,7 @@ use Rattle.rules.specs.Input.{lineBytes}
 use Rattle.rules.proofs.Laws.{branch, both-right}
 use Rattle.octets.specs.Parts.{part, pasted}
 use Rattle.session.specs.declared.Ended.{Ended}
-use Rattle.session.specs.declared.Ledger.{Ledger}
+use Rattle.session.specs.Book.{Ledger}
 use Rattle.session.specs.Picture.{GoodIn, shown}
 use Rattle.session.specs.Calls.{endedOf, writtenBy, overlaid, Answers}
 use Rattle.text.specs.declared.Spoken.{Spoken}

@@ -25,7 +25,7 @@ use Rattle.rules.proofs.Grants.{Granted, grant-law}
 use Rattle.rules.proofs.Soundness.{opened-place}
 use Rattle.rules.proofs.Sizes.{bearer-short}
 use Rattle.session.specs.declared.Ended.the-variants.{Wrote}
-use Rattle.session.specs.declared.Ledger.{Ledger}
+use Rattle.session.specs.Book.{Ledger}
 use Rattle.session.specs.Picture.{GoodIn, shown, chansIn, baseOf}
 use Rattle.session.specs.Calls.{Answers}
 use Rattle.session.specs.Changed.{Numbered, chanIn, Changed}

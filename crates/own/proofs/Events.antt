@@ -19,7 +19,7 @@ use Rattle.rules.specs.State.{State}
 use Rattle.rules.specs.Own.{Reply, reply, error, done, nothing, plain, listed, listing}
 use Rattle.rules.proofs.Laws.{stop, skip}
 use Rattle.session.specs.declared.Ended.{Ended}
-use Rattle.session.specs.declared.Ledger.{Ledger}
+use Rattle.session.specs.Book.{Ledger}
 use Rattle.session.specs.Picture.{Belongs, Shows, GoodIn, shown}
 use Rattle.session.specs.Calls.{Answers}
 use Rattle.session.specs.Changed.{withEvents}

@@ -20,7 +20,7 @@ use Rattle.rules.proofs.Laws.{stop, skip}
 use Rattle.octets.specs.Parts.{part}
 use Rattle.session.specs.declared.Ended.{Ended}
 use Rattle.session.specs.declared.Ended.the-variants.{Wrote}
-use Rattle.session.specs.declared.Ledger.{Ledger}
+use Rattle.session.specs.Book.{Ledger}
 use Rattle.session.specs.Picture.{Shows, GoodIn, shown, baseOf, space}
 use Rattle.session.specs.Calls.{endedOf, writtenBy, Answers}
 use Rattle.session.specs.Changed.{Numbered, chanIn, entryIn, Changed}

@@ -19,7 +19,7 @@ use Rattle.rules.proofs.Laws.{branch, stop, skip, not-not}
 use Rattle.rules.proofs.Soundness.{chan-sound, stored-sound, readied-sound, same-sound, open-place}
 use Rattle.rules.proofs.Told.{chan-changed}
 use Rattle.session.specs.declared.Ended.the-variants.{Wrote}
-use Rattle.session.specs.declared.Ledger.{Ledger}
+use Rattle.session.specs.Book.{Ledger}
 use Rattle.session.specs.Picture.{Shows, GoodIn, linkOf, shown}
 use Rattle.session.specs.Calls.{Answers}
 use Rattle.session.specs.Changed.{Numbered, chanIn, entryIn, Changed}

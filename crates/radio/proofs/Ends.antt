@@ -27,7 +27,7 @@ use Rattle.rules.proofs.Laws.{branch, stop, skip, not-not, both-left, both-righ
 use Rattle.rules.proofs.Soundness.{step-sound}
 use Rattle.octets.specs.Parts.{part, pasted}
 use Rattle.session.specs.declared.Ended.the-variants.{Wrote, Refused}
-use Rattle.session.specs.declared.Ledger.{Ledger}
+use Rattle.session.specs.Book.{Ledger}
 use Rattle.radio.specs.declared.Permit.{Permit}
 use Rattle.radio.specs.declared.Permit.the-variants.{Pass, Refuse}
 use Rattle.session.specs.Picture.{space, baseOf, shown, Shows, GoodIn}

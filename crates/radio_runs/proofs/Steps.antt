@@ -7,7 +7,7 @@ use native.Mathlib.Omega.{arith}
 use Rattle.rules.specs.declared.ChannelNumber.{ChannelNumber}
 use Rattle.rules.specs.State.{room}
 use Rattle.rules.specs.Pool.{cells, unpromised}
-use Rattle.session.specs.declared.Ledger.{Ledger}
+use Rattle.session.specs.Book.{Ledger}
 use Rattle.session.specs.declared.Session.{Session}
 use Rattle.session.specs.Picture.{Good, baseOf, shown}
 use Rattle.session.specs.Changed.{Numbered, chanIn, entryIn}

@@ -11,7 +11,7 @@ use Rattle.rules.specs.Command.{Answer, answered, refusal}
 use Rattle.rules.specs.Sound.{Sound}
 use Rattle.octets.specs.Parts.{pasted}
 use Rattle.session.specs.declared.Ended.the-variants.{Wrote, Refused}
-use Rattle.session.specs.declared.Ledger.{Ledger}
+use Rattle.session.specs.Book.{Ledger}
 use Rattle.session.specs.Picture.{shown, Shows, GoodIn}
 use Rattle.session.specs.Calls.{endedOf, writtenBy, overlaid, Answers}
 use Rattle.session.proofs.Views.{shows-good}

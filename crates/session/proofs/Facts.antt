@@ -14,7 +14,7 @@ use Rattle.rules.specs.Sound.{SoundChan, Sound}
 use Rattle.rules.proofs.Soundness.{chan-sound, closed-sound, fresh-sound, handed-sound, stored-sound, readied-sound, dropped-sound, with-sound}
 use Rattle.octets.specs.Parts.{part, pasted, cutOut, spread}
 use Rattle.session.specs.declared.Channel.{Channel}
-use Rattle.session.specs.declared.Ledger.{Ledger}
+use Rattle.session.specs.Book.{Ledger}
 use Rattle.session.specs.Picture.{space, pad, regions, region, poolOf, linkNumber, linkOf, entry, ledgerOf, baseOf, shown, Shows, GoodIn}
 use Rattle.session.specs.Changed.{Numbered, chanIn, entryIn, withEntry, Changed}
 use Rattle.session.proofs.Regions.{length-regions, front, rest, used, used-fits, used-parts, length-pad, length-region, base-length, held-space}

@@ -24,12 +24,12 @@ use Rattle.session.specs.Picture.{space, regions, poolOf, picture, Good}
 use Rattle.session.specs.Cells.{Way, receive, send, held, firstCell, Promised}
 use Rattle.session.proofs.Regions.{front, length-regions, length-region, held-space}
 use Rattle.session.proofs.Changes.{recv-part, send-part}
-use Rattle.session.proofs.Views.{shows-good}
+use Rattle.session.proofs.Views.{shows-at, good-at}
 
 -- the start is good
 pub start-good : (p : List ℕ) → Good (picture (start p))
 unfolding picture
-start-good p = shows-good (start p) _ _ (start-sound p) (record { ledger = refl; pool = refl })
+start-good p = good-at (start p) _ _ (start-sound p) (shows-at (start p) _ _ (start-sound p) refl refl)
 
 each-front : (cs : List Chan) (k : ℕ) → Each SoundChan cs → Each SoundChan (take k cs)
 each-front cs zero h = tt

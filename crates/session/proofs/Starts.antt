@@ -3,18 +3,20 @@
 use Prim.Native.Nat.{ℕ, zero, suc, _+_, _-_, _≤_, min}
 use mathlib.Core.Path.{_≡_, refl, sym, ap, _∙_}
 use mathlib.Core.Bool.{Bool, true, false}
-use mathlib.Core.List.{List, [], _∷_, _++_, append-nil}
+use mathlib.Core.List.{List, [], _∷_, _++_, append-nil, append-assoc}
 use native.Mathlib.Omega.{arith}
 use native.Mathlib.Nat.{le-of-suc-le-suc, not-suc-le-zero}
 use lib.Dec.{leb}
 use borrow.Author.Tests.{leb-true, leb-false}
-use lib.ListN.{length, take, drop, replicate, length-take}
-use lib.Seq.{take-all, take-append-le, take-append-add}
+use lib.ListN.{length, take, drop, replicate, length-take, drop-of-length-le}
+use lib.Seq.{take-all, take-append-le, take-append-add, drop-append-le}
 use Rattle.rules.specs.Profile.{kept}
 use Rattle.rules.specs.Pool.{cells}
 use Rattle.rules.specs.State.{start, closed}
 use Rattle.octets.specs.Parts.{part, pasted}
-use Rattle.session.specs.Picture.{space, pad, region, regions, poolOf}
+use Rattle.octets.proofs.Copies.{length-part}
+use Rattle.session.specs.Book.{numbersOf, tableOf}
+use Rattle.session.specs.Picture.{space, pad, region, regions, poolOf, entry, ledgerOf}
 
 zeros-drop : (a n : ℕ) → a ≤ n → drop a (replicate {A = ℕ} n 0) ≡ replicate (n - a) 0
 zeros-drop zero n h = ap (λ (k : ℕ). replicate k 0) (let e : n ≡ n - 0 = omega arith in e)
@@ -60,6 +62,23 @@ kept-is p m e = by (leb (length p) 13) refl
     by : (b : Bool) → leb (length p) 13 ≡ b → pasted (replicate 13 0) 0 (part 0 m p) ≡ kept p
     by true q = short (leb-true (length p) 13 q)
     by false q = long (let h = leb-false (length p) 13 q in omega arith)
+
+-- as many bytes put over all of them
+pub over-all : (d s : List ℕ) → length d ≡ length s → pasted d 0 s ≡ s
+unfolding pasted
+over-all d s e =
+    let h : length d ≤ 0 + length s = omega arith in
+    ap (λ (l : List ℕ). s ++ l) (drop-of-length-le d h) ∙ append-nil s
+
+-- the front of a profile, put over 50 zeros, is the ledger of a fresh session
+pub start-table : (p : List ℕ) (m : ℕ) → m ≡ min (length p) 13 → pasted (replicate 50 0) 0 (part 0 m p) ≡ tableOf (ledgerOf (start p))
+unfolding pasted tableOf ledgerOf start numbersOf entry closed
+start-table p m e =
+    let s = part 0 m p in
+    let n : 0 + length s ≤ 13 = let k = length-part 0 m p (omega arith) in omega arith in
+    ap (λ (l : List ℕ). s ++ l) (drop-append-le (0 + length s) (replicate 13 0) (replicate 37 0) n)
+    ∙ sym (append-assoc s (drop (0 + length s) (replicate 13 0)) (replicate 37 0))
+    ∙ ap (λ (l : List ℕ). l ++ replicate 37 0) (kept-is p m e)
 
 -- nothing is held, so the pool is empty
 pub empty-pool : (p : List ℕ) → replicate 8192 0 ≡ poolOf (start p)

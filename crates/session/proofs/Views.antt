@@ -4,16 +4,17 @@ use Prim.Native.Nat.{ℕ, zero, suc, _+_, _-_, _*_, _≤_}
 use mathlib.Core.Path.{_≡_, refl, sym, ap, subst, _∙_}
 use mathlib.Core.List.{List, [], _∷_, _++_, append-assoc, map}
 use native.Mathlib.Omega.{arith}
-use lib.ListN.{length, take, drop, replicate, length-append}
+use lib.ListN.{length, take, drop, replicate, length-append, length-map}
 use lib.Seq.{take-at, drop-at}
 use Rattle.rules.specs.declared.Link.{Link}
 use Rattle.rules.specs.declared.Link.the-variants.{NotYet, Established, Dropped}
 use Rattle.rules.specs.State.{State, Chan}
 use Rattle.rules.specs.Sound.{Each, SoundChan, Sound}
-use Rattle.session.specs.declared.Ledger.{Ledger}
+use Rattle.session.specs.Book.{Ledger, ledgerIn, tableOf, Kept}
 use Rattle.rules.specs.declared.Events.{Events}
 use Rattle.session.specs.Changed.{withEvents}
-use Rattle.session.specs.Picture.{space, pad, region, regions, poolOf, linkNumber, linkOf, entry, ledgerOf, picture, chansIn, shown, view, Shows, GoodIn, Good}
+use Rattle.session.specs.Picture.{space, pad, region, regions, poolOf, linkNumber, linkOf, entry, ledgerOf, picture, chansIn, shown, view, Shows, ShowsAt, GoodIn, GoodAt}
+use Rattle.session.proofs.Numbers.{ledger-back, kept-table}
 use Rattle.session.proofs.Regions.{length-pad, length-region, held-space}
 
 -- what is held is read back from the front of its space
@@ -73,10 +74,19 @@ pub shown-back : (a : State) → Sound a → shown (ledgerOf a) (poolOf a) ≡ a
 unfolding shown ledgerOf poolOf pad
 shown-back a h = λ i. record { profile = a .profile; events = a .events; chans = chans-back (a .chans) (replicate (8192 - length (regions (a .chans))) 0) (h .each) i }
 
+-- the numbers of a sound state's ledger say that ledger
+pub state-back : (a : State) → Sound a → ledgerIn (tableOf (ledgerOf a)) ≡ ledgerOf a
+unfolding ledgerOf
+state-back a h = ledger-back (ledgerOf a) (h .thirteen) (length-map (a .chans) entry ∙ h .seven)
+
+pub state-kept : (a : State) → Sound a → Kept (tableOf (ledgerOf a))
+unfolding ledgerOf
+state-kept a h = kept-table (ledgerOf a) (h .thirteen) (length-map (a .chans) entry ∙ h .seven)
+
 -- the picture of a sound state shows that state
 pub view-picture : (a : State) → Sound a → view (picture a) ≡ a
 unfolding view picture
-view-picture a h = shown-back a h
+view-picture a h = ap (λ (l : Ledger). shown l (poolOf a)) (state-back a h) ∙ shown-back a h
 
 -- a picture of a sound state is good, and shows no other state
 pub shows-back : (a : State) (l : Ledger) (p : List ℕ) → Sound a → Shows a l p → shown l p ≡ a
@@ -86,6 +96,14 @@ pub shows-good : (a : State) (l : Ledger) (p : List ℕ) → Sound a → Shows a
 shows-good a l p h s =
     let e = sym (shows-back a l p h s) in
     record { sound = subst Sound e h; shows = subst (λ (b : State). Shows b l p) e s }
+
+-- the same of the record's two arrays
+pub shows-at : (a : State) (t p : List ℕ) → Sound a → t ≡ tableOf (ledgerOf a) → p ≡ poolOf a → ShowsAt a t p
+shows-at a t p h e q =
+    record { shows = record { ledger = ap ledgerIn e ∙ state-back a h; pool = q }; kept = subst Kept (sym e) (state-kept a h) }
+
+pub good-at : (a : State) (t p : List ℕ) → Sound a → ShowsAt a t p → GoodAt t p
+good-at a t p h s = record { good = shows-good a (ledgerIn t) p h (s .shows); kept = s .kept }
 
 -- another event list, and the rest of the picture as it was
 pub events-shown :

@@ -7,7 +7,7 @@ use Rattle.rules.specs.declared.Refusal.{Refusal}
 use Rattle.rules.specs.Command.{Outcome, wrote, refused, Answer}
 use Rattle.session.specs.declared.Ended.{Ended}
 use Rattle.session.specs.declared.Ended.the-variants.{Wrote, Refused}
-use Rattle.session.specs.declared.Ledger.{Ledger}
+use Rattle.session.specs.Book.{Ledger, ledgerIn, Kept}
 use Rattle.session.specs.Picture.{Shows, GoodIn}
 
 -- how a call ended, as the code tells it: the count of bytes written, or the refusal
@@ -30,3 +30,8 @@ pub record Answers (r : Answer) (l : Ledger) (p : List ℕ) (e : Ended) (before 
   pub good : GoodIn l p
   pub ended : e ≡ endedOf (r .outcome)
   pub lent : after ≡ overlaid (writtenBy (r .outcome)) before
+
+-- the same of the record's two arrays
+pub record AnswersAt (r : Answer) (t p : List ℕ) (e : Ended) (before after : List ℕ) : Type 0 where
+  pub answers : Answers r (ledgerIn t) p e before after
+  pub kept : Kept t

@@ -1,13 +1,14 @@
 -- What the changes of one channel ask for and leave behind.
 use Prim.Native.Nat.{ℕ, _-_, _≤_}
+use mathlib.Core.Path.{_≡_}
 use mathlib.Core.List.{List}
 use lib.ListN.{getD, set}
 use Rattle.rules.specs.declared.Events.{Events}
 use Rattle.rules.specs.declared.ChannelNumber.{ChannelNumber}
 use Rattle.rules.specs.State.{State, Chan, chan, withChan}
 use Rattle.session.specs.declared.Channel.{Channel}
-use Rattle.session.specs.declared.Ledger.{Ledger}
-use Rattle.session.specs.Picture.{GoodIn, Shows, shown}
+use Rattle.session.specs.Book.{Ledger, ledgerIn, Kept}
+use Rattle.session.specs.Picture.{GoodIn, Shows, ShowsAt, shown, shownAt}
 
 -- a good session, and the number of a channel
 pub record Numbered (l : Ledger) (p : List ℕ) (n : ChannelNumber) : Type 0 where
@@ -30,6 +31,22 @@ withEntry l n e = record { profile = l .profile; events = l .events; channels = 
 -- the session is what it was, with the channel c in the place of that number
 abbrev pub Changed : Ledger → List ℕ → ChannelNumber → Chan → Ledger → List ℕ → Type 0
 Changed l p n c l′ p′ = Shows (withChan (shown l p) n c) l′ p′
+
+-- the same of the record's two arrays
+pub record NumberedAt (t p : List ℕ) (n : ChannelNumber) : Type 0 where
+  pub numbered : Numbered (ledgerIn t) p n
+  pub kept : Kept t
+
+abbrev pub chanAt : List ℕ → List ℕ → ChannelNumber → Chan
+chanAt t p n = chanIn (ledgerIn t) p n
+
+abbrev pub ChangedAt : List ℕ → List ℕ → ChannelNumber → Chan → List ℕ → List ℕ → Type 0
+ChangedAt t p n c t′ p′ = ShowsAt (withChan (shownAt t p) n c) t′ p′
+
+-- the numbers with another entry in that place
+pub record Entered (t : List ℕ) (n : ChannelNumber) (c : Channel) (t′ : List ℕ) : Type 0 where
+  pub ledger : ledgerIn t′ ≡ withEntry (ledgerIn t) n c
+  pub kept : Kept t′
 
 -- the state with another event list
 abbrev pub withEvents : State → Events → State

@@ -1,3 +1,4 @@
+pub mod Book
 pub mod Picture
 pub mod Cells
 pub mod Changed

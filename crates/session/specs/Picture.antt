@@ -9,7 +9,7 @@ use Rattle.rules.specs.State.{State, Chan}
 use Rattle.rules.specs.Pool.{cells}
 use Rattle.rules.specs.Sound.{Sound}
 use Rattle.session.specs.declared.Channel.{Channel}
-use Rattle.session.specs.declared.Ledger.{Ledger}
+use Rattle.session.specs.Book.{Ledger, ledgerIn, tableOf, Kept}
 use Rattle.session.specs.declared.Session.{Session}
 
 -- the bytes of the cells that a grant promises each way
@@ -53,7 +53,7 @@ unfoldable pub ledgerOf : State → Ledger
 ledgerOf a = record { profile = a .profile; events = a .events; channels = map entry (a .chans) }
 
 unfoldable pub picture : State → Session
-picture a = record { ledger = ledgerOf a; pool = poolOf a }
+picture a = record { ledger = tableOf (ledgerOf a); pool = poolOf a }
 
 -- the bytes of the first k regions: where the region after them begins
 unfoldable pub baseOf : List Channel → ℕ → ℕ
@@ -78,8 +78,12 @@ chansIn (e ∷ es) p =
 unfoldable pub shown : Ledger → List ℕ → State
 shown l p = record { profile = l .profile; events = l .events; chans = chansIn (l .channels) p }
 
+-- the state that the record's two arrays show
+abbrev pub shownAt : List ℕ → List ℕ → State
+shownAt t p = shown (ledgerIn t) p
+
 unfoldable pub view : Session → State
-view s = shown (s .ledger) (s .pool)
+view s = shownAt (s .ledger) (s .pool)
 
 -- the ledger and the pool are the picture of the state
 pub record Shows (a : State) (l : Ledger) (p : List ℕ) : Type 0 where
@@ -91,11 +95,20 @@ pub record GoodIn (l : Ledger) (p : List ℕ) : Type 0 where
   pub sound : Sound (shown l p)
   pub shows : Shows (shown l p) l p
 
+-- the same of the record's two arrays
+pub record ShowsAt (a : State) (t p : List ℕ) : Type 0 where
+  pub shows : Shows a (ledgerIn t) p
+  pub kept : Kept t
+
+pub record GoodAt (t p : List ℕ) : Type 0 where
+  pub good : GoodIn (ledgerIn t) p
+  pub kept : Kept t
+
 -- a ledger of a good session
-pub record Belongs (l : Ledger) : Type 0 where
+pub record Belongs (t : List ℕ) : Type 0 where
   pub pool : List ℕ
-  pub good : GoodIn l pool
+  pub good : GoodAt t pool
 
 -- a session that came from the start and the calls
 abbrev pub Good : Session → Type 0
-Good s = GoodIn (s .ledger) (s .pool)
+Good s = GoodAt (s .ledger) (s .pool)

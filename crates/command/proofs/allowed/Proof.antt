@@ -3,6 +3,7 @@
 use Prim.Native.Nat.{ℕ, _-_, _/_, _%_}
 use mathlib.Core.Path.{ap}
 use native.Mathlib.Omega.{arith}
+use denote.Ref.{now}
 use lib.ListN.{getD}
 use lib.Dec.{eqb}
 use lib.Pow.{pow-pos}
@@ -17,22 +18,25 @@ use Rattle.command.proofs.weight.Reads as weight-reads
 sub-at : tie.Need-sub-at
 sub-at c = search needs
 
-array-read-b : tie.Need-array-read-b
-array-read-b c = search needs
+mul-b : tie.Need-mul-b
+mul-b c = search needs
+
+shared-slice-read-b : tie.Need-shared-slice-read-b
+shared-slice-read-b c = search needs
 
 weight-requires : tie.Need-weight-requires
 weight-requires c κs = search needs
 
 div-result : tie.Need-div-result
 div-result c =
-    let s = c .before .before in
-    omega (arith, c .weight .ensures, pow-pos (s .args .place .bit - 1))
+    let z = c .before .before .before .before in
+    omega (arith, c .weight .ensures, pow-pos (z .args .place .bit - 1))
 
 returns : tie.Need-returns
 unfolding bit
 returns c =
-    let s = c .before .before in
-    ap (λ (w : ℕ). eqb (getD (s .args .t1) (s .args .place .byte - 1) 0 / w % 2) 1) (c .weight .ensures)
+    let z = c .before .before .before .before in
+    ap (λ (w : ℕ). eqb (getD (now (z .args .profile)) (z .args .place .byte - 1) 0 / w % 2) 1) (c .weight .ensures)
 
 pub allowed-spec : {M : Type 1} → statement M
-allowed-spec = tie.close (tie.spec sub-at array-read-b weight-requires div-result returns)
+allowed-spec = tie.close (tie.spec sub-at mul-b shared-slice-read-b weight-requires div-result returns)

@@ -19,7 +19,7 @@ use Rattle.objects.proofs.Cursor.object.Reads as object-reads
 returns : tie.Need-returns
 unfolding zeros
 returns c =
-    let z = c .before .before in
+    let z = c .before .before .before in
     none-read _ (now (z .args .s)) (c .if1 .taken)
 
 object-requires : tie.Need-object-requires
@@ -31,7 +31,7 @@ enum-known-tag c = search needs
 returns-2 : tie.Need-returns-2
 unfolding zeros
 returns-2 c =
-    let z = c .before .before .before .before .before .before .before in
+    let z = c .before .before .before .before .before .before .before .before in
     let s = now (z .args .s) in
     let m : Meets (Object _ _ _ _) s 0 = subst (λ (r : Found). Meets r s 0) (c .before .before .tag .given .1) (c .before .before .before .before .object .ensures) in
     stranger-number s (c .before .before .before .before .before .if1 .left) _ _ _ _ m _ (c .if2 .taken)
@@ -39,51 +39,52 @@ returns-2 c =
 returns-3 : tie.Need-returns-3
 unfolding zeros
 returns-3 c =
-    let z = c .before .before .before .before .before .before .before .before in
+    let z = c .before .before .before .before .before .before .before .before .before in
     let s = now (z .args .s) in
     let m : Meets (Object _ _ _ _) s 0 = subst (λ (r : Found). Meets r s 0) (c .before .before .before .tag .given .1) (c .before .before .before .before .before .object .ensures) in
     stranger-length s (c .before .before .before .before .before .before .if1 .left) _ _ _ _ m _ (c .before .if2 .left) (c .if3 .taken)
 
 shared-slice-read-t14 : tie.Need-shared-slice-read-t14
 shared-slice-read-t14 c =
-    let z = c .before .before .before .before .before .before .before .before .before in
+    let z = c .before .before .before .before .before .before .before .before .before .before in
     let s = now (z .args .s) in
     let m : Meets (Object _ _ _ _) s 0 = subst (λ (r : Found). Meets r s 0) (c .before .before .before .before .tag .given .1) (c .before .before .before .before .before .before .object .ensures) in
     omega (arith, m .ends, m .within, c .before .if3 .left)
 
 add-t17 : tie.Need-add-t17
 add-t17 c =
-    let z = c .before .before .before .before .before .before .before .before .before in
+    let z = c .before .before .before .before .before .before .before .before .before .before in
     let s = now (z .args .s) in
     let m : Meets (Object _ _ _ _) s 0 = subst (λ (r : Found). Meets r s 0) (c .before .before .before .before .tag .given .1) (c .before .before .before .before .before .before .object .ensures) in
     omega (arith, m .ends, m .within, c .before .if3 .left)
 
 shared-slice-read-t19 : tie.Need-shared-slice-read-t19
 shared-slice-read-t19 c =
-    let z = c .before .before .before .before .before .before .before .before .before .before in
+    let z = c .before .before .before .before .before .before .before .before .before .before .before in
     let s = now (z .args .s) in
     let m : Meets (Object _ _ _ _) s 0 = subst (λ (r : Found). Meets r s 0) (c .before .before .before .before .before .tag .given .1) (c .before .before .before .before .before .before .before .object .ensures) in
     omega (arith, m .ends, m .within, c .before .before .if3 .left)
 
 add-t20 : tie.Need-add-t20
 add-t20 c =
-    let z = c .before .before .before .before .before .before .before .before .before .before in
+    let z = c .before .before .before .before .before .before .before .before .before .before .before in
     let s = now (z .args .s) in
     let m : Meets (Object _ _ _ _) s 0 = subst (λ (r : Found). Meets r s 0) (c .before .before .before .before .before .tag .given .1) (c .before .before .before .before .before .before .before .object .ensures) in
     omega (arith, m .ends, m .within, c .before .before .if3 .left)
 
 shared-slice-read-t22 : tie.Need-shared-slice-read-t22
 shared-slice-read-t22 c =
-    let z = c .before .before .before .before .before .before .before .before .before .before .before in
+    let z = c .before .before .before .before .before .before .before .before .before .before .before .before in
     let s = now (z .args .s) in
     let m : Meets (Object _ _ _ _) s 0 = subst (λ (r : Found). Meets r s 0) (c .before .before .before .before .before .before .tag .given .1) (c .before .before .before .before .before .before .before .before .object .ensures) in
     omega (arith, m .ends, m .within, c .before .before .before .if3 .left)
 
 read-typed-requires : tie.Need-read-typed-requires
 read-typed-requires c κs =
-    let s = now (c .before .before .before .before .before .before .before .before .before .before .before .args .s) in
+    let z = c .before .before .before .before .before .before .before .before .before .before .before .before in
+    let s = now (z .args .s) in
     let m : Meets (Object _ _ _ _) s 0 = subst (λ (r : Found). Meets r s 0) (c .before .before .before .before .before .before .tag .given .1) (c .before .before .before .before .before .before .before .before .object .ensures) in
-    (detailed s (c .before .before .before .before .before .before .before .before .before .if1 .left) _ _ _ _ m (c .before .before .before .before .if2 .left) (c .before .before .before .if3 .left) (c .before .before .before .before .before .before .before .before .before .before .before .pre), headed s (c .before .before .before .before .before .before .before .before .before .if1 .left) _ _ _ _ m (c .before .before .before .before .if2 .left) (c .before .before .before .if3 .left))
+    (detailed s (c .before .before .before .before .before .before .before .before .before .if1 .left) _ _ _ _ m (c .before .before .before .before .if2 .left) (c .before .before .before .if3 .left) (z .pre .0), headed s (c .before .before .before .before .before .before .before .before .before .if1 .left) _ _ _ _ m (c .before .before .before .before .if2 .left) (c .before .before .before .if3 .left), z .pre .1)
 
 enum-told : tie.Need-enum-told
 enum-told c = search needs
@@ -94,7 +95,7 @@ returns-4 c = search needs
 returns-5 : tie.Need-returns-5
 unfolding zeros
 returns-5 c =
-    let z = c .before .before .before .before .before in
+    let z = c .before .before .before .before .before .before in
     let s = now (z .args .s) in
     let m : Meets (Fault _) s 0 = subst (λ (r : Found). Meets r s 0) (c .enum-told .given .1) (c .before .before .object .ensures) in
     faulty-read s (c .before .before .before .if1 .left) _ _ m

@@ -21,16 +21,16 @@ enum-known-plan c = search needs
 
 read-planned-requires : tie.Need-read-planned-requires
 read-planned-requires c κs =
-    let k : Plans (Of _) (c .before .before .before .before .before .args .d .kind) = subst (λ (r : Planned). Plans r (c .before .before .before .before .before .args .d .kind)) (c .before .plan .given .1) (c .before .before .before .plan-of .ensures) in
-    (c .before .before .before .before .before .pre .0, k, c .before .before .before .before .before .pre .1)
+    let k : Plans (Of _) (c .before .before .before .before .before .before .args .d .kind) = subst (λ (r : Planned). Plans r (c .before .before .before .before .before .before .args .d .kind)) (c .before .plan .given .1) (c .before .before .before .plan-of .ensures) in
+    (c .before .before .before .before .before .before .pre .0, k, c .before .before .before .before .before .before .pre .1, c .before .before .before .before .before .before .pre .2)
 
 enum-told : tie.Need-enum-told
 enum-told c = search needs
 
 read-unknown-requires : tie.Need-read-unknown-requires
 read-unknown-requires c κs =
-    let k : Plans Unknown (c .before .before .before .before .args .d .kind) = subst (λ (r : Planned). Plans r (c .before .before .before .before .args .d .kind)) (c .enum-told .given .1) (c .before .before .plan-of .ensures) in
-    (c .before .before .before .before .pre .0, k)
+    let k : Plans Unknown (c .before .before .before .before .before .args .d .kind) = subst (λ (r : Planned). Plans r (c .before .before .before .before .before .args .d .kind)) (c .enum-told .given .1) (c .before .before .plan-of .ensures) in
+    (c .before .before .before .before .before .pre .0, k)
 
 returns : tie.Need-returns
 returns c = search needs

@@ -38,7 +38,7 @@ use denote.Triple.Call.{calls-at}
 use denote.Triple.Table.{entered, cited}
 use denote.Triple.Walked.{says, Stays, stay-ref, goes-ref, walkOf, Walks, ends-at, walked, walk-meets}
 use Rattle.rules.specs.State.{start}
-use Rattle.session.specs.declared.Ledger.{Ledger}
+use Rattle.session.specs.Book.{Ledger}
 use Rattle.session.specs.declared.Session.{Session}
 use Rattle.session.specs.Picture.{GoodIn, Shows}
 use Rattle.session.proofs.Session as T

@@ -3,9 +3,13 @@
 use Prim.Native.Nat.{ℕ, _+_, _-_, _*_, _≤_}
 use mathlib.Core.Path.{_≡_, refl, sym, ap, _∙_}
 use native.Mathlib.Omega.{arith}
+use lib.ListN.{length}
+use denote.Ref.{now}
 use Rattle.rules.specs.Pool.{cells}
+use Rattle.session.specs.Book.{ledgerIn}
 use Rattle.session.specs.Picture.{baseOf, space}
 use Rattle.session.proofs.Bases.{base-more}
+use Rattle.session.proofs.Numbers.{seven-entries, grant-read}
 use Rattle.session.proofs.base.Statement.{statement}
 use Rattle.session.proofs.base.Tie as tie
 use Rattle.session.proofs.base.Reads as reads
@@ -13,20 +17,26 @@ use Rattle.session.proofs.base.Lts as lts
 use Rattle.pool.proofs.Pool.space.Reads as space-reads
 
 abbrev Inv-loop : tie.InvT-loop
-Inv-loop k channels at₀ i₀ at i = (at ≡ baseOf channels i) × (i ≤ k) × (at ≤ 131072 * i)
+Inv-loop ledger k at₀ i₀ at i = (at ≡ baseOf (ledgerIn ledger .channels) i) × (i ≤ k) × (at ≤ 131072 * i)
 
 abbrev μ-loop : tie.MeasureT-loop
-μ-loop k channels at₀ i₀ at i = k - i
+μ-loop ledger k at₀ i₀ at i = k - i
 
 loop-holds : tie.Need-loop-holds Inv-loop μ-loop
 unfolding baseOf
 loop-holds c = (refl, omega arith, omega arith)
 
-mul-c : tie.Need-mul-c Inv-loop μ-loop
-mul-c c = omega arith
+mul-grant : tie.Need-mul-grant Inv-loop μ-loop
+mul-grant c = omega arith
 
-array-copy-out-c : tie.Need-array-copy-out-c Inv-loop μ-loop
-array-copy-out-c c = omega arith
+add-grant : tie.Need-add-grant Inv-loop μ-loop
+add-grant c = omega arith
+
+mul-grant-2 : tie.Need-mul-grant-2 Inv-loop μ-loop
+mul-grant-2 c = omega arith
+
+element-copy-out-grant : tie.Need-element-copy-out-grant Inv-loop μ-loop
+element-copy-out-grant c = omega arith
 
 space-requires : tie.Need-space-requires Inv-loop μ-loop
 space-requires c κs = tt
@@ -46,20 +56,19 @@ loop-less c = omega arith
 loop-again : tie.Need-loop-again Inv-loop μ-loop
 unfolding space
 loop-again c =
-    let start = c .before .before .before .before in
-    let es = start .args .t1 in
+    let t = now (c .before .before .before .before .args .ledger) in
     let i = c .before .before .before .loop .i in
-    let more = base-more es i _ (omega arith) in
-    (sum (c .before .before .before .loop .inv .0) (c .space .ensures .0) ∙ sym more, omega arith, omega arith)
+    let more = base-more (ledgerIn t .channels) i _ (let s = seven-entries t in omega arith) in
+    let grant = grant-read t i (omega arith) in
+    (sum (c .before .before .before .loop .inv .0) (c .space .ensures .0 ∙ ap (λ (g : ℕ). 32 * cells g) grant) ∙ sym more, omega arith, omega arith)
   where
     sum : {a b m n : ℕ} → a ≡ b → m ≡ n → a + 2 * m ≡ b + 2 * n
     sum p q = λ i. p i + 2 * q i
 
 returns : tie.Need-returns Inv-loop μ-loop
 returns c =
-    let at = c .before in
-    let e : at .loop .i ≡ at .before .args .k = omega (arith, at .loop .inv .1, c .loop-test .left) in
-    at .loop .inv .0 ∙ ap (λ (n : ℕ). baseOf (at .before .args .t1) n) e
+    let e : c .before .loop .i ≡ c .before .before .args .k = omega (arith, c .before .loop .inv .1, c .loop-test .left) in
+    c .before .loop .inv .0 ∙ ap (λ (n : ℕ). baseOf (ledgerIn (now (c .before .before .args .ledger)) .channels) n) e
 
 pub base-spec : {M : Type 1} → statement M
 base-spec =
@@ -68,8 +77,10 @@ base-spec =
     Inv-loop
     μ-loop
     loop-holds
-    mul-c
-    array-copy-out-c
+    mul-grant
+    add-grant
+    mul-grant-2
+    element-copy-out-grant
     space-requires
     mul-at
     add-at

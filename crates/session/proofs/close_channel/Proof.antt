@@ -1,15 +1,20 @@
--- `session::close_channel` meets its contract: the law of the change, at what `base`, `space` and `cut` ensure.
+-- `session::close_channel` meets its contract: the law of the change, at what it calls.
 -- Assumes nothing.
-use Prim.Native.Nat.{ℕ, _+_, _*_}
-use mathlib.Core.Path.{sym, ap, _∙_}
+use Prim.Native.Nat.{ℕ, _+_, _-_, _*_}
+use mathlib.Core.Path.{refl, sym, ap, _∙_}
 use native.Mathlib.Omega.{arith}
+use lib.ListN.{length}
 use denote.Ref.{now}
-use Rattle.rules.specs.State.{room}
-use Rattle.rules.specs.Pool.{cells, promised, unpromised}
+use Rattle.rules.specs.State.{room, arrived, handed, stored, taken, closed, fresh, readied, dropped}
+use Rattle.rules.specs.Pool.{unpromised}
 use Rattle.octets.specs.Parts.{pasted, cutOut, spread}
+use Rattle.session.specs.declared.Channel.{Channel}
+use Rattle.session.specs.Book.{ledgerIn}
 use Rattle.session.specs.Picture.{space}
-use Rattle.session.specs.Changed.{entryIn}
+use Rattle.session.specs.Changed.{chanAt}
 use Rattle.session.proofs.Facts.{Bounds, bounds, close-law}
+use Rattle.session.proofs.Numbers.{kept-size}
+use Rattle.session.proofs.Written.{written-at}
 use borrow.Author.Needs.{needs}
 use Rattle.session.proofs.close_channel.Statement.{statement}
 use Rattle.session.proofs.close_channel.Tie as tie
@@ -18,30 +23,23 @@ use Rattle.session.proofs.close_channel.Lts as lts
 use Rattle.octets.proofs.cut.Reads as cut-reads
 use Rattle.pool.proofs.Pool.space.Reads as space-reads
 use Rattle.session.proofs.base.Reads as base-reads
+use Rattle.session.proofs.entry.Reads as entry-reads
+use Rattle.session.proofs.put_entry.Reads as put-entry-reads
 
-sub-k : tie.Need-sub-k
-sub-k c = search needs
+entry-requires : tie.Need-entry-requires
+entry-requires c κs = (c .before .pre .numbered .low, c .before .pre .numbered .high, kept-size _ (c .before .pre .kept))
 
-cast-k : tie.Need-cast-k
-cast-k c = search needs
+sub-base : tie.Need-sub-base
+sub-base c = search needs
+
+cast-base : tie.Need-cast-base
+cast-base c = search needs
 
 base-requires : tie.Need-base-requires
-base-requires c κs =
-    let s = c .before .before in
-    let b = bounds _ _ _ (s .pre) in
-    (omega (arith, s .pre .high), b .seven)
+base-requires c κs = (omega (arith, c .before .before .before .before .pre .numbered .high), kept-size _ (c .before .before .before .before .pre .kept))
 
 base-requires-2 : tie.Need-base-requires-2
-base-requires-2 c κs =
-    let s = c .before .before .before in
-    let b = bounds _ _ _ (s .pre) in
-    (omega arith, b .seven)
-
-mul-c : tie.Need-mul-c
-mul-c c = search needs
-
-array-copy-out-c : tie.Need-array-copy-out-c
-array-copy-out-c c = search needs
+base-requires-2 c κs = (omega arith, kept-size _ (c .before .before .before .before .before .before .pre .kept))
 
 space-requires : tie.Need-space-requires
 space-requires c κs = search needs
@@ -52,39 +50,36 @@ mul-cut c = search needs
 cut-requires : tie.Need-cut-requires
 unfolding space
 cut-requires c κs =
-    let s = c .before .before .before .before .before .before .before in
-    let b = bounds _ _ _ (s .pre) in
-    omega (arith, c .before .before .before .before .base .ensures, c .before .before .before .base2 .ensures, c .space .ensures .0)
+    let b = bounds _ _ _ (c .before .before .before .before .before .before .before .before .before .pre .numbered) in
+    let x = c .before .before .before .before .before .before .before .entry .ensures in
+    omega (arith, c .before .before .before .before .base .ensures, c .before .before .base2 .ensures, c .space .ensures .0, ap (λ (k : Channel). space (k .grant)) x)
 
-mul-t19 : tie.Need-mul-t19
-mul-t19 c = search needs
-
-element-set-from-next : tie.Need-element-set-from-next
-element-set-from-next c = search needs
+put-entry-requires : tie.Need-put-entry-requires
+put-entry-requires c κs = (c .before .before .before .before .before .before .before .before .before .before .before .pre .numbered .low, c .before .before .before .before .before .before .before .before .before .before .before .pre .numbered .high, c .before .before .before .before .before .before .before .before .before .before .before .pre .kept)
 
 returns : tie.Need-returns
 unfolding space
 returns c =
-    let s = c .before .before .before .before .before .before .before .before in
-    let law = close-law (s .args .ledger) (now (s .args .pool)) (s .args .n) (s .pre) in
-    let at = c .before .before .before .before .before .base .ensures in
-    let used = c .before .before .before .before .base2 .ensures in
-    let sp = c .before .space .ensures .0 in
-    record { ledger = law .ledger; pool = c .cut .ensures ∙ (λ i. cutOut (now (s .args .pool)) (at i) (2 * sp i) (used i)) ∙ law .pool }
+    let t = now (c .before .before .before .before .before .before .before .before .before .before .before .before .args .ledger) in
+    let p = now (c .before .before .before .before .before .before .before .before .before .before .before .before .args .pool) in
+    let n = c .before .before .before .before .before .before .before .before .before .before .before .before .args .n in
+    let x = c .before .before .before .before .before .before .before .before .before .before .entry .ensures in
+    let at = c .before .before .before .before .before .before .before .base .ensures in
+    let used = c .before .before .before .before .before .base2 .ensures in
+    let sp = c .before .before .before .space .ensures .0 ∙ ap (λ (c : Channel). space (c .grant)) x in
+    written-at p n closed (close-law (ledgerIn t) p n (c .before .before .before .before .before .before .before .before .before .before .before .before .pre .numbered)) (c .before .before .cut .ensures ∙ (λ i. cutOut p (at i) (2 * sp i) (used i))) refl (c .put-entry .ensures)
 
 pub close-channel-spec : {M : Type 1} → statement M
 close-channel-spec =
     tie.close
     (tie.spec
-    sub-k
-    cast-k
+    entry-requires
+    sub-base
+    cast-base
     base-requires
     base-requires-2
-    mul-c
-    array-copy-out-c
     space-requires
     mul-cut
     cut-requires
-    mul-t19
-    element-set-from-next
+    put-entry-requires
     returns)
