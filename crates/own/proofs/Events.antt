@@ -18,14 +18,15 @@ use Rattle.rules.specs.Sound.{Sound}
 use Rattle.rules.specs.State.{State}
 use Rattle.rules.specs.Own.{Reply, reply, error, done, nothing, plain, listed, listing}
 use Rattle.rules.proofs.Laws.{stop, skip}
-use Rattle.session.specs.declared.Ended.{Ended}
+use Rattle.session.specs.declared.Ended.the-variants.{Wrote}
 use Rattle.session.specs.Book.{Ledger}
-use Rattle.session.specs.Picture.{Belongs, Shows, GoodIn, shown}
-use Rattle.session.specs.Calls.{Answers}
+use Rattle.session.specs.Picture.{ShowsAt, GoodIn, shown}
+use Rattle.session.specs.Calls.{AnswersAt}
 use Rattle.session.specs.Changed.{withEvents}
-use Rattle.session.proofs.Views.{shows-good}
+use Rattle.session.proofs.Views.{good-at}
+use Rattle.responses.specs.Stands.{response, Stands}
 use Rattle.own.specs.Replies.{told}
-use Rattle.own.proofs.Replies.{changed-answers}
+use Rattle.own.proofs.Replies.{told-at, plain-stands}
 
 -- what the profile says of each event
 module _ (p : List ℕ) (e : ℕ) where
@@ -70,13 +71,6 @@ events-sound : (a : State) (e : Events) → Sound a → Sound (withEvents a e)
 unfolding promised
 events-sound a e h = record { thirteen = h .thirteen; seven = h .seven; each = h .each; within = h .within }
 
--- a ledger with another event list belongs to a good session too
-pub list-belongs :
-    (l m : Ledger) (u v : Bool) → Belongs l →
-    ((p : List ℕ) → GoodIn l p → Shows (withEvents (shown l p) (record { available = u; status = v })) m p) → Belongs m
-list-belongs l m u v b f =
-    record { pool = b .pool; good = shows-good _ m (b .pool) (events-sound (shown l (b .pool)) (record { available = u; status = v }) (b .good .sound)) (f (b .pool) (b .good)) }
-
 module _ (l : Ledger) (p es : List ℕ) (i : Bool) (all : Bool) (f : all ≡ every (allowsEvent (l .profile)) es) where
   pub list-forbidden : all ≡ false → listing (shown l p) es i ≡ reply (shown l p) (error 0x30)
   unfolding listing shown
@@ -87,11 +81,13 @@ module _ (l : Ledger) (p es : List ℕ) (i : Bool) (all : Bool) (f : all ≡ eve
   list-allowed e = skip _ _ _ (ap not (sym f ∙ e))
 
   pub list-done :
-      (d : Details) (x : ℕ) (u v : Bool) (m n : Ledger) (e : Ended) (before after : List ℕ) → all ≡ true → GoodIn l p →
-      u ≡ member 0x09 es → v ≡ member 0x0A es → Shows (withEvents (shown l p) (record { available = u; status = v })) m p → x ≡ plain i →
-      (GoodIn m p → Answers (told d (reply (shown m p) (error x))) n p e before after) →
-      Answers (told d (listing (shown l p) es i)) n p e before after
+      (d : Details) (x k : ℕ) (e : Events) (u before after : List ℕ) → all ≡ true → GoodIn l p → e .available ≡ member 0x09 es → e .status ≡ member 0x0A es →
+      ShowsAt (withEvents (shown l p) e) u p → x ≡ plain i → Stands (response d (error x)) k before after →
+      AnswersAt (told d (listing (shown l p) es i)) u p (Wrote k) before after
   unfolding listed
-  list-done d x u v m n e before after t g y z s w k =
-      changed-answers d (listing (shown l p) es i) (listed (shown l p) es) x i m p n e before after (list-allowed t)
-      (events-sound (shown l p) (record { available = member 0x09 es; status = member 0x0A es }) (g .sound)) (subst (λ (b : State). Shows b m p) (λ j. withEvents (shown l p) (record { available = y j; status = z j })) s) w k
+  list-done d x k e u before after t g y z s w r =
+      let b = listed (shown l p) es in
+      let v = subst (λ (c : State). ShowsAt c u p) (λ j. withEvents (shown l p) (record { available = y j; status = z j })) s in
+      let h = events-sound (shown l p) (record { available = member 0x09 es; status = member 0x0A es }) (g .sound) in
+      told-at d (listing (shown l p) es i) b (done (plain i) nothing) u p k before after (list-allowed t) (v .shows) (good-at b u p h v)
+      (plain-stands d x i k before after w r)

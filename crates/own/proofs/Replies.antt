@@ -20,12 +20,11 @@ use Rattle.rules.proofs.Laws.{stop, skip}
 use Rattle.octets.specs.Parts.{part}
 use Rattle.session.specs.declared.Ended.{Ended}
 use Rattle.session.specs.declared.Ended.the-variants.{Wrote}
-use Rattle.session.specs.Book.{Ledger}
-use Rattle.session.specs.Picture.{Shows, GoodIn, shown, baseOf, space}
-use Rattle.session.specs.Calls.{endedOf, writtenBy, Answers}
-use Rattle.session.specs.Changed.{Numbered, chanIn, entryIn, Changed}
+use Rattle.session.specs.Book.{Ledger, ledgerIn}
+use Rattle.session.specs.Picture.{Shows, GoodIn, GoodAt, shown, shownAt, baseOf, space}
+use Rattle.session.specs.Calls.{endedOf, writtenBy, Answers, AnswersAt}
+use Rattle.session.specs.Changed.{Numbered, NumberedAt, chanIn, entryIn, Changed}
 use Rattle.session.proofs.Facts.{Bounds, bounds, recv-read, handed-good}
-use Rattle.session.proofs.Views.{shows-back, shows-good}
 use Rattle.responses.specs.Stands.{response, Stands}
 use Rattle.own.specs.Replies.{told}
 
@@ -43,24 +42,29 @@ unfolding endedOf writtenBy
 told-answers d r b x l p k before after e s g t =
     as-told d r (reply b x) l p (Wrote k) before after e (record { shows = s; good = g; ended = ap Wrote (t .counted); lent = t .lent })
 
+-- the same of the record's two arrays
+pub told-at :
+    (d : Details) (r : Reply) (b : State) (x : Result) (t p : List ℕ) (k : ℕ) (before after : List ℕ) → r ≡ reply b x → Shows b (ledgerIn t) p →
+    GoodAt t p → Stands (response d x) k before after → AnswersAt (told d r) t p (Wrote k) before after
+told-at d r b x t p k before after e s g w =
+    record { answers = told-answers d r b x (ledgerIn t) p k before after e s (g .good) w; kept = g .kept }
+
+-- a reply that leaves the session
+pub left-at :
+    (d : Details) (r : Reply) (x : Result) (t p : List ℕ) (k : ℕ) (before after : List ℕ) → r ≡ reply (shownAt t p) x → GoodAt t p →
+    Stands (response d x) k before after → AnswersAt (told d r) t p (Wrote k) before after
+left-at d r x t p k before after e g w = told-at d r (shownAt t p) x t p k before after e (g .good .shows) g w
+
 -- a result that nothing follows has the bytes of an error
-pub plain-told : (d : Details) (b : State) (x : ℕ) (i : Bool) → x ≡ plain i → told d (reply b (error x)) ≡ told d (reply b (done (plain i) nothing))
+pub plain-stands :
+    (d : Details) (x : ℕ) (i : Bool) (k : ℕ) (before after : List ℕ) → x ≡ plain i → Stands (response d (error x)) k before after →
+    Stands (response d (done (plain i) nothing)) k before after
 unfolding responseBytes responseObjects resultBytes resultObjects furtherObjects
-plain-told d b x i e = ap (λ (y : ℕ). told d (reply b (done y nothing))) e
+plain-stands d x i k before after e t = subst (λ (y : ℕ). Stands (response d (done y nothing)) k before after) e t
 
--- the state was changed to a sound one, and the result that nothing follows is told
-pub changed-answers :
-    (d : Details) (r : Reply) (b : State) (x : ℕ) (i : Bool) (m : Ledger) (q : List ℕ) (l : Ledger) (e : Ended) (before after : List ℕ) →
-    r ≡ reply b (done (plain i) nothing) → Sound b → Shows b m q → x ≡ plain i →
-    (GoodIn m q → Answers (told d (reply (shown m q) (error x))) l q e before after) → Answers (told d r) l q e before after
-changed-answers d r b x i m q l e before after u h s v f =
-    as-told d r (reply b (done (plain i) nothing)) l q e before after u
-    (subst (λ (y : Answer). Answers y l q e before after) (ap (λ (c : State). told d (reply c (error x))) (shows-back b m q h s) ∙ plain-told d b x i v)
-    (f (shows-good b m q h s)))
-
--- a good session has seven channels
-pub seven : (l : Ledger) (p : List ℕ) → GoodIn l p → length (l .channels) ≡ 7
-seven l p g = bounds l p (record { 0 = 1 }) (record { good = g; low = omega arith; high = omega arith }) .seven
+-- the arrays at a channel are good
+pub good-numbered : {t p : List ℕ} {n : ChannelNumber} → NumberedAt t p n → GoodAt t p
+good-numbered h = record { good = h .numbered .good; kept = h .kept }
 
 -- the result in front of the statuses
 pub statuses-stand :

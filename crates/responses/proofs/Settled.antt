@@ -33,5 +33,5 @@ tell-opened-settled κs a h x y v w p q =
     let e = bearer-back _ (h .3) in
     (count-alike (p _ e) (q _ e), λ i. (out-alike (p _ e) (q _ e) i, v .1))
 
-pub tell-statuses-settled : Determined 1 tell-statuses-kinds.ps tell-statuses-kinds.r tell-statuses-reads.Pre tell-statuses-reads.Post
+pub tell-statuses-settled : Determined 2 tell-statuses-kinds.ps tell-statuses-kinds.r tell-statuses-reads.Pre tell-statuses-reads.Post
 tell-statuses-settled κs a _ x y v w p q = (count-alike (p []) (q []), λ i. (out-alike (p []) (q []) i, v .1))

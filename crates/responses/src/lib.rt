@@ -4,7 +4,7 @@ use octets;
 use rules::ChannelNumber;
 use rules::Details;
 use rules::Link;
-use session::Channel;
+use session::entry;
 use session::link_of;
 ghost use mathlib.Core.Path.{_≡_};
 ghost use mathlib.Core.List.{List};
@@ -15,6 +15,7 @@ ghost use Rattle.rules.specs.Frames.{objectBytes};
 ghost use Rattle.rules.specs.Reading.{Bearer};
 ghost use Rattle.rules.specs.Own.{error, problem, done, opened, received, sent, statuses, statusesFrom};
 ghost use Rattle.rules.specs.Written.{bearerBytes, statusBytes, statusObject};
+ghost use Rattle.session.specs.Book.{ledgerIn};
 ghost use Rattle.session.specs.Picture.{linkOf, chansIn};
 ghost use Rattle.responses.specs.Stands.{response, Stands};
 
@@ -137,7 +138,7 @@ pub fn tell_opened(
 }
 
 // Writes the status of one channel, and tells the place behind it.
-fn tell_status(out: &mut [u8], at: usize, n: ChannelNumber, link: u8) -> usize
+fn tell_status(out: &mut [u8], at: usize, n: ChannelNumber, link: u16) -> usize
     requires { ⌜ (n .0 ≤ 7) × (at + 4 ≤ length (now out)) ⌝ }
     ensures { λ r. ⌜ now (out .exit) ≡ pasted (now (out .entry)) at (objectBytes (statusObject n (linkOf link))) ⌝ }
     ensures { λ r. ⌜ r ≡ at + 4 ⌝ }
@@ -149,19 +150,20 @@ fn tell_status(out: &mut [u8], at: usize, n: ChannelNumber, link: u8) -> usize
 }
 
 // Writes the answer to GET CHANNEL STATUS: a result and a status for each open channel, rising; none open: 00 00.
-pub fn tell_statuses(out: &mut [u8], d: Details, result: u8, channels: [Channel; 7]) -> usize
-    requires { ⌜ (length channels ≡ 7) × (40 ≤ length (now out)) ⌝ }
-    ensures { λ r. ⌜ ((p : List ℕ) → Stands (response d (done result (statuses (statusesFrom 1 (chansIn channels p))))) r (now (out .entry)) (now (out .exit))) ⌝ }
+pub fn tell_statuses(out: &mut [u8], d: Details, result: u8, ledger: &[u16; 50]) -> usize
+    requires { ⌜ (length (now ledger) ≡ 50) × (40 ≤ length (now out)) ⌝ }
+    ensures { λ r. ⌜ ((p : List ℕ) → Stands (response d (done result (statuses (statusesFrom 1 (chansIn (ledgerIn (now (ledger .entry)) .channels) p))))) r (now (out .entry)) (now (out .exit))) ⌝ }
 {
     let head = tell_result(out, d, result);
     let mut at = head;
     let mut k: usize = 0;
     while k < 7 {
-        let c = channels[k];
-        let link = c.link;
         k += 1;
+        let n = ChannelNumber(k as u8);
+        let c = entry(ledger, n);
+        let link = c.link;
         if 0 < c.grant {
-            at = tell_status(out, at, ChannelNumber(k as u8), link);
+            at = tell_status(out, at, n, link);
         }
     }
     if head < at {

@@ -13,6 +13,8 @@ use mathlib.Core.Path.{_≡_, refl}
 use Rattle.rules.specs.Checks.{every, member}
 use Prim.Native.Nat.{_-_}
 use denote.Ref.{now}
+use Rattle.octets.specs.Parts.{part}
+use Rattle.octets.proofs.Copies.{length-part}
 use Rattle.own.proofs.all_allowed.Statement.{statement}
 use Rattle.own.proofs.all_allowed.Tie as tie
 use Rattle.own.proofs.all_allowed.Reads as reads
@@ -20,10 +22,19 @@ use Rattle.own.proofs.all_allowed.Lts as lts
 use Rattle.own.proofs.allows_event.Reads as allows-event-reads
 
 abbrev Inv-loop : tie.InvT-loop
-Inv-loop profile events i₀ i = (every (allowsEvent profile) events ≡ every (allowsEvent profile) (drop i events)) × (i ≤ length events)
+Inv-loop ledger events profile i₀ i = (every (allowsEvent (part 0 13 ledger)) events ≡ every (allowsEvent (part 0 13 ledger)) (drop i events)) × (i ≤ length events)
 
 abbrev μ-loop : tie.MeasureT-loop
-μ-loop profile events i₀ i = length events - i
+μ-loop ledger events profile i₀ i = length events - i
+
+sub-profile : tie.Need-sub-profile Inv-loop μ-loop
+sub-profile c = omega (arith, c .before .before .pre)
+
+part-profile-start : tie.Need-part-profile-start Inv-loop μ-loop
+part-profile-start c = omega (arith, c .before .before .pre)
+
+part-profile-end : tie.Need-part-profile-end Inv-loop μ-loop
+part-profile-end c = omega (arith, c .before .before .pre)
 
 loop-holds : tie.Need-loop-holds Inv-loop μ-loop
 loop-holds c = (refl, omega arith)
@@ -32,7 +43,7 @@ shared-slice-read-allows-event : tie.Need-shared-slice-read-allows-event Inv-loo
 shared-slice-read-allows-event c = omega arith
 
 allows-event-requires : tie.Need-allows-event-requires Inv-loop μ-loop
-allows-event-requires c κs = tt
+allows-event-requires c κs = let n = length-part 0 13 (now (c .before .before .before .before .before .before .args .ledger)) (c .before .before .before .before .before .before .pre) in omega arith
 
 returns : tie.Need-returns Inv-loop μ-loop
 returns c = sym (every-at _ _ _ false (c .before .before .before .loop-test .taken) (sym (c .before .allows-event .ensures) ∙ not-true _ (c .if1 .taken)) (c .before .before .before .before .loop .inv .0))
@@ -55,6 +66,9 @@ all-allowed-spec =
     (tie.spec
     Inv-loop
     μ-loop
+    sub-profile
+    part-profile-start
+    part-profile-end
     loop-holds
     shared-slice-read-allows-event
     allows-event-requires

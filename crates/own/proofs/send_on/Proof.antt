@@ -16,15 +16,13 @@ make-ready-requires c κs = search needs
 
 returns : tie.Need-returns
 unfolding bit1
-returns c =
-    let s = c .before .before in
-    λ q g. ready-shows _ q _ (s .args .qualifier) _ (eq-eqb (s .args .qualifier % 2) 1 (c .before .if1 .taken)) (c .make-ready .ensures q g)
+returns c = λ p g.
+    let s = c .make-ready .ensures p g in
+    record { shows = ready-shows _ p _ (c .before .before .before .args .qualifier) _ (eq-eqb (c .before .before .before .args .qualifier % 2) 1 (c .before .before .if1 .taken)) (s .shows); kept = s .kept }
 
 returns-2 : tie.Need-returns-2
 unfolding bit1
-returns-2 c =
-    let s = c .before in
-    λ q g. still-shows _ q _ (s .args .qualifier) (ne-eqb (s .args .qualifier % 2) 1 (c .if1 .left)) g
+returns-2 c = λ p g. record { shows = still-shows _ p _ (c .before .args .qualifier) (ne-eqb (c .before .args .qualifier % 2) 1 (c .if1 .left)) (g .good); kept = g .kept }
 
 pub send-on-spec : {M : Type 1} → statement M
 send-on-spec = tie.close (tie.spec make-ready-requires returns returns-2)

@@ -4,10 +4,16 @@ use Prim.Native.Nat.{ℕ, _+_, _-_, _≤_, _<_}
 use mathlib.Core.Path.{_≡_, refl, sym, ap, subst, _∙_}
 use mathlib.Core.List.{List}
 use native.Mathlib.Omega.{arith}
-use lib.ListN.{length}
+use lib.ListN.{length, getD}
 use denote.Ref.{now}
 use borrow.Author.Needs.{needs}
+use Rattle.rules.specs.Frames.{objectBytes}
+use Rattle.rules.specs.Written.{statusObject}
+use Rattle.octets.specs.Parts.{pasted}
 use Rattle.session.specs.declared.Channel.{Channel}
+use Rattle.session.specs.Book.{ledgerIn}
+use Rattle.session.specs.Picture.{linkOf}
+use Rattle.session.proofs.Numbers.{seven-entries}
 use Rattle.responses.proofs.Writes.{head-size, after-head}
 use Rattle.responses.proofs.Statuses.{Sofar, sofar-none, sofar-fits, sofar-closed, sofar-open, sofar-end, some-stand, none-stands}
 use Rattle.responses.proofs.tell_statuses.Statement.{statement}
@@ -17,32 +23,32 @@ use Rattle.responses.proofs.tell_statuses.Lts as lts
 use Rattle.octets.proofs.put.Reads as put-reads
 use Rattle.responses.proofs.tell_result.Reads as tell-result-reads
 use Rattle.responses.proofs.tell_status.Reads as tell-status-reads
+use Rattle.session.proofs.entry.Reads as entry-reads
 
 abbrev Inv-loop : tie.InvT-loop
-Inv-loop out₀ result channels head at₀ k₀ out at k = Sofar channels head out₀ k at out
+Inv-loop out₀ result ledger head at₀ k₀ out at k = Sofar (ledgerIn ledger .channels) head out₀ k at out
 
 abbrev μ-loop : tie.MeasureT-loop
-μ-loop out₀ result channels head at₀ k₀ out at k = 7 - k
+μ-loop out₀ result ledger head at₀ k₀ out at k = 7 - k
+
+-- the entry that was read is that of the channel at hand
+at-hand : (es : List Channel) (k : ℕ) (d : Channel) → getD es (k + 1 - 1) d ≡ getD es k d
+at-hand es k d = ap (λ (j : ℕ). getD es j d) (let e : k + 1 - 1 ≡ k = omega arith in e)
 
 tell-result-requires : tie.Need-tell-result-requires Inv-loop μ-loop
 tell-result-requires c κs = search needs
 
 loop-holds : tie.Need-loop-holds Inv-loop μ-loop
-loop-holds c =
-    let s = c .before .before .before .before .before in
-    sofar-none _ _ _ (after-head _ _ _ _ _ 28 (c .before .before .tell-result .ensures) (s .pre .1))
-
-mul-c : tie.Need-mul-c Inv-loop μ-loop
-mul-c c = search needs
-
-array-copy-out-c : tie.Need-array-copy-out-c Inv-loop μ-loop
-array-copy-out-c c = search needs
+loop-holds c = sofar-none _ _ _ (after-head _ _ _ _ _ 28 (c .before .before .tell-result .ensures) (c .before .before .before .before .before .pre .1))
 
 add-k : tie.Need-add-k Inv-loop μ-loop
 add-k c = search needs
 
-cast-t21 : tie.Need-cast-t21 Inv-loop μ-loop
-cast-t21 c = search needs
+cast-t15 : tie.Need-cast-t15 Inv-loop μ-loop
+cast-t15 c = search needs
+
+entry-requires : tie.Need-entry-requires Inv-loop μ-loop
+entry-requires c κs = (omega arith, omega arith, c .before .before .before .before .before .before .before .pre .0)
 
 tell-status-requires : tie.Need-tell-status-requires Inv-loop μ-loop
 tell-status-requires c κs =
@@ -54,25 +60,28 @@ loop-less c = search needs
 
 loop-again : tie.Need-loop-again Inv-loop μ-loop
 loop-again c =
-    let s = c .before .before .before .before .before .before .before .before .before .before .before .before .before .before in
+    let es = ledgerIn (now (c .before .before .before .before .before .before .before .before .before .before .before .before .before .before .args .ledger)) .channels in
+    let k = c .before .before .before .before .before .before .before .before .loop .k in
+    let x = c .before .before .before .before .before .before .entry .ensures ∙ at-hand es k _ in
     let t = c .before .before .tell-status .ensures in
-    sofar-open _ _ _ _ _ _ _ _ _ (c .before .before .before .before .before .before .before .before .loop .inv) (s .pre .0) (c .before .before .before .before .before .before .before .loop-test .taken) (c .before .before .before .before .if1 .taken) (t .1) (t .0)
+    let s = t .0 ∙ ap (λ (e : Channel). pasted (c .before .before .before .before .before .before .before .before .loop .out) (c .before .before .before .before .before .before .before .before .loop .at) (objectBytes (statusObject (record { 0 = k + 1 }) (linkOf (e .link))))) x in
+    sofar-open es _ _ k _ _ _ _ _ (c .before .before .before .before .before .before .before .before .loop .inv) (seven-entries (now (c .before .before .before .before .before .before .before .before .before .before .before .before .before .before .args .ledger))) (c .before .before .before .before .before .before .before .loop-test .taken) (subst (λ (e : Channel). 1 ≤ e .grant) x (c .before .before .before .before .if1 .taken)) (t .1) s
 
 loop-less-2 : tie.Need-loop-less-2 Inv-loop μ-loop
 loop-less-2 c = search needs
 
 loop-again-2 : tie.Need-loop-again-2 Inv-loop μ-loop
 loop-again-2 c =
-    let s = c .before .before .before .before .before .before .before .before .before .before in
-    sofar-closed _ _ _ _ _ _ _ (c .before .before .before .before .loop .inv) (s .pre .0) (c .before .before .before .loop-test .taken) (c .if1 .left)
+    let es = ledgerIn (now (c .before .before .before .before .before .before .before .before .before .before .args .ledger)) .channels in
+    let k = c .before .before .before .before .loop .k in
+    let x = c .before .before .entry .ensures ∙ at-hand es k _ in
+    sofar-closed es _ _ k _ _ _ (c .before .before .before .before .loop .inv) (seven-entries (now (c .before .before .before .before .before .before .before .before .before .before .args .ledger))) (c .before .before .before .loop-test .taken) (subst (λ (e : Channel). e .grant ≤ 0) x (c .if1 .left))
 
 same-length : tie.Need-same-length Inv-loop μ-loop
 same-length c = search needs
 
 returns : tie.Need-returns Inv-loop μ-loop
-returns c =
-    let s = c .before .before .before .before .before .before .before .before in
-    some-stand _ _ _ _ _ _ _ _ (c .before .before .before .before .before .tell-result .ensures) (sofar-end _ _ _ _ _ _ (c .before .before .loop .inv) (c .before .loop-test .left)) (s .pre .0) (s .pre .1) (c .if2 .taken)
+returns c = some-stand _ _ _ _ _ _ _ _ (c .before .before .before .before .before .tell-result .ensures) (sofar-end _ _ _ _ _ _ (c .before .before .loop .inv) (c .before .loop-test .left)) (seven-entries (now (c .before .before .before .before .before .before .before .before .args .ledger))) (c .before .before .before .before .before .before .before .before .pre .1) (c .if2 .taken)
 
 slice-aggregate-put : tie.Need-slice-aggregate-put Inv-loop μ-loop
 slice-aggregate-put c = search needs
@@ -83,17 +92,13 @@ put-requires c κs =
     sofar-fits _ _ _ _ _ _ w (omega (arith, c .before .before .if2 .left))
 
 add-result : tie.Need-add-result Inv-loop μ-loop
-add-result c =
-    let s = c .before .before .before .before .before .before .before .before .before .before .before .before .before in
-    omega (arith, c .before .before .before .before .before .if2 .left, c .before .before .before .before .before .before .before .before .before .before .tell-result .ensures .counted, head-size (s .args .d) (s .args .result))
+add-result c = omega (arith, c .before .before .before .before .before .if2 .left, c .before .before .before .before .before .before .before .before .before .before .tell-result .ensures .counted, head-size (c .before .before .before .before .before .before .before .before .before .before .before .before .before .args .d) (c .before .before .before .before .before .before .before .before .before .before .before .before .before .args .result))
 
 same-length-2 : tie.Need-same-length-2 Inv-loop μ-loop
 same-length-2 c = search needs
 
 returns-2 : tie.Need-returns-2 Inv-loop μ-loop
-returns-2 c =
-    let s = c .before .before .before .before .before .before .before .before .before .before .before .before .before in
-    none-stands _ _ _ _ _ _ _ _ (c .before .before .before .before .before .before .before .before .before .before .tell-result .ensures) (sofar-end _ _ _ _ _ _ (c .before .before .before .before .before .before .before .loop .inv) (c .before .before .before .before .before .before .loop-test .left)) (s .pre .0) (s .pre .1) (c .before .before .before .before .before .if2 .left) _ (c .before .before .put .ensures)
+returns-2 c = none-stands _ _ _ _ _ _ _ _ (c .before .before .before .before .before .before .before .before .before .before .tell-result .ensures) (sofar-end _ _ _ _ _ _ (c .before .before .before .before .before .before .before .loop .inv) (c .before .before .before .before .before .before .loop-test .left)) (seven-entries (now (c .before .before .before .before .before .before .before .before .before .before .before .before .before .args .ledger))) (c .before .before .before .before .before .before .before .before .before .before .before .before .before .pre .1) (c .before .before .before .before .before .if2 .left) _ (c .before .before .put .ensures)
 
 pub tell-statuses-spec : {M : Type 1} → statement M
 tell-statuses-spec =
@@ -103,10 +108,9 @@ tell-statuses-spec =
     μ-loop
     tell-result-requires
     loop-holds
-    mul-c
-    array-copy-out-c
     add-k
-    cast-t21
+    cast-t15
+    entry-requires
     tell-status-requires
     loop-less
     loop-again
