@@ -2,24 +2,23 @@
 -- Assumes nothing.
 use Prim.Native.Nat.{ℕ, zero, suc, _+_, _-_, _≤_, _<_, min}
 use mathlib.Core.Path.{_≡_, refl, sym, ap, subst, _∙_}
-use mathlib.Core.Bool.{Bool, true, false, not, _&&_, false≢true}
-use mathlib.Core.List.{List, [], _∷_, _++_}
+use mathlib.Core.Bool.{true, false, not, _&&_, false≢true}
+use mathlib.Core.List.{List, [], _∷_}
 use native.Mathlib.Omega.{arith}
-use native.Mathlib.Nat.{zero-add}
-use lib.ListN.{length, take, drop, length-append, length-take}
+use native.Mathlib.Nat.{not-suc-le-zero, le-of-suc-le-suc}
+use lib.ListN.{length, take, getD, length-append, length-take}
 use lib.Dec.{ltb, leb}
 use borrow.Author.Tests.{lt-ltb, le-ltb, leb-true}
 use Rattle.rules.specs.declared.ChannelNumber.{ChannelNumber}
 use Rattle.rules.specs.declared.Link.{Link}
 use Rattle.rules.specs.declared.Link.the-variants.{NotYet, Established, Dropped}
-use Rattle.rules.specs.declared.Refusal.{Refusal}
 use Rattle.rules.specs.declared.Refusal.the-variants.{Overfull}
 use Rattle.rules.specs.Checks.{_⇒_else_, isEmpty}
-use Rattle.rules.specs.State.{State, Chan, chan, withChan, isOpen, isEstablished, room, arrived, taken, dropped}
+use Rattle.rules.specs.State.{State, chan, withChan, isOpen, isEstablished, room, arrived, taken, dropped}
 use Rattle.rules.specs.Own.{capped}
 use Rattle.rules.specs.Frames.{lengthBytes, objectBytes, written}
 use Rattle.rules.specs.Written.{unflagged, statusBytes, statusObject, eventBytes}
-use Rattle.rules.specs.Command.{Answer, answered, refusal}
+use Rattle.rules.specs.Command.{answered, refusal}
 use Rattle.rules.specs.Radio.{numbered, arrivalEvent, arrival, taking, dropEvent, dropping}
 use Rattle.rules.specs.Run.{arriving, takingOut, droppingLink, step}
 use Rattle.rules.specs.Sound.{Sound}
@@ -27,15 +26,16 @@ use Rattle.rules.proofs.Laws.{branch, stop, skip, not-not, both-left, both-righ
 use Rattle.rules.proofs.Soundness.{step-sound}
 use Rattle.octets.specs.Parts.{part, pasted}
 use Rattle.session.specs.declared.Ended.the-variants.{Wrote, Refused}
-use Rattle.session.specs.Book.{Ledger}
+use Rattle.session.specs.declared.Channel.{Channel}
+use Rattle.session.specs.Book.{Ledger, listed, ledgerIn}
 use Rattle.radio.specs.declared.Permit.{Permit}
-use Rattle.radio.specs.declared.Permit.the-variants.{Pass, Refuse}
-use Rattle.session.specs.Picture.{space, baseOf, shown, Shows, GoodIn}
-use Rattle.session.specs.Calls.{overlaid, Answers}
+use Rattle.radio.specs.declared.Permit.the-variants.{Pass}
+use Rattle.session.specs.Picture.{space, baseOf, shown, shownAt, GoodAt}
+use Rattle.session.specs.Calls.{overlaid, Answers, AnswersAt}
 use Rattle.radio.specs.Permits.{permitOf, arrivalTold, dropTold}
-use Rattle.session.specs.Changed.{Numbered, chanIn, entryIn, Changed}
+use Rattle.session.specs.Changed.{NumberedAt, chanAt, entryIn, ChangedAt}
 use Rattle.session.proofs.Facts.{Bounds, bounds, send-read}
-use Rattle.radio.proofs.Permits.{refuse-pass, permitting, arrival-by, arrival-short, taking-by, dropping-by, dropping-short, taking-permit, dropping-permit}
+use Rattle.radio.proofs.Permits.{refuse-pass, permitting, arrival-by, taking-permit, dropping-permit}
 use Rattle.session.proofs.Answers.{refuse-answers, wrote-answers, quiet-answers, front-over}
 
 -- the calls leave a sound state
@@ -158,81 +158,125 @@ pub drop-size : (n : ChannelNumber) → length (dropTold n) ≡ 13
 unfolding dropTold eventBytes written objectBytes statusObject statusBytes lengthBytes _⇒_else_
 drop-size n = refl
 
--- the arrival on a channel that may be used, case by case
-module _ (l : Ledger) (p : List ℕ) (n : ChannelNumber) (m out : List ℕ) (g : GoodIn l p) (pre : (permitOf (shown l p) n ≡ Pass) × (16 ≤ length out)) where
+-- an event is listed where its number is not 0
+unlisted-is : (k : ℕ) → k < 1 → listed k ≡ false
+unlisted-is zero h = refl
+unlisted-is (suc k) h = absurd (not-suc-le-zero (le-of-suc-le-suc h))
+
+listed-is : (k : ℕ) → 1 ≤ k → listed k ≡ true
+listed-is zero h = absurd (not-suc-le-zero h)
+listed-is (suc k) h = refl
+
+module _ (t : List ℕ) where
+  available-no : getD t 13 0 < 1 → ledgerIn t .events .available ≡ false
+  unfolding ledgerIn
+  available-no h = unlisted-is (getD t 13 0) h
+
+  available-yes : 1 ≤ getD t 13 0 → ledgerIn t .events .available ≡ true
+  unfolding ledgerIn
+  available-yes h = listed-is (getD t 13 0) h
+
+  status-no : getD t 14 0 < 1 → ledgerIn t .events .status ≡ false
+  unfolding ledgerIn
+  status-no h = unlisted-is (getD t 14 0) h
+
+  status-yes : 1 ≤ getD t 14 0 → ledgerIn t .events .status ≡ true
+  unfolding ledgerIn
+  status-yes h = listed-is (getD t 14 0) h
+
+-- a channel that may be used is one of the seven
+module _ (t p : List ℕ) (n : ChannelNumber) (g : GoodAt t p) (pass : permitOf (shownAt t p) n ≡ Pass) where
+  pub pass-named : NumberedAt t p n
+  pass-named =
+      let y = passed (shownAt t p) n pass in
+      record { numbered = record { good = g .good; low = y .low; high = y .high }; kept = g .kept }
+
+  pub pass-bounds : Bounds (ledgerIn t) p n
+  pass-bounds = bounds (ledgerIn t) p n (pass-named .numbered)
+
+-- the arrival on a channel that may be used, case by case; x is its entry, as it was read
+module _ (t p : List ℕ) (n : ChannelNumber) (m out : List ℕ) (g : GoodAt t p) (pre : (permitOf (shownAt t p) n ≡ Pass) × (16 ≤ length out)) (x : Channel) (x-is : x ≡ entryIn (ledgerIn t) n) where
   abbrev q : State
-  q = shown l p
+  q = shownAt t p
 
-  named : Numbered l p n
-  named = let y = passed q n (pre .0) in record { good = g; low = y .low; high = y .high }
+  grant-is : x .grant ≡ chanAt t p n .grant
+  grant-is = ap (λ (y : Channel). y .grant) x-is ∙ pass-bounds t p n g (pre .0) .grant-is
 
-  pub accept-named : Numbered l p n
-  accept-named = named
+  rx-is : x .rx ≡ length (chanAt t p n .recv)
+  rx-is = ap (λ (y : Channel). y .rx) x-is ∙ pass-bounds t p n g (pre .0) .rx-is
 
-  pub accept-bounds : Bounds l p n
-  accept-bounds = bounds l p n named
+  pub accept-fits : x .rx ≤ x .grant
+  accept-fits = let b = pass-bounds t p n g (pre .0) in omega (arith, grant-is, rx-is, b .grant-is, b .rx-is, b .rx-fits)
 
-  pub accept-overfull : entryIn l n .grant - entryIn l n .rx < length m → Answers (arrival q (length out) n m) l p (Refused Overfull) out out
+  pub accept-overfull : x .grant - x .rx < length m → AnswersAt (arrival q (length out) n m) t p (Refused Overfull) out out
   unfolding room
   accept-overfull h =
-      let b = accept-bounds in
-      refuse-answers _ l p out Overfull g (overfull l p n m (length out) (pre .1) (pre .0) (omega arith))
+      record {
+        answers =
+            refuse-answers _ (ledgerIn t) p out Overfull (g .good)
+            (overfull (ledgerIn t) p n m (length out) (pre .1) (pre .0) (omega (arith, grant-is, rx-is)));
+        kept = g .kept;
+      }
 
-  pub accept-room : length m ≤ entryIn l n .grant - entryIn l n .rx → length m ≤ room (chanIn l p n .grant) (chanIn l p n .recv)
+  pub accept-room : length m ≤ x .grant - x .rx → length m ≤ room (chanAt t p n .grant) (chanAt t p n .recv)
   unfolding room
-  accept-room h = let b = accept-bounds in omega arith
+  accept-room h = omega (arith, grant-is, rx-is)
 
-  module _ (fit : length m ≤ entryIn l n .grant - entryIn l n .rx) (k : Ledger) (r : List ℕ) (s : Changed l p n (arrived (chanIn l p n) m) k r) where
-    stored-is : arrival q (length out) n m ≡ answered (withChan q n (arrived (chanIn l p n) m)) (arrivalEvent q n m)
-    stored-is = fitting l p n m (length out) (pre .1) (pre .0) (accept-room fit)
+  module _ (fit : length m ≤ x .grant - x .rx) (u r : List ℕ) (s : ChangedAt t p n (arrived (chanAt t p n) m) u r) where
+    stored-is : arrival q (length out) n m ≡ answered (withChan q n (arrived (chanAt t p n) m)) (arrivalEvent q n m)
+    stored-is = fitting (ledgerIn t) p n m (length out) (pre .1) (pre .0) (accept-room fit)
 
     sound : Sound (arrival q (length out) n m .state)
-    sound = arrival-sound q (length out) n m (g .sound)
+    sound = arrival-sound q (length out) n m (g .good .sound)
 
-    pub accept-empty : length m ≡ 0 → Answers (arrival q (length out) n m) k r (Wrote 0) out out
-    accept-empty e = quiet-answers _ _ _ k r out sound stored-is (quiet-empty q n m e) s
+    pub accept-empty : length m ≡ 0 → AnswersAt (arrival q (length out) n m) u r (Wrote 0) out out
+    accept-empty e =
+        record { answers = quiet-answers _ _ _ (ledgerIn u) r out sound stored-is (quiet-empty q n m e) (s .shows); kept = s .kept }
 
-    pub accept-unlisted : l .events .available ≡ false → Answers (arrival q (length out) n m) k r (Wrote 0) out out
+    pub accept-unlisted : getD t 13 0 < 1 → AnswersAt (arrival q (length out) n m) u r (Wrote 0) out out
     unfolding shown
-    accept-unlisted e = quiet-answers _ _ _ k r out sound stored-is (quiet-unlisted q n m e) s
+    accept-unlisted e =
+        record { answers = quiet-answers _ _ _ (ledgerIn u) r out sound stored-is (quiet-unlisted q n m (available-no t e)) (s .shows); kept = s .kept }
 
     pub accept-told :
-        (after : List ℕ) → (length m ≡ 0 → ⊥) → l .events .available ≡ true → after ≡ overlaid (arrivalTold n (entryIn l n .rx + length m)) out →
-        Answers (arrival q (length out) n m) k r (Wrote 16) out after
+        (after : List ℕ) → (length m ≡ 0 → ⊥) → 1 ≤ getD t 13 0 → after ≡ overlaid (arrivalTold n (x .rx + length m)) out →
+        AnswersAt (arrival q (length out) n m) u r (Wrote 16) out after
     unfolding shown
     accept-told after some e o =
-        let b = accept-bounds in
-        let t = told-arrival q n m some e (passed q n (pre .0) .link) in
-        let held = ap (λ (x : ℕ). arrivalTold n (x + length m)) (b .rx-is) in
-        subst (λ (x : ℕ). Answers (arrival q (length out) n m) k r (Wrote x) out after) (arrival-size n (entryIn l n .rx + length m))
-        (wrote-answers _ _ (arrivalTold n (entryIn l n .rx + length m)) k r out after sound (stored-is ∙ ap (answered _) (t ∙ sym held)) s o)
+        let f = told-arrival q n m some (available-yes t e) (passed q n (pre .0) .link) in
+        let held = ap (λ (k : ℕ). arrivalTold n (k + length m)) rx-is in
+        record {
+          answers =
+              subst (λ (k : ℕ). Answers (arrival q (length out) n m) (ledgerIn u) r (Wrote k) out after) (arrival-size n (x .rx + length m))
+              (wrote-answers _ _ (arrivalTold n (x .rx + length m)) (ledgerIn u) r out after sound (stored-is ∙ ap (answered _) (f ∙ sym held)) (s .shows) o);
+          kept = s .kept;
+        }
 
--- the take on a channel that may be used
-module _ (l : Ledger) (p : List ℕ) (n : ChannelNumber) (out : List ℕ) (g : GoodIn l p) (pass : permitOf (shown l p) n ≡ Pass) where
-  pub pass-named : Numbered l p n
-  pass-named = let y = passed (shown l p) n pass in record { good = g; low = y .low; high = y .high }
-
-  pub pass-bounds : Bounds l p n
-  pass-bounds = bounds l p n pass-named
-
+-- the take on a channel that may be used; x is its entry, as it was read, and its cells to send begin at + sp
+module _ (t p : List ℕ) (n : ChannelNumber) (out : List ℕ) (g : GoodAt t p) (pass : permitOf (shownAt t p) n ≡ Pass) where
   pub hand-over :
-      (k : ℕ) (m : Ledger) (r after : List ℕ) → k ≡ min (length out) (entryIn l n .ready) → Changed l p n (taken (chanIn l p n) k) m r →
-      after ≡
-      pasted out 0
-      (part (baseOf (l .channels) (n .0 - 1) + space (entryIn l n .grant)) (baseOf (l .channels) (n .0 - 1) + space (entryIn l n .grant) + k) p) →
-      Answers (taking (shown l p) (length out) n) m r (Wrote k) out after
-  hand-over k m r after e s o =
-      let b = pass-bounds in
-      let a = shown l p in
-      let f : k ≤ length (chanIn l p n .send) = omega arith in
-      let e′ : k ≡ min (length out) (chan a n .ready) = e ∙ ap (λ (j : ℕ). min (length out) j) (b .ready-is) in
+      (x : Channel) → x ≡ entryIn (ledgerIn t) n → (at sp : ℕ) → at ≡ baseOf (ledgerIn t .channels) (n .0 - 1) → sp ≡ space (x .grant) →
+      (k : ℕ) (u r after : List ℕ) → k ≡ min (length out) (x .ready) → ChangedAt t p n (taken (chanAt t p n) k) u r →
+      after ≡ pasted out 0 (part (at + sp) (at + sp + k) p) → AnswersAt (taking (shownAt t p) (length out) n) u r (Wrote k) out after
+  hand-over x x-is at sp at-is sp-is k u r after e s o =
+      let h = pass-named t p n g pass .numbered in
+      let b = pass-bounds t p n g pass in
+      let a = shownAt t p in
+      let e′ : k ≡ min (length out) (chan a n .ready) = e ∙ ap (λ (y : Channel). min (length out) (y .ready)) x-is ∙ ap (λ (j : ℕ). min (length out) j) (b .ready-is) in
+      let f : k ≤ length (chanAt t p n .send) = omega (arith, e′, b .ready-is, b .tx-is, b .ready-held) in
+      let from : at + sp ≡ baseOf (ledgerIn t .channels) (n .0 - 1) + space (entryIn (ledgerIn t) n .grant) =
+      λ i. at-is i + (sp-is ∙ ap (λ (y : Channel). space (y .grant)) x-is) i in
       let size : length (take k (chan a n .send)) ≡ k = simp length-take (omega arith) in
       let is =
       taking-permit a (length out) n Pass pass
       ∙ ap (λ (j : ℕ). answered (withChan a n (taken (chan a n) j)) (take j (chan a n .send))) (sym e′) in
-      subst (λ (j : ℕ). Answers (taking a (length out) n) m r (Wrote j) out after) size
-      (wrote-answers _ _ (take k (chan a n .send)) m r out after (taking-sound a (length out) n (g .sound)) is s
-      (o ∙ front-over out _ ∙ ap (λ (t : List ℕ). overlaid t out) (send-read l p n pass-named k f)))
+      record {
+        answers =
+            subst (λ (j : ℕ). Answers (taking a (length out) n) (ledgerIn u) r (Wrote j) out after) size
+            (wrote-answers _ _ (take k (chan a n .send)) (ledgerIn u) r out after (taking-sound a (length out) n (g .good .sound)) is (s .shows)
+            (o ∙ front-over out _ ∙ ap (λ (v : List ℕ). overlaid v out) (ap (λ (j : ℕ). part j (j + k) p) from ∙ send-read (ledgerIn t) p n h k f)));
+        kept = s .kept;
+      }
 
 unlisted-drop : (l : Ledger) (p : List ℕ) (n : ChannelNumber) → l .events .status ≡ false → dropEvent (shown l p) n ≡ []
 unfolding dropEvent shown
@@ -243,16 +287,30 @@ unfolding dropEvent dropTold dropped shown
 listed-drop l p n e = stop _ _ _ e
 
 -- the drop on a channel that may be used
-module _ (l : Ledger) (n : ChannelNumber) (out : List ℕ) (fit : 16 ≤ length out) (m : Ledger) where
-  module _ (p : List ℕ) (g : GoodIn l p) (pass : permitOf (shown l p) n ≡ Pass) (s : Changed l p n (dropped (chanIn l p n)) m p) where
-    dropped-is : dropping (shown l p) (length out) n ≡ answered (withChan (shown l p) n (dropped (chanIn l p n))) (dropEvent (shown l p) n)
-    dropped-is = dropping-permit (shown l p) (length out) n Pass fit pass
+module _ (t : List ℕ) (n : ChannelNumber) (out : List ℕ) (fit : 16 ≤ length out) (u : List ℕ) where
+  module _ (p : List ℕ) (g : GoodAt t p) (pass : permitOf (shownAt t p) n ≡ Pass) (s : ChangedAt t p n (dropped (chanAt t p n)) u p) where
+    abbrev d : State
+    d = shownAt t p
 
-    pub drop-quiet : l .events .status ≡ false → Answers (dropping (shown l p) (length out) n) m p (Wrote 0) out out
-    drop-quiet e = quiet-answers _ _ _ m p out (dropping-sound (shown l p) (length out) n (g .sound)) dropped-is (unlisted-drop l p n e) s
+    dropped-is : dropping d (length out) n ≡ answered (withChan d n (dropped (chanAt t p n))) (dropEvent d n)
+    dropped-is = dropping-permit d (length out) n Pass fit pass
+
+    sound-drop : Sound (dropping d (length out) n .state)
+    sound-drop = dropping-sound d (length out) n (g .good .sound)
+
+    pub drop-quiet : getD t 14 0 < 1 → AnswersAt (dropping d (length out) n) u p (Wrote 0) out out
+    drop-quiet e =
+        record {
+          answers = quiet-answers _ _ _ (ledgerIn u) p out sound-drop dropped-is (unlisted-drop (ledgerIn t) p n (status-no t e)) (s .shows);
+          kept = s .kept;
+        }
 
     pub drop-told :
-        (after : List ℕ) → l .events .status ≡ true → after ≡ overlaid (dropTold n) out → Answers (dropping (shown l p) (length out) n) m p (Wrote 13) out after
+        (after : List ℕ) → 1 ≤ getD t 14 0 → after ≡ overlaid (dropTold n) out → AnswersAt (dropping d (length out) n) u p (Wrote 13) out after
     drop-told after e o =
-        subst (λ (k : ℕ). Answers (dropping (shown l p) (length out) n) m p (Wrote k) out after) (drop-size n)
-        (wrote-answers _ _ (dropTold n) m p out after (dropping-sound (shown l p) (length out) n (g .sound)) (dropped-is ∙ ap (answered _) (listed-drop l p n e)) s o)
+        record {
+          answers =
+              subst (λ (k : ℕ). Answers (dropping d (length out) n) (ledgerIn u) p (Wrote k) out after) (drop-size n)
+              (wrote-answers _ _ (dropTold n) (ledgerIn u) p out after sound-drop (dropped-is ∙ ap (answered _) (listed-drop (ledgerIn t) p n (status-yes t e))) (s .shows) o);
+          kept = s .kept;
+        }

@@ -2,9 +2,7 @@
 -- Assumes nothing.
 use mathlib.Core.Path.{refl, sym, _∙_}
 use Rattle.outcomes.specs.Determined.{Determined}
-use Rattle.session.proofs.Alike.{lent-alike, pool-told, told-alike, answered-alike}
-use Rattle.radio.proofs.permitted.Kinds as permitted-kinds
-use Rattle.radio.proofs.permitted.Reads as permitted-reads
+use Rattle.session.proofs.Alike.{ended-alike, ledger-told, lent-alike, pool-told, answered-alike}
 use Rattle.radio.proofs.tell_arrival.Kinds as tell-arrival-kinds
 use Rattle.radio.proofs.tell_arrival.Reads as tell-arrival-reads
 use Rattle.radio.proofs.tell_drop.Kinds as tell-drop-kinds
@@ -22,26 +20,23 @@ use Rattle.radio.proofs.take.Reads as take-reads
 use Rattle.radio.proofs.drop.Kinds as drop-kinds
 use Rattle.radio.proofs.drop.Reads as drop-reads
 
-pub permitted-settled : Determined 0 permitted-kinds.ps permitted-kinds.r permitted-reads.Pre permitted-reads.Post
-permitted-settled κs a b x y v w p q = (p .0 (b .pool) (b .good) ∙ sym (q .0 (b .pool) (b .good)), refl)
-
 pub tell-arrival-settled : Determined 1 tell-arrival-kinds.ps tell-arrival-kinds.r tell-arrival-reads.Pre tell-arrival-reads.Post
 tell-arrival-settled κs a _ x y v w p q = (refl, λ i. ((p ∙ sym q) i, v .1))
 
 pub tell-drop-settled : Determined 1 tell-drop-kinds.ps tell-drop-kinds.r tell-drop-reads.Pre tell-drop-reads.Post
 tell-drop-settled κs a _ x y v w p q = (refl, λ i. ((p ∙ sym q) i, v .1))
 
-pub arrival-in-settled : Determined 3 arrival-in-kinds.ps arrival-in-kinds.r arrival-in-reads.Pre arrival-in-reads.Post
-arrival-in-settled κs a _ x y v w p q = (told-alike x y p q, λ i. (tt, (pool-told p q i, (tt, (tt, (lent-alike p q i, tt))))))
+pub arrival-in-settled : Determined 4 arrival-in-kinds.ps arrival-in-kinds.r arrival-in-reads.Pre arrival-in-reads.Post
+arrival-in-settled κs a _ x y v w p q = (ended-alike p q, λ i. (ledger-told p q i, (pool-told p q i, (tt, (tt, (lent-alike p q i, tt))))))
 
-pub taking-in-settled : Determined 2 taking-in-kinds.ps taking-in-kinds.r taking-in-reads.Pre taking-in-reads.Post
-taking-in-settled κs a _ x y v w p q = (told-alike x y p q, λ i. (tt, (pool-told p q i, (tt, (lent-alike p q i, tt)))))
+pub taking-in-settled : Determined 3 taking-in-kinds.ps taking-in-kinds.r taking-in-reads.Pre taking-in-reads.Post
+taking-in-settled κs a _ x y v w p q = (ended-alike p q, λ i. (ledger-told p q i, (pool-told p q i, (tt, (lent-alike p q i, tt)))))
 
-pub dropping-in-settled : Determined 1 dropping-in-kinds.ps dropping-in-kinds.r dropping-in-reads.Pre dropping-in-reads.Post
+pub dropping-in-settled : Determined 2 dropping-in-kinds.ps dropping-in-kinds.r dropping-in-reads.Pre dropping-in-reads.Post
 dropping-in-settled κs a b x y v w p q =
     let s = p (b .pool) (b .good) in
     let t = q (b .pool) (b .good) in
-    (told-alike x y s t, λ i. (tt, (tt, (lent-alike s t i, tt))))
+    (ended-alike s t, λ i. (ledger-told s t i, (tt, (lent-alike s t i, tt))))
 
 pub arrival-settled : Determined 2 arrival-kinds.ps arrival-kinds.r arrival-reads.Pre arrival-reads.Post
 arrival-settled κs a _ x y v w p q = (answered-alike x y p q, λ i. (tt, (tt, (tt, (lent-alike p q i, tt)))))

@@ -6,12 +6,11 @@ use rules::Link;
 use rules::Refusal;
 use session::Answered;
 use session::Ended;
-use session::Ledger;
-use session::Lent;
 use session::Session;
 use session::arrive;
 use session::base;
 use session::drop_link;
+use session::entry;
 use session::least;
 use session::link_of;
 use session::take_ready;
@@ -21,8 +20,8 @@ ghost use mathlib.Core.List.{List};
 ghost use Prim.Native.Nat.{ℕ, _≤_};
 ghost use lib.ListN.{length};
 ghost use Rattle.rules.specs.Radio.{arrival, taking, dropping};
-ghost use Rattle.session.specs.Picture.{Belongs, Good, GoodIn, shown, view};
-ghost use Rattle.session.specs.Calls.{overlaid, Answers};
+ghost use Rattle.session.specs.Picture.{Belongs, Good, GoodAt, shownAt, view};
+ghost use Rattle.session.specs.Calls.{overlaid, AnswersAt};
 ghost use Rattle.radio.specs.declared.Permit.the-variants.{Pass};
 ghost use Rattle.radio.specs.Permits.{permitOf, arrivalTold, dropTold};
 
@@ -33,9 +32,9 @@ pub enum Permit {
 }
 
 // R3, R4 and R5, in order.
-pub fn permitted(ledger: Ledger, n: ChannelNumber) -> Permit
-    requires { ⌜ Belongs ledger ⌝ }
-    ensures { λ r. ⌜ ((p : List ℕ) → GoodIn ledger p → r ≡ permitOf (shown ledger p) n) ⌝ }
+fn permitted(ledger: &[u16; 50], n: ChannelNumber) -> Permit
+    requires { ⌜ Belongs (now ledger) ⌝ }
+    ensures { λ r. ⌜ ((p : List ℕ) → GoodAt (now (ledger .entry)) p → r ≡ permitOf (shownAt (now (ledger .entry)) p) n) ⌝ }
     ensures { λ r. ⌜ (r ≡ Pass → (1 ≤ n .0) × (n .0 ≤ 7)) ⌝ }
 {
     let number = n.0;
@@ -45,8 +44,7 @@ pub fn permitted(ledger: Ledger, n: ChannelNumber) -> Permit
     if 7 < number {
         return Permit::Refuse(Refusal::NoChannel);
     }
-    let k = (number - 1) as usize;
-    let c = ledger.channels[k];
+    let c = entry(ledger, n);
     if c.grant < 1 {
         return Permit::Refuse(Refusal::Unopened);
     }
@@ -109,159 +107,128 @@ pub fn tell_drop(out: &mut [u8], n: ChannelNumber)
 
 // An arrival on a channel that may be used: R6, or the bytes are stored whole and event 09 tells of them.
 fn accept(
-    ledger: Ledger,
+    ledger: &mut [u16; 50],
     pool: &mut [u8; 8192],
     n: ChannelNumber,
     bytes: &[u8],
     out: &mut [u8],
-) -> Lent
-    requires { ⌜ GoodIn ledger (now pool) ⌝ }
-    requires { ⌜ (permitOf (shown ledger (now pool)) n ≡ Pass) × (16 ≤ length (now out)) ⌝ }
-    ensures { λ r. ⌜ Answers (arrival (shown ledger (now (pool .entry))) (length (now (out .entry))) n (now (bytes .entry))) (r .ledger) (now (pool .exit)) (r .ended) (now (out .entry)) (now (out .exit)) ⌝ }
+) -> Ended
+    requires { ⌜ GoodAt (now ledger) (now pool) ⌝ }
+    requires { ⌜ (permitOf (shownAt (now ledger) (now pool)) n ≡ Pass) × (16 ≤ length (now out)) ⌝ }
+    ensures { λ r. ⌜ AnswersAt (arrival (shownAt (now (ledger .entry)) (now (pool .entry))) (length (now (out .entry))) n (now (bytes .entry))) (now (ledger .exit)) (now (pool .exit)) r (now (out .entry)) (now (out .exit)) ⌝ }
 {
-    let k = (n.0 - 1) as usize;
-    let c = ledger.channels[k];
+    let c = entry(ledger, n);
+    let listed = ledger[13];
     let rx = c.rx as usize;
     let grant = c.grant as usize;
     if grant - rx < bytes.len() {
-        return Lent {
-            ledger,
-            ended: Ended::Refused(Refusal::Overfull),
-        };
+        return Ended::Refused(Refusal::Overfull);
     }
-    let next = arrive(ledger, pool, n, bytes);
+    arrive(ledger, pool, n, bytes);
     if bytes.len() == 0 {
-        return Lent {
-            ledger: next,
-            ended: Ended::Wrote(0),
-        };
+        return Ended::Wrote(0);
     }
-    let events = ledger.events;
-    if !events.available {
-        return Lent {
-            ledger: next,
-            ended: Ended::Wrote(0),
-        };
+    if listed < 1 {
+        return Ended::Wrote(0);
     }
     tell_arrival(out, n, rx + bytes.len());
-    Lent {
-        ledger: next,
-        ended: Ended::Wrote(16),
-    }
+    Ended::Wrote(16)
 }
 
-// The arrival call over a lent pool.
+// The arrival call over the record's two arrays.
 pub fn arrival_in(
-    ledger: Ledger,
+    ledger: &mut [u16; 50],
     pool: &mut [u8; 8192],
     n: ChannelNumber,
     bytes: &[u8],
     out: &mut [u8],
-) -> Lent
-    requires { ⌜ GoodIn ledger (now pool) ⌝ }
-    ensures { λ r. ⌜ Answers (arrival (shown ledger (now (pool .entry))) (length (now (out .entry))) n (now (bytes .entry))) (r .ledger) (now (pool .exit)) (r .ended) (now (out .entry)) (now (out .exit)) ⌝ }
+) -> Ended
+    requires { ⌜ GoodAt (now ledger) (now pool) ⌝ }
+    ensures { λ r. ⌜ AnswersAt (arrival (shownAt (now (ledger .entry)) (now (pool .entry))) (length (now (out .entry))) n (now (bytes .entry))) (now (ledger .exit)) (now (pool .exit)) r (now (out .entry)) (now (out .exit)) ⌝ }
 {
     if out.len() < 16 {
-        return Lent {
-            ledger,
-            ended: Ended::Refused(Refusal::ShortBuffer),
-        };
+        return Ended::Refused(Refusal::ShortBuffer);
     }
     match permitted(ledger, n) {
         Permit::Pass => accept(ledger, pool, n, bytes, out),
-        Permit::Refuse(why) => Lent {
-            ledger,
-            ended: Ended::Refused(why),
-        },
+        Permit::Refuse(why) => Ended::Refused(why),
     }
 }
 
 // A take on a channel that may be used: as many ready bytes as fit the buffer.
-fn hand_over(ledger: Ledger, pool: &mut [u8; 8192], n: ChannelNumber, out: &mut [u8]) -> Lent
-    requires { ⌜ GoodIn ledger (now pool) ⌝ }
-    requires { ⌜ permitOf (shown ledger (now pool)) n ≡ Pass ⌝ }
-    ensures { λ r. ⌜ Answers (taking (shown ledger (now (pool .entry))) (length (now (out .entry))) n) (r .ledger) (now (pool .exit)) (r .ended) (now (out .entry)) (now (out .exit)) ⌝ }
+fn hand_over(
+    ledger: &mut [u16; 50],
+    pool: &mut [u8; 8192],
+    n: ChannelNumber,
+    out: &mut [u8],
+) -> Ended
+    requires { ⌜ GoodAt (now ledger) (now pool) ⌝ }
+    requires { ⌜ permitOf (shownAt (now ledger) (now pool)) n ≡ Pass ⌝ }
+    ensures { λ r. ⌜ AnswersAt (taking (shownAt (now (ledger .entry)) (now (pool .entry))) (length (now (out .entry))) n) (now (ledger .exit)) (now (pool .exit)) r (now (out .entry)) (now (out .exit)) ⌝ }
 {
-    let k = (n.0 - 1) as usize;
-    let channels = ledger.channels;
-    let c = channels[k];
+    let c = entry(ledger, n);
     let count = least(out.len(), c.ready as usize);
-    let at = base(channels, k) + Pool::space(c.grant);
+    let at = base(ledger, (n.0 - 1) as usize) + Pool::space(c.grant);
     octets::put_part(out, 0, pool, at, at + count);
-    let next = take_ready(ledger, pool, n, count);
-    Lent {
-        ledger: next,
-        ended: Ended::Wrote(count),
-    }
+    take_ready(ledger, pool, n, count);
+    Ended::Wrote(count)
 }
 
-// The take over a lent pool.
-pub fn taking_in(ledger: Ledger, pool: &mut [u8; 8192], n: ChannelNumber, out: &mut [u8]) -> Lent
-    requires { ⌜ GoodIn ledger (now pool) ⌝ }
-    ensures { λ r. ⌜ Answers (taking (shown ledger (now (pool .entry))) (length (now (out .entry))) n) (r .ledger) (now (pool .exit)) (r .ended) (now (out .entry)) (now (out .exit)) ⌝ }
+// The take over the record's two arrays.
+pub fn taking_in(
+    ledger: &mut [u16; 50],
+    pool: &mut [u8; 8192],
+    n: ChannelNumber,
+    out: &mut [u8],
+) -> Ended
+    requires { ⌜ GoodAt (now ledger) (now pool) ⌝ }
+    ensures { λ r. ⌜ AnswersAt (taking (shownAt (now (ledger .entry)) (now (pool .entry))) (length (now (out .entry))) n) (now (ledger .exit)) (now (pool .exit)) r (now (out .entry)) (now (out .exit)) ⌝ }
 {
     match permitted(ledger, n) {
         Permit::Pass => hand_over(ledger, pool, n, out),
-        Permit::Refuse(why) => Lent {
-            ledger,
-            ended: Ended::Refused(why),
-        },
+        Permit::Refuse(why) => Ended::Refused(why),
     }
 }
 
 // A drop on a channel that may be used: the link is dropped, and event 0A tells of it.
-fn tell_dropped(ledger: Ledger, n: ChannelNumber, out: &mut [u8]) -> Lent
-    requires { ⌜ Belongs ledger ⌝ }
+fn tell_dropped(ledger: &mut [u16; 50], n: ChannelNumber, out: &mut [u8]) -> Ended
+    requires { ⌜ Belongs (now ledger) ⌝ }
     requires { ⌜ (1 ≤ n .0) × (n .0 ≤ 7) × (16 ≤ length (now out)) ⌝ }
-    ensures { λ r. ⌜ ((p : List ℕ) → GoodIn ledger p → permitOf (shown ledger p) n ≡ Pass → Answers (dropping (shown ledger p) (length (now (out .entry))) n) (r .ledger) p (r .ended) (now (out .entry)) (now (out .exit))) ⌝ }
+    ensures { λ r. ⌜ ((p : List ℕ) → GoodAt (now (ledger .entry)) p → permitOf (shownAt (now (ledger .entry)) p) n ≡ Pass → AnswersAt (dropping (shownAt (now (ledger .entry)) p) (length (now (out .entry))) n) (now (ledger .exit)) p r (now (out .entry)) (now (out .exit))) ⌝ }
 {
-    let next = drop_link(ledger, n);
-    let events = ledger.events;
-    if !events.status {
-        return Lent {
-            ledger: next,
-            ended: Ended::Wrote(0),
-        };
+    let listed = ledger[14];
+    drop_link(ledger, n);
+    if listed < 1 {
+        return Ended::Wrote(0);
     }
     tell_drop(out, n);
-    Lent {
-        ledger: next,
-        ended: Ended::Wrote(13),
-    }
+    Ended::Wrote(13)
 }
 
 // The drop. The pool stays, so it is not lent.
-pub fn dropping_in(ledger: Ledger, n: ChannelNumber, out: &mut [u8]) -> Lent
-    requires { ⌜ Belongs ledger ⌝ }
-    ensures { λ r. ⌜ ((p : List ℕ) → GoodIn ledger p → Answers (dropping (shown ledger p) (length (now (out .entry))) n) (r .ledger) p (r .ended) (now (out .entry)) (now (out .exit))) ⌝ }
+pub fn dropping_in(ledger: &mut [u16; 50], n: ChannelNumber, out: &mut [u8]) -> Ended
+    requires { ⌜ Belongs (now ledger) ⌝ }
+    ensures { λ r. ⌜ ((p : List ℕ) → GoodAt (now (ledger .entry)) p → AnswersAt (dropping (shownAt (now (ledger .entry)) p) (length (now (out .entry))) n) (now (ledger .exit)) p r (now (out .entry)) (now (out .exit))) ⌝ }
 {
     if out.len() < 16 {
-        return Lent {
-            ledger,
-            ended: Ended::Refused(Refusal::ShortBuffer),
-        };
+        return Ended::Refused(Refusal::ShortBuffer);
     }
     match permitted(ledger, n) {
         Permit::Pass => tell_dropped(ledger, n, out),
-        Permit::Refuse(why) => Lent {
-            ledger,
-            ended: Ended::Refused(why),
-        },
+        Permit::Refuse(why) => Ended::Refused(why),
     }
 }
 
 // The radio brings bytes for a channel.
 pub fn arrival(s: Session, n: ChannelNumber, bytes: &[u8], out: &mut [u8]) -> Answered
     requires { ⌜ Good s ⌝ }
-    ensures { λ r. ⌜ Answers (arrival (view s) (length (now (out .entry))) n (now (bytes .entry))) (r .session .ledger) (r .session .pool) (r .ended) (now (out .entry)) (now (out .exit)) ⌝ }
+    ensures { λ r. ⌜ AnswersAt (arrival (view s) (length (now (out .entry))) n (now (bytes .entry))) (r .session .ledger) (r .session .pool) (r .ended) (now (out .entry)) (now (out .exit)) ⌝ }
 {
-    let ledger = s.ledger;
+    let mut ledger = s.ledger;
     let mut pool = s.pool;
-    let lent = arrival_in(ledger, &mut pool, n, bytes, out);
-    let next = lent.ledger;
-    let ended = lent.ended;
+    let ended = arrival_in(&mut ledger, &mut pool, n, bytes, out);
     Answered {
-        session: Session { ledger: next, pool },
+        session: Session { ledger, pool },
         ended,
     }
 }
@@ -269,15 +236,13 @@ pub fn arrival(s: Session, n: ChannelNumber, bytes: &[u8], out: &mut [u8]) -> An
 // The radio takes the bytes of a channel that are ready, as many as fit.
 pub fn take(s: Session, n: ChannelNumber, out: &mut [u8]) -> Answered
     requires { ⌜ Good s ⌝ }
-    ensures { λ r. ⌜ Answers (taking (view s) (length (now (out .entry))) n) (r .session .ledger) (r .session .pool) (r .ended) (now (out .entry)) (now (out .exit)) ⌝ }
+    ensures { λ r. ⌜ AnswersAt (taking (view s) (length (now (out .entry))) n) (r .session .ledger) (r .session .pool) (r .ended) (now (out .entry)) (now (out .exit)) ⌝ }
 {
-    let ledger = s.ledger;
+    let mut ledger = s.ledger;
     let mut pool = s.pool;
-    let lent = taking_in(ledger, &mut pool, n, out);
-    let next = lent.ledger;
-    let ended = lent.ended;
+    let ended = taking_in(&mut ledger, &mut pool, n, out);
     Answered {
-        session: Session { ledger: next, pool },
+        session: Session { ledger, pool },
         ended,
     }
 }
@@ -285,15 +250,13 @@ pub fn take(s: Session, n: ChannelNumber, out: &mut [u8]) -> Answered
 // The radio tells that the link of a channel was dropped.
 pub fn drop(s: Session, n: ChannelNumber, out: &mut [u8]) -> Answered
     requires { ⌜ Good s ⌝ }
-    ensures { λ r. ⌜ Answers (dropping (view s) (length (now (out .entry))) n) (r .session .ledger) (r .session .pool) (r .ended) (now (out .entry)) (now (out .exit)) ⌝ }
+    ensures { λ r. ⌜ AnswersAt (dropping (view s) (length (now (out .entry))) n) (r .session .ledger) (r .session .pool) (r .ended) (now (out .entry)) (now (out .exit)) ⌝ }
 {
-    let ledger = s.ledger;
+    let mut ledger = s.ledger;
     let pool = s.pool;
-    let lent = dropping_in(ledger, n, out);
-    let next = lent.ledger;
-    let ended = lent.ended;
+    let ended = dropping_in(&mut ledger, n, out);
     Answered {
-        session: Session { ledger: next, pool },
+        session: Session { ledger, pool },
         ended,
     }
 }

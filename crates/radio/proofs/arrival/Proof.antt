@@ -1,4 +1,4 @@
--- `radio::arrival` meets its contract: that of the call over a lent pool.
+-- `radio::arrival` meets its contract: that of the call over the record's two arrays.
 -- Assumes nothing.
 use Rattle.session.specs.Picture.{view}
 use borrow.Author.Needs.{needs}
@@ -16,7 +16,7 @@ same-length c = search needs
 
 returns : tie.Need-returns
 unfolding view
-returns c = c .before .before .before .arrival-in .ensures
+returns c = c .before .before .arrival-in .ensures
 
 pub arrival-spec : {M : Type 1} → statement M
 arrival-spec = tie.close (tie.spec arrival-in-requires same-length returns)

@@ -12,9 +12,7 @@ use Rattle.radio.proofs.accept.Reads as accept-reads
 use Rattle.radio.proofs.permitted.Reads as permitted-reads
 
 returns : tie.Need-returns
-returns c =
-    let s = c .before .before .before in
-    refuse-answers _ _ _ _ _ (s .pre) (arrival-short _ _ _ _ (c .if1 .taken))
+returns c = record { answers = refuse-answers _ _ _ _ _ (c .before .before .before .pre .good) (arrival-short _ _ _ _ (c .if1 .taken)); kept = c .before .before .before .pre .kept }
 
 permitted-requires : tie.Need-permitted-requires
 permitted-requires c κs = search needs
@@ -23,9 +21,7 @@ enum-told : tie.Need-enum-told
 enum-told c = search needs
 
 accept-requires : tie.Need-accept-requires
-accept-requires c κs =
-    let s = c .before .before .before .before .before .before .before .before in
-    (s .pre, (sym (c .before .before .before .before .permitted .ensures .0 _ (s .pre)) ∙ c .before .before .enum-told .given .1, c .before .before .before .before .before .if1 .left))
+accept-requires c κs = (c .before .before .before .before .before .before .before .before .before .before .pre, (sym (c .before .before .before .before .before .permitted .ensures .0 _ (c .before .before .before .before .before .before .before .before .before .before .pre)) ∙ c .before .before .before .enum-told .given .1, c .before .before .before .before .before .before .before .if1 .left))
 
 enum-known-why : tie.Need-enum-known-why
 enum-known-why c = search needs
@@ -37,9 +33,7 @@ returns-2 : tie.Need-returns-2
 returns-2 c = search needs
 
 returns-3 : tie.Need-returns-3
-returns-3 c =
-    let s = c .before .before .before .before .before .before .before in
-    refuse-answers _ _ _ _ _ (s .pre) (arrival-refused _ _ _ _ _ (c .before .before .before .before .if1 .left) (sym (c .before .before .before .permitted .ensures .0 _ (s .pre)) ∙ c .before .why .given .1))
+returns-3 c = record { answers = refuse-answers _ _ _ _ _ (c .before .before .before .before .before .before .before .before .pre .good) (arrival-refused _ _ _ _ _ (c .before .before .before .before .before .if1 .left) (sym (c .before .before .before .permitted .ensures .0 _ (c .before .before .before .before .before .before .before .before .pre)) ∙ c .before .why .given .1)); kept = c .before .before .before .before .before .before .before .before .pre .kept }
 
 pub arrival-in-spec : {M : Type 1} → statement M
 arrival-in-spec =

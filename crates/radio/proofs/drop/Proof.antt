@@ -16,9 +16,7 @@ same-length c = search needs
 
 returns : tie.Need-returns
 unfolding view
-returns c =
-    let s = c .before .before .before .before .before .before .before .before in
-    c .before .before .before .dropping-in .ensures (s .args .s .pool) (s .pre)
+returns c = c .before .before .dropping-in .ensures (c .before .before .before .before .before .before .before .before .args .s .pool) (c .before .before .before .before .before .before .before .before .pre)
 
 pub drop-spec : {M : Type 1} → statement M
 drop-spec = tie.close (tie.spec dropping-in-requires same-length returns)

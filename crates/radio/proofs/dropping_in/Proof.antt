@@ -12,7 +12,7 @@ use Rattle.radio.proofs.permitted.Reads as permitted-reads
 use Rattle.radio.proofs.tell_dropped.Reads as tell-dropped-reads
 
 returns : tie.Need-returns
-returns c = λ p g. refuse-answers _ _ p _ _ g (dropping-short _ _ _ (c .if1 .taken))
+returns c = λ p g. record { answers = refuse-answers _ _ p _ _ (g .good) (dropping-short _ _ _ (c .if1 .taken)); kept = g .kept }
 
 permitted-requires : tie.Need-permitted-requires
 permitted-requires c κs = search needs
@@ -22,8 +22,8 @@ enum-told c = search needs
 
 tell-dropped-requires : tie.Need-tell-dropped-requires
 tell-dropped-requires c κs =
-    let n = c .before .before .before .permitted .ensures .1 (c .before .enum-told .given .1) in
-    (search needs, (n .0, n .1, c .before .before .before .before .if1 .left))
+    let n = c .before .before .before .before .permitted .ensures .1 (c .before .before .enum-told .given .1) in
+    (c .before .before .before .before .before .before .before .before .pre, (n .0, n .1, c .before .before .before .before .before .before .if1 .left))
 
 enum-known-why : tie.Need-enum-known-why
 enum-known-why c = search needs
@@ -32,12 +32,10 @@ same-length : tie.Need-same-length
 same-length c = search needs
 
 returns-2 : tie.Need-returns-2
-returns-2 c =
-    λ p g. c .before .before .tell-dropped .ensures p g (sym (c .before .before .before .before .before .before .permitted .ensures .0 p g) ∙ c .before .before .before .before .enum-told .given .1)
+returns-2 c = λ p g. c .before .before .tell-dropped .ensures p g (sym (c .before .before .before .before .before .before .before .permitted .ensures .0 p g) ∙ c .before .before .before .before .before .enum-told .given .1)
 
 returns-3 : tie.Need-returns-3
-returns-3 c =
-    λ p g. refuse-answers _ _ p _ _ g (dropping-permit _ _ _ _ (c .before .before .before .before .if1 .left) (sym (c .before .before .before .permitted .ensures .0 p g) ∙ c .before .why .given .1))
+returns-3 c = λ p g. record { answers = refuse-answers _ _ p _ _ (g .good) (dropping-permit _ _ _ _ (c .before .before .before .before .before .if1 .left) (sym (c .before .before .before .permitted .ensures .0 p g) ∙ c .before .why .given .1)); kept = g .kept }
 
 pub dropping-in-spec : {M : Type 1} → statement M
 dropping-in-spec =

@@ -1,4 +1,4 @@
--- `radio::take` meets its contract: that of the call over a lent pool.
+-- `radio::take` meets its contract: that of the call over the record's two arrays.
 -- Assumes nothing.
 use Rattle.session.specs.Picture.{view}
 use borrow.Author.Needs.{needs}
@@ -16,7 +16,7 @@ same-length c = search needs
 
 returns : tie.Need-returns
 unfolding view
-returns c = c .before .before .before .taking-in .ensures
+returns c = c .before .before .taking-in .ensures
 
 pub take-spec : {M : Type 1} → statement M
 take-spec = tie.close (tie.spec taking-in-requires same-length returns)

@@ -18,9 +18,7 @@ enum-told : tie.Need-enum-told
 enum-told c = search needs
 
 hand-over-requires : tie.Need-hand-over-requires
-hand-over-requires c κs =
-    let s = c .before .before .before .before .before .before in
-    (s .pre, sym (c .before .before .before .before .permitted .ensures .0 _ (s .pre)) ∙ c .before .before .enum-told .given .1)
+hand-over-requires c κs = (c .before .before .before .before .before .before .before .before .pre, sym (c .before .before .before .before .before .permitted .ensures .0 _ (c .before .before .before .before .before .before .before .before .pre)) ∙ c .before .before .before .enum-told .given .1)
 
 enum-known-why : tie.Need-enum-known-why
 enum-known-why c = search needs
@@ -32,9 +30,7 @@ returns : tie.Need-returns
 returns c = search needs
 
 returns-2 : tie.Need-returns-2
-returns-2 c =
-    let s = c .before .before .before .before .before in
-    refuse-answers _ _ _ _ _ (s .pre) (taking-permit _ _ _ _ (sym (c .before .before .before .permitted .ensures .0 _ (s .pre)) ∙ c .before .why .given .1))
+returns-2 c = record { answers = refuse-answers _ _ _ _ _ (c .before .before .before .before .before .before .pre .good) (taking-permit _ _ _ _ (sym (c .before .before .before .permitted .ensures .0 _ (c .before .before .before .before .before .before .pre)) ∙ c .before .why .given .1)); kept = c .before .before .before .before .before .before .pre .kept }
 
 pub taking-in-spec : {M : Type 1} → statement M
 taking-in-spec =
