@@ -6,7 +6,8 @@ use mathlib.Core.Option.{Option, none, some}
 use Rattle.rules.specs.Reading.{Transport}
 use Rattle.rules.specs.Own.{isTcp}
 use Rattle.outcomes.specs.Determined.{Determined}
-use Rattle.session.proofs.Alike.{lent-alike, pool-told, told-alike}
+use Rattle.session.proofs.Alike.{lent-alike, pool-told, ledger-told}
+use Rattle.own.proofs.Settled.{count-told}
 use Rattle.opening.proofs.open.Kinds as open-kinds
 use Rattle.opening.proofs.open.Reads as open-reads
 
@@ -20,9 +21,9 @@ unfolding isTcp level
 level-tcp true = refl
 level-tcp false = refl
 
-pub open-settled : Determined 3 open-kinds.ps open-kinds.r open-reads.Pre open-reads.Post
+pub open-settled : Determined 4 open-kinds.ps open-kinds.r open-reads.Pre open-reads.Post
 open-settled κs a _ x y v w p q =
     let tcp = a .1 .1 .1 .1 .0 in
     let s = p (level tcp) (level-tcp tcp) in
     let t = q (level tcp) (level-tcp tcp) in
-    (told-alike x y s t, λ i. (tt, (pool-told s t i, (tt, (tt, (tt, (tt, (tt, (lent-alike s t i, tt)))))))))
+    (count-told s t, λ i. (ledger-told s t i, (pool-told s t i, (tt, (tt, (tt, (tt, (tt, (lent-alike s t i, tt)))))))))

@@ -1,18 +1,15 @@
 // Step 9 of OPEN CHANNEL: its own checks, the opening and the response.
 use command::Place;
 use command::allowed;
-use own::end_problem;
-use own::end_with;
 use own::short_or;
 use pool::Pool;
 use responses::tell_opened;
+use responses::tell_problem;
+use responses::tell_result;
 use rules::ChannelNumber;
 use rules::Details;
 use rules::Link;
-use session::Channel;
-use session::Ended;
-use session::Ledger;
-use session::Lent;
+use session::entry;
 use session::free_cells;
 use session::open_channel;
 ghost use mathlib.Core.Path.{_≡_};
@@ -27,21 +24,27 @@ ghost use Rattle.rules.specs.Profile.{channels};
 ghost use Rattle.rules.specs.Table.{bearerFits};
 ghost use Rattle.rules.specs.Reading.{Bearer, Transport, bearerIn};
 ghost use Rattle.rules.specs.Own.{bit1, served, isTcp, openBefore, opening};
-ghost use Rattle.session.specs.Picture.{GoodIn, shown, chansIn};
-ghost use Rattle.session.specs.Calls.{Answers};
+ghost use Rattle.octets.specs.Parts.{part};
+ghost use Rattle.session.specs.declared.Ended.the-variants.{Wrote};
+ghost use Rattle.session.specs.Book.{ledgerIn};
+ghost use Rattle.session.specs.Picture.{GoodAt, shownAt, chansIn};
+ghost use Rattle.session.specs.Calls.{AnswersAt};
 ghost use Rattle.own.specs.Replies.{told};
 
 // The number N of channels that the profile allows.
-fn channels_of(profile: [u8; 13]) -> usize
-    ensures { λ r. ⌜ r ≡ channels profile ⌝ }
+fn channels_of(ledger: &[u16; 50]) -> usize
+    requires { ⌜ length (now ledger) ≡ 50 ⌝ }
+    ensures { λ r. ⌜ r ≡ channels (ledgerIn (now (ledger .entry)) .profile) ⌝ }
 {
-    (profile[12] / 32 % 8) as usize
+    (ledger[12] / 32 % 8) as usize
 }
 
-// Whether a bearer of this type is served: 03, or 02 if the profile allows it.
-fn serves(profile: [u8; 13], kind: u8) -> bool
-    ensures { λ r. ⌜ ((b : Bearer) → b .kind ≡ kind → r ≡ served profile b) ⌝ }
+// Whether a bearer of this type is served: 03, or 02 if the profile, the first numbers of the ledger, allows it.
+fn serves(ledger: &[u16], kind: u8) -> bool
+    requires { ⌜ 13 ≤ length (now ledger) ⌝ }
+    ensures { λ r. ⌜ ((b : Bearer) → b .kind ≡ kind → r ≡ served (part 0 13 (now (ledger .entry))) b) ⌝ }
 {
+    let profile = &ledger[0..13];
     match kind {
         0x03 => true,
         0x02 => allowed(profile, Place { byte: 13, bit: 2 }),
@@ -50,13 +53,13 @@ fn serves(profile: [u8; 13], kind: u8) -> bool
 }
 
 // How many channels, of the first n, stand open before the first that does not; n where none is unused.
-fn open_before(channels: [Channel; 7], n: usize) -> usize
-    requires { ⌜ (length channels ≡ 7) × (n ≤ 7) ⌝ }
-    ensures { λ r. ⌜ ((p : List ℕ) → r ≡ openBefore n (chansIn channels p)) ⌝ }
+fn open_before(ledger: &[u16; 50], n: usize) -> usize
+    requires { ⌜ (length (now ledger) ≡ 50) × (n ≤ 7) ⌝ }
+    ensures { λ r. ⌜ ((p : List ℕ) → r ≡ openBefore n (chansIn (ledgerIn (now (ledger .entry)) .channels) p)) ⌝ }
 {
     let mut k: usize = 0;
     while k < n {
-        let c = channels[k];
+        let c = entry(ledger, ChannelNumber((k + 1) as u8));
         if c.grant < 1 {
             return k;
         }
@@ -77,7 +80,7 @@ fn link_of(qualifier: u8) -> Link
 
 // OPEN CHANNEL: the lowest unused number is opened; 07 if it grants less than asked.
 pub fn open(
-    ledger: Ledger,
+    ledger: &mut [u16; 50],
     pool: &mut [u8; 8192],
     bearer: &[u8],
     size: u16,
@@ -85,39 +88,33 @@ pub fn open(
     d: Details,
     ignored: bool,
     out: &mut [u8],
-) -> Lent
-    requires { ⌜ GoodIn ledger (now pool) ⌝ }
+) -> usize
+    requires { ⌜ GoodAt (now ledger) (now pool) ⌝ }
     requires { ⌜ (255 ≤ length (now out)) × (bearerFits (now bearer) ≡ true) ⌝ }
-    ensures { λ r. ⌜ ((t : Option Transport) → isTcp t ≡ tcp → Answers (told d (opening (shown ledger (now (pool .entry))) (d .qualifier) (bearerIn (now (bearer .entry))) size t ignored)) (r .ledger) (now (pool .exit)) (r .ended) (now (out .entry)) (now (out .exit))) ⌝ }
+    ensures { λ r. ⌜ ((t : Option Transport) → isTcp t ≡ tcp → AnswersAt (told d (opening (shownAt (now (ledger .entry)) (now (pool .entry))) (d .qualifier) (bearerIn (now (bearer .entry))) size t ignored)) (now (ledger .exit)) (now (pool .exit)) (Wrote r) (now (out .entry)) (now (out .exit))) ⌝ }
 {
-    let profile = ledger.profile;
-    let channels = ledger.channels;
-    if !serves(profile, bearer[0]) {
-        return end_with(ledger, out, d, 0x30);
+    if !serves(ledger, bearer[0]) {
+        return tell_result(out, d, 0x30);
     }
     if !tcp {
-        return end_problem(ledger, out, d, 0x06);
+        return tell_problem(out, d, 0x06);
     }
     if size < 1 {
-        return end_problem(ledger, out, d, 0x04); // no size
+        return tell_problem(out, d, 0x04); // no size
     }
-    let n = channels_of(profile);
-    let k = open_before(channels, n);
+    let n = channels_of(ledger);
+    let k = open_before(ledger, n);
     if k == n {
-        return end_problem(ledger, out, d, 0x01); // no number
+        return tell_problem(out, d, 0x01); // no number
     }
-    let free = free_cells(channels);
+    let free = free_cells(ledger);
     if free < 2 {
-        return end_problem(ledger, out, d, 0x04); // too few cells
+        return tell_problem(out, d, 0x04); // too few cells
     }
     let grant = Pool::grant(size, free);
     let number = ChannelNumber((k + 1) as u8);
     let link = link_of(d.qualifier);
-    let next = open_channel(ledger, pool, number, grant, link);
+    open_channel(ledger, pool, number, grant, link);
     let result = short_or(grant < size, 0x07, ignored);
-    let count = tell_opened(out, d, result, number, link, bearer, grant);
-    Lent {
-        ledger: next,
-        ended: Ended::Wrote(count),
-    }
+    tell_opened(out, d, result, number, link, bearer, grant)
 }

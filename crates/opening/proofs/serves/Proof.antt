@@ -11,6 +11,15 @@ use Rattle.opening.proofs.serves.Reads as reads
 use Rattle.opening.proofs.serves.Lts as lts
 use Rattle.command.proofs.allowed.Reads as allowed-reads
 
+sub-profile : tie.Need-sub-profile
+sub-profile c = search needs
+
+part-profile-start : tie.Need-part-profile-start
+part-profile-start c = search needs
+
+part-profile-end : tie.Need-part-profile-end
+part-profile-end c = search needs
+
 allowed-requires : tie.Need-allowed-requires
 allowed-requires c κs = search needs
 
@@ -27,4 +36,13 @@ unfolding served
 returns-3 c = λ b e. rw (e, ne-eqb _ 3 (c .match .rest .0 .1), ne-eqb _ 2 (c .match .rest .1))
 
 pub serves-spec : {M : Type 1} → statement M
-serves-spec = tie.close (tie.spec allowed-requires returns returns-2 returns-3)
+serves-spec =
+    tie.close
+    (tie.spec
+    sub-profile
+    part-profile-start
+    part-profile-end
+    allowed-requires
+    returns
+    returns-2
+    returns-3)
