@@ -26,7 +26,7 @@ use Rattle.rules.proofs.Readings.{details-told}
 use Rattle.session.specs.declared.Ended.{Ended}
 use Rattle.session.specs.Book.{Ledger}
 use Rattle.session.specs.Picture.{GoodIn, shown}
-use Rattle.session.specs.Calls.{Answers}
+use Rattle.session.specs.Calls.{AnswersAt}
 use Rattle.session.specs.Changed.{Numbered}
 use Rattle.command.specs.declared.Handler.{Handler}
 use Rattle.command.specs.declared.Handler.the-variants.{MoreTime, EventList, Open, Close, Receive, Send, Status}
@@ -46,8 +46,8 @@ wrong-told l p s d e h =
 
 -- an answer by what the command comes to
 pub as-obeyed :
-    (x y : Answer) (l : Ledger) (p : List ℕ) (e : Ended) (before after : List ℕ) → x ≡ y → Answers y l p e before after → Answers x l p e before after
-as-obeyed x y l p e before after q t = subst (λ (z : Answer). Answers z l p e before after) (sym q) t
+    (x y : Answer) (t p : List ℕ) (e : Ended) (before after : List ℕ) → x ≡ y → AnswersAt y t p e before after → AnswersAt x t p e before after
+as-obeyed x y t p e before after q w = subst (λ (z : Answer). AnswersAt z t p e before after) (sym q) w
 
 module _ (l : Ledger) (p s : List ℕ) (q : Request) (h : AskedFor q (l .profile) s) where
   abbrev a : State
@@ -155,8 +155,8 @@ module _ (l : Ledger) (p s : List ℕ) (q : Request) (h : AskedFor q (l .profile
         (ap (λ (x : ℕ). opening a x (bearerIn (requests.own q s)) (256 * getD s (q .last) 0 + getD s (q .last + 1) 0) level (q .ignored)) qualifier-is)
 
     pub open-answers :
-        (size : ℕ) (tcp : Bool) (m : Ledger) (r : List ℕ) (w : Ended) (before after : List ℕ) →
+        (size : ℕ) (tcp : Bool) (m r : List ℕ) (w : Ended) (before after : List ℕ) →
         size ≡ 256 * getD s (q .last) 0 + getD s (q .last + 1) 0 → ((t : Option Transport) → TcpBy s t → isTcp t ≡ tcp) →
-        ((t : Option Transport) → isTcp t ≡ tcp → Answers (opened size t) m r w before after) → Answers (obeyed a s) m r w before after
+        ((t : Option Transport) → isTcp t ≡ tcp → AnswersAt (opened size t) m r w before after) → AnswersAt (obeyed a s) m r w before after
     open-answers size tcp m r w before after z y t =
         as-obeyed (obeyed a s) (opened size level) m r w before after (open-told ∙ ap (λ (k : ℕ). opened k level) (sym z)) (t level (y level by-tcp))

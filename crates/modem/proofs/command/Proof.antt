@@ -16,7 +16,7 @@ same-length c = search needs
 
 returns : tie.Need-returns
 unfolding view
-returns c = c .before .before .before .command-in .ensures
+returns c = c .before .before .command-in .ensures
 
 pub command-spec : {M : Type 1} → statement M
 command-spec = tie.close (tie.spec command-in-requires same-length returns)

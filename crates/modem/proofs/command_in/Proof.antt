@@ -9,6 +9,8 @@ use denote.Ref.{now}
 use Rattle.session.proofs.Answers.{refuse-answers}
 use Rattle.modem.proofs.Obeying.{as-obeyed}
 use Rattle.modem.proofs.Commanding.{short-refused, empty-refused, long-refused, unframed, framed-obeyed}
+use mathlib.Core.Path.{refl}
+use Rattle.own.proofs.Replies.{left-at}
 use borrow.Author.Needs.{needs}
 use Rattle.modem.proofs.command_in.Statement.{statement}
 use Rattle.modem.proofs.command_in.Tie as tie
@@ -16,16 +18,16 @@ use Rattle.modem.proofs.command_in.Reads as reads
 use Rattle.modem.proofs.command_in.Lts as lts
 use Rattle.command.proofs.frame_start.Reads as frame-start-reads
 use Rattle.modem.proofs.obey.Reads as obey-reads
-use Rattle.own.proofs.end_with.Reads as end-with-reads
+use Rattle.responses.proofs.tell_result.Reads as tell-result-reads
 
 returns : tie.Need-returns
-returns c = refuse-answers _ _ _ _ _ (c .before .before .before .pre) (short-refused _ _ _ (c .if1 .taken))
+returns c = record { answers = refuse-answers _ _ _ _ _ (c .before .before .before .pre .good) (short-refused _ _ _ (c .if1 .taken)); kept = c .before .before .before .pre .kept }
 
 returns-2 : tie.Need-returns-2
-returns-2 c = refuse-answers _ _ _ _ _ (c .before .before .before .before .pre) (empty-refused _ _ _ (c .before .if1 .left) (c .if2 .taken))
+returns-2 c = record { answers = refuse-answers _ _ _ _ _ (c .before .before .before .before .pre .good) (empty-refused _ _ _ (c .before .if1 .left) (c .if2 .taken)); kept = c .before .before .before .before .pre .kept }
 
 returns-3 : tie.Need-returns-3
-returns-3 c = refuse-answers _ _ _ _ _ (c .before .before .before .before .before .pre) (long-refused _ _ _ (c .before .before .if1 .left) (c .if3 .taken))
+returns-3 c = record { answers = refuse-answers _ _ _ _ _ (c .before .before .before .before .before .pre .good) (long-refused _ _ _ (c .before .before .if1 .left) (c .if3 .taken)); kept = c .before .before .before .before .before .pre .kept }
 
 frame-start-requires : tie.Need-frame-start-requires
 frame-start-requires c κs = search needs
@@ -34,10 +36,10 @@ enum-known-start : tie.Need-enum-known-start
 enum-known-start c = search needs
 
 sub-obey : tie.Need-sub-obey
-sub-obey c = (subst (λ (r : Framed). Frames r (now (c .before .before .before .before .before .before .before .before .before .before .args .s))) (c .before .before .start .given .1) (c .before .before .before .before .frame-start .ensures)) .within
+sub-obey c = (subst (λ (r : Framed). Frames r (now (c .before .before .before .before .before .before .before .before .before .before .before .args .s))) (c .before .before .before .start .given .1) (c .before .before .before .before .before .frame-start .ensures)) .within
 
 part-obey-start : tie.Need-part-obey-start
-part-obey-start c = omega (arith, (subst (λ (r : Framed). Frames r (now (c .before .before .before .before .before .before .before .before .before .before .args .s))) (c .before .before .start .given .1) (c .before .before .before .before .frame-start .ensures)) .within)
+part-obey-start c = omega (arith, (subst (λ (r : Framed). Frames r (now (c .before .before .before .before .before .before .before .before .before .before .before .args .s))) (c .before .before .before .start .given .1) (c .before .before .before .before .before .frame-start .ensures)) .within)
 
 part-obey-end : tie.Need-part-obey-end
 part-obey-end c = search needs
@@ -48,21 +50,21 @@ obey-requires c κs = search needs
 enum-told : tie.Need-enum-told
 enum-told c = search needs
 
-end-with-requires : tie.Need-end-with-requires
-end-with-requires c κs = search needs
+tell-result-requires : tie.Need-tell-result-requires
+tell-result-requires c κs = search needs
 
 same-length : tie.Need-same-length
 same-length c = search needs
 
 returns-4 : tie.Need-returns-4
-returns-4 c = as-obeyed _ _ _ _ _ _ _ (framed-obeyed _ _ _ (c .before .before .before .before .before .before .before .before .before .before .before .before .if1 .left) (c .before .before .before .before .before .before .before .before .before .before .before .if2 .left) (c .before .before .before .before .before .before .before .before .before .before .if3 .left) _ (subst (λ (r : Framed). Frames r (now (c .before .before .before .before .before .before .before .before .before .before .before .before .before .before .before .args .s))) (c .before .before .before .before .before .before .before .start .given .1) (c .before .before .before .before .before .before .before .before .before .frame-start .ensures))) (c .before .before .obey .ensures)
+returns-4 c = as-obeyed _ _ _ _ _ _ _ (framed-obeyed _ _ _ (c .before .before .before .before .before .before .before .before .before .before .before .before .before .if1 .left) (c .before .before .before .before .before .before .before .before .before .before .before .before .if2 .left) (c .before .before .before .before .before .before .before .before .before .before .before .if3 .left) _ (subst (λ (r : Framed). Frames r (now (c .before .before .before .before .before .before .before .before .before .before .before .before .before .before .before .before .args .s))) (c .before .before .before .before .before .before .before .before .start .given .1) (c .before .before .before .before .before .before .before .before .before .before .frame-start .ensures))) (c .before .before .obey .ensures)
 
 same-length-2 : tie.Need-same-length-2
 same-length-2 c = search needs
 
 returns-5 : tie.Need-returns-5
 unfolding zeros
-returns-5 c = as-obeyed _ _ _ _ _ _ _ (unframed _ _ _ (c .before .before .before .before .before .before .before .before .before .if1 .left) (c .before .before .before .before .before .before .before .before .if2 .left) (c .before .before .before .before .before .before .before .if3 .left) (subst (λ (r : Framed). Frames r (now (c .before .before .before .before .before .before .before .before .before .before .before .before .args .s))) (c .before .before .before .before .enum-told .given .1) (c .before .before .before .before .before .before .frame-start .ensures))) (c .before .before .end-with .ensures _ (c .before .before .before .before .before .before .before .before .before .before .before .before .pre))
+returns-5 c = as-obeyed _ _ _ _ _ _ _ (unframed _ _ _ (c .before .before .before .before .before .before .before .before .before .if1 .left) (c .before .before .before .before .before .before .before .before .if2 .left) (c .before .before .before .before .before .before .before .if3 .left) (subst (λ (r : Framed). Frames r (now (c .before .before .before .before .before .before .before .before .before .before .before .before .args .s))) (c .before .before .before .before .enum-told .given .1) (c .before .before .before .before .before .before .frame-start .ensures))) (left-at _ _ _ _ _ _ _ _ refl (c .before .before .before .before .before .before .before .before .before .before .before .before .pre) (c .before .before .tell-result .ensures))
 
 pub command-in-spec : {M : Type 1} → statement M
 command-in-spec =
@@ -78,7 +80,7 @@ command-in-spec =
     part-obey-end
     obey-requires
     enum-told
-    end-with-requires
+    tell-result-requires
     same-length
     returns-4
     same-length-2

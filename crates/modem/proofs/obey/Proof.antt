@@ -6,35 +6,42 @@ use Rattle.command.specs.Requests.{Reads}
 use denote.Ref.{now}
 use Rattle.modem.proofs.Obeying.{as-obeyed, wrong-told}
 use mathlib.Core.Path.{sym, _∙_}
+use mathlib.Core.Path.{refl}
+use native.Mathlib.Omega.{arith}
+use Rattle.session.specs.Book.{ledgerIn}
+use Rattle.session.proofs.Numbers.{kept-size}
+use Rattle.own.proofs.Replies.{left-at}
 use borrow.Author.Needs.{needs}
 use Rattle.modem.proofs.obey.Statement.{statement}
 use Rattle.modem.proofs.obey.Tie as tie
 use Rattle.modem.proofs.obey.Reads as reads
 use Rattle.modem.proofs.obey.Lts as lts
-use Rattle.command.proofs.read_objects.Reads as read-objects-reads
 use Rattle.modem.proofs.carry_out.Reads as carry-out-reads
-use Rattle.own.proofs.end_with.Reads as end-with-reads
+use Rattle.modem.proofs.read_by.Reads as read-by-reads
+use Rattle.responses.proofs.tell_result.Reads as tell-result-reads
 
-read-objects-requires : tie.Need-read-objects-requires
-read-objects-requires c κs = search needs
+read-by-requires : tie.Need-read-by-requires
+read-by-requires c κs = (let n = kept-size _ (c .before .before .before .before .pre .0 .kept) in omega arith, c .before .before .before .before .pre .1 .0)
 
 enum-known-d : tie.Need-enum-known-d
 enum-known-d c = search needs
 
-end-with-requires : tie.Need-end-with-requires
-end-with-requires c κs = search needs
+tell-result-requires : tie.Need-tell-result-requires
+tell-result-requires c κs = search needs
 
 enum-known-q : tie.Need-enum-known-q
 enum-known-q c = search needs
 
 carry-out-requires : tie.Need-carry-out-requires
-carry-out-requires c κs = (c .before .before .before .before .before .before .before .before .before .pre .0, (subst (λ (r : Read). Reads r (c .before .before .before .before .before .before .before .before .before .args .ledger .profile) (now (c .before .before .before .before .before .before .before .before .before .args .s))) (c .before .before .before .q .given .1) (c .before .before .before .before .before .read-objects .ensures), c .before .before .before .before .before .before .before .before .before .pre .1 .1))
+unfolding ledgerIn
+carry-out-requires c κs = (c .before .before .before .before .before .before .before .before .before .before .before .pre .0, (subst (λ (r : Read). Reads r (ledgerIn (now (c .before .before .before .before .before .before .before .before .before .before .before .args .ledger)) .profile) (now (c .before .before .before .before .before .before .before .before .before .before .before .args .s))) (c .before .before .before .before .q .given .1) (c .before .before .before .before .before .before .read-by .ensures), c .before .before .before .before .before .before .before .before .before .before .before .pre .1 .1))
 
 same-length : tie.Need-same-length
 same-length c = search needs
 
 returns : tie.Need-returns
-returns c = as-obeyed _ _ _ _ _ _ _ (wrong-told _ _ _ _ _ (subst (λ (r : Read). Reads r (c .before .before .before .before .before .before .before .before .before .before .before .args .ledger .profile) (now (c .before .before .before .before .before .before .before .before .before .before .before .args .s))) (c .before .before .before .before .before .d .given .1) (c .before .before .before .before .before .before .before .read-objects .ensures))) (c .before .before .end-with .ensures _ (c .before .before .before .before .before .before .before .before .before .before .before .pre .0))
+unfolding ledgerIn
+returns c = as-obeyed _ _ _ _ _ _ _ (wrong-told _ _ _ _ _ (subst (λ (r : Read). Reads r (ledgerIn (now (c .before .before .before .before .before .before .before .before .before .before .before .before .args .ledger)) .profile) (now (c .before .before .before .before .before .before .before .before .before .before .before .before .args .s))) (c .before .before .before .before .before .d .given .1) (c .before .before .before .before .before .before .before .read-by .ensures))) (left-at _ _ _ _ _ _ _ _ refl (c .before .before .before .before .before .before .before .before .before .before .before .before .pre .0) (c .before .before .tell-result .ensures))
 
 same-length-2 : tie.Need-same-length-2
 same-length-2 c = search needs
@@ -46,9 +53,9 @@ pub obey-spec : {M : Type 1} → statement M
 obey-spec =
     tie.close
     (tie.spec
-    read-objects-requires
+    read-by-requires
     enum-known-d
-    end-with-requires
+    tell-result-requires
     enum-known-q
     carry-out-requires
     same-length
