@@ -16,8 +16,8 @@ use Rattle.rules.proofs.Histories.{follows}
 use Rattle.rules.proofs.Soundness.{start-sound, step-sound}
 use Rattle.session.specs.declared.Session.{Session}
 use Rattle.session.specs.declared.Ended.{Ended}
-use Rattle.session.specs.Book.{Ledger}
-use Rattle.session.specs.Picture.{Good, GoodIn, Shows, shown, view}
+use Rattle.session.specs.Book.{Ledger, ledgerIn}
+use Rattle.session.specs.Picture.{Good, view}
 use Rattle.session.specs.Calls.{Answers, endedOf, writtenBy, overlaid}
 use Rattle.session.proofs.Views.{shows-back}
 use Rattle.text.specs.Prints.{outcomeOf}
@@ -42,15 +42,15 @@ left-stepped : (s : Session) (c : Call) (buffer : ℕ) (t : Session) (o : Outcom
 unfolding view
 left-stepped s c buffer t o g h =
     record {
-      good = h .answers .good;
-      shows = shows-back (step (view s) c .state) (t .ledger) (t .pool) (step-sound (view s) c (g .sound)) (h .answers .shows);
-      seen = h .seen ∙ answer-seen _ _ _ _ _ _ (h .answers);
+      good = record { good = h .answers .answers .good; kept = h .answers .kept };
+      shows = shows-back (step (view s) c .state) (ledgerIn (t .ledger)) (t .pool) (step-sound (view s) c (g .good .sound)) (h .answers .answers .shows);
+      seen = h .seen ∙ answer-seen _ _ _ _ _ _ (h .answers .answers);
     }
 
 stepped : (s : Session) (c : Call) (t : Session) (o : Outcome) → Good s → Called s c t o → Stepped s c t o
 unfolding step view
 stepped s (starting p) t o g h =
-    record { good = h .good; shows = shows-back (start p) (t .ledger) (t .pool) (start-sound p) (h .shows); seen = h .seen }
+    record { good = h .good; shows = shows-back (start p) (ledgerIn (t .ledger)) (t .pool) (start-sound p) (h .shows .shows); seen = h .seen }
 stepped s (commanding buffer c) t o g h = left-stepped s (commanding buffer c) buffer t o g h
 stepped s (arriving buffer n c) t o g h = left-stepped s (arriving buffer n c) buffer t o g h
 stepped s (takingOut buffer n) t o g h = left-stepped s (takingOut buffer n) buffer t o g h
@@ -78,7 +78,7 @@ runs-shown s (e ∷ es) t g h =
 pub reached-ran : (p : List ℕ) (es : List Exchange) (s : Session) → Reached p es s → Ran (start p) es s
 unfolding view
 reached-ran p es s h =
-    let first = shows-back (start p) (h .first .ledger) (h .first .pool) (start-sound p) (h .begun .shows) in
+    let first = shows-back (start p) (ledgerIn (h .first .ledger)) (h .first .pool) (start-sound p) (h .begun .shows .shows) in
     subst (λ (a : State). Ran a es s) first (runs-shown (h .first) es s (h .begun .good) (h .run))
 
 pub reached-good : (p : List ℕ) (es : List Exchange) (s : Session) → Reached p es s → Good s
