@@ -1,4 +1,4 @@
--- Sorting the objects, one at a time: the survey, the ending of the walk, and the three objects that a handler needs.
+-- Sorting the objects, one at a time: the survey, the ending of the walk, and the two objects that a handler looks for.
 -- Assumes nothing.
 use Prim.Native.Nat.{ℕ, _+_, _%_, _≤_, _<_}
 use mathlib.Core.Path.{_≡_, refl, sym, ap, subst, _∙_}
@@ -25,7 +25,7 @@ use Rattle.command.specs.declared.Sorted.{Sorted}
 use Rattle.command.specs.declared.Survey.{Survey}
 use Rattle.command.specs.Plans.{handlerKind}
 use Rattle.command.specs.Surveys.{noted, firstOf}
-use Rattle.command.specs.Requests.{ownNumber, lastNumber, Headed, Sorts}
+use Rattle.command.specs.Requests.{ownNumber, Headed, Sorts}
 use Rattle.command.proofs.Lengths.{part-size}
 use Rattle.command.proofs.Sifting.{Noted, noted-start, noted-on, noted-all}
 
@@ -72,14 +72,12 @@ fault-met l e f = sym (ap failing f) ∙ all l
     all (t ∷ r) = branch (λ (x : ObjectRead). failing x ≡ true) _ _ _ (λ _. after t (lengthAt r)) (λ _. refl)
 
 -- the objects before here are sorted
-pub record Sorting (s : List ℕ) (h : Handler) (needed further : ℕ) (counts : List ℕ) (v : Survey) (devices own last : Where) (at : ℕ) : Type 0 where
+pub record Sorting (s : List ℕ) (h : Handler) (needed : ℕ) (counts : List ℕ) (v : Survey) (devices own : Where) (at : ℕ) : Type 0 where
   pub needed-is : needed ≡ ownNumber h
-  pub further-is : further ≡ lastNumber h
   pub noted : Noted s h counts v at
   pub ends : Ends s at
   pub for-devices : Tracks devices s 0x02 at
   pub for-own : Tracks own s needed at
-  pub for-last : Tracks last s further at
 
 -- no handler needs a second 01
 own-other : (h : Handler) → ownNumber h ≡ 0x01 → ⊥
@@ -90,15 +88,6 @@ own-other Close e = absurd (omega arith)
 own-other Receive e = absurd (omega arith)
 own-other Send e = absurd (omega arith)
 own-other Status e = absurd (omega arith)
-
-last-other : (h : Handler) → lastNumber h ≡ 0x01 → ⊥
-last-other MoreTime e = absurd (omega arith)
-last-other EventList e = absurd (omega arith)
-last-other Open e = absurd (omega arith)
-last-other Close e = absurd (omega arith)
-last-other Receive e = absurd (omega arith)
-last-other Send e = absurd (omega arith)
-last-other Status e = absurd (omega arith)
 
 -- every handler has 01 once
 once : (h : Handler) → ltb 0 (times (rowOf (handlerKind h)) 0x01) ≡ true
@@ -137,54 +126,49 @@ module _ (s : List ℕ) (h : Handler) (second : ℕ) (g : Headed s second) where
       subst (λ (v : Survey). Noted s h (set (replicate 128 0) 1 1) v second) ((λ i. noted blank (once h i) (three i) (leb 128 (g .tag))) ∙ fit-noted (leb 128 (g .tag))) m
 
   pub sorting-start :
-      (needed further : ℕ) → needed ≡ ownNumber h → further ≡ lastNumber h →
-      Sorting s h needed further (set (replicate 128 0) 1 1) blank Nowhere Nowhere Nowhere second
-  sorting-start needed further o l =
+      (needed : ℕ) → needed ≡ ownNumber h →
+      Sorting s h needed (set (replicate 128 0) 1 1) blank Nowhere Nowhere second
+  sorting-start needed o =
       let past : (number : ℕ) → (number ≡ 0x01 → ⊥) → Seeks s number second =
       λ number e. seeks-on s number 0 (seeks-start s number) (g .tag) (g .start) 3 second (g .stands) (λ q. e (sym q ∙ g .number)) in
       record {
         needed-is = o;
-        further-is = l;
         noted = first-noted;
         ends = ends-on s 0 (g .tag) (g .start) 3 second (ends-start s) (g .stands);
         for-devices = past 0x02 (λ e. absurd (omega arith));
         for-own = past needed (λ e. own-other h (sym o ∙ e));
-        for-last = past further (λ e. last-other h (sym l ∙ e));
       }
 
-module _ (s : List ℕ) (h : Handler) (needed further : ℕ) (counts : List ℕ) (v : Survey) (devices own last : Where) (at : ℕ) (w : Sorting s h needed further counts v devices own last at) where
+module _ (s : List ℕ) (h : Handler) (needed : ℕ) (counts : List ℕ) (v : Survey) (devices own : Where) (at : ℕ) (w : Sorting s h needed counts v devices own at) where
   pub sorting-on :
       (tag start n next : ℕ) → Stands s at tag start n next →
       (u : Survey) → u ≡ noted v (ltb (getD counts (tag % 128) 0) (times (rowOf (handlerKind h)) (tag % 128))) (lengthFits (tag % 128) (part start (start + n) s)) (leb 128 tag) →
-      (d o l : Where) → d ≡ firstOf devices (eqb (tag % 128) 0x02) start n → o ≡ firstOf own (eqb (tag % 128) needed) start n → l ≡ firstOf last (eqb (tag % 128) further) start n →
-      Sorting s h needed further (set counts (tag % 128) (getD counts (tag % 128) 0 + 1)) u d o l next
-  sorting-on tag start n next st u eu d o l ed eo el =
+      (d o : Where) → d ≡ firstOf devices (eqb (tag % 128) 0x02) start n → o ≡ firstOf own (eqb (tag % 128) needed) start n →
+      Sorting s h needed (set counts (tag % 128) (getD counts (tag % 128) 0 + 1)) u d o next
+  sorting-on tag start n next st u eu d o ed eo =
       let track : (x y : Where) (number : ℕ) → x ≡ firstOf y (eqb (tag % 128) number) start n → Tracks y s number at → Tracks x s number next =
       λ x y number e t. subst (λ (z : Where). Tracks z s number next) (sym e) (tracks-on y s number at tag start n next t st) in
       record {
         needed-is = w .needed-is;
-        further-is = w .further-is;
         noted = subst (λ (x : Survey). Noted s h (set counts (tag % 128) (getD counts (tag % 128) 0 + 1)) x next) (sym eu) (noted-on s h counts v at (w .noted) tag start n next st);
         ends = ends-on s at tag start n next (w .ends) st;
         for-devices = track d devices 0x02 ed (w .for-devices);
         for-own = track o own needed eo (w .for-own);
-        for-last = track l last further el (w .for-last);
       }
 
   sorts :
       (whole : Bool) → whole ≡ not (isFault (walk s .ending)) → walk (drop at s) .objects ≡ [] →
       ((x : Where) (number : ℕ) → Tracks x s number at → Finds x s number) →
-      Sorts (record { survey = v; whole = whole; devices = devices; own = own; last = last }) s h
+      Sorts (record { survey = v; whole = whole; devices = devices; own = own }) s h
   sorts whole e none f =
       record {
         surveyed = noted-all s h counts v at (w .noted) none;
         whole = e;
         devices = f devices 0x02 (w .for-devices);
         own = subst (λ (k : ℕ). Finds own s k) (w .needed-is) (f own needed (w .for-own));
-        last = subst (λ (k : ℕ). Finds last s k) (w .further-is) (f last further (w .for-last));
       }
 
-  pub sorted-end : length s ≤ at → Sorts (record { survey = v; whole = true; devices = devices; own = own; last = last }) s h
+  pub sorted-end : length s ≤ at → Sorts (record { survey = v; whole = true; devices = devices; own = own }) s h
   unfolding isFault
   sorted-end q =
       sorts true (ap (λ (e : Ending). not (isFault e)) (ends-end s at (w .ends) q .0)) (ap (λ (x : Walk). x .objects) (here-end s at q))
@@ -192,7 +176,7 @@ module _ (s : List ℕ) (h : Handler) (needed further : ℕ) (counts : List ℕ)
 
   pub sorted-fault :
       (e : Ending) → at < length s → objectAt (drop at s) ≡ faulty e →
-      Sorts (record { survey = v; whole = false; devices = devices; own = own; last = last }) s h
+      Sorts (record { survey = v; whole = false; devices = devices; own = own }) s h
   sorted-fault e q f =
       sorts false (sym (ap not (fault-met (drop at s) e f)) ∙ ap (λ (x : Ending). not (isFault x)) (ends-fault s at e (w .ends) q f .0))
       (ap (λ (x : Walk). x .objects) (here-fault s at e q f)) (λ x number t. tracks-fault x s number at t e q f)

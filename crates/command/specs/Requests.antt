@@ -108,13 +108,12 @@ pub record Begun (s : List ℕ) (d : Details) (h : Handler) : Type 0 where
   pub kind : d .kind ≡ handlerKind h
   pub small : length s ≤ 256
 
--- the objects are sorted for a handler: surveyed, walked to the end or to a fault, and the three that it needs found
+-- the objects are sorted for a handler: surveyed, walked to the end or to a fault, and the devices and its own value found
 pub record Sorts (v : Sorted) (s : List ℕ) (h : Handler) : Type 0 where
   pub surveyed : Surveyed (v .survey) s h
   pub whole : v .whole ≡ not (isFault (walk s .ending))
   pub devices : Finds (v .devices) s 0x02
   pub own : Finds (v .own) s (ownNumber h)
-  pub last : Finds (v .last) s (lastNumber h)
 
 -- nothing unexpected is flagged, and the devices stand at their place
 pub record Named (s : List ℕ) (d : Details) (h : Handler) (v : Sorted) (devices : Span) : Type 0 where
@@ -122,6 +121,7 @@ pub record Named (s : List ℕ) (d : Details) (h : Handler) (v : Sorted) (device
   pub sorted : Sorts v s h
   pub unflagged : v .survey .flagged ≡ false
   pub first-02 : First s 0x02 (devices .at) (devices .len)
+  pub place-02 : devices .at ≡ placeOf 0x02 s
 
 -- the three objects that settle a reading stand at these places
 pub record Settled (s : List ℕ) (d : Details) (h : Handler) (v : Survey) (devices own last : Span) : Type 0 where

@@ -3,6 +3,7 @@ use objects::Cursor;
 use objects::Found;
 use objects::Sized;
 use objects::Where;
+use objects::find;
 use objects::length_at;
 use objects::walk;
 use rules::Details;
@@ -17,6 +18,7 @@ ghost use mathlib.Core.List.{List};
 ghost use Rattle.rules.specs.Profile.{bit};
 ghost use Rattle.rules.specs.Table.{times, rowOf, known, bearerFits, lengthFits};
 ghost use Rattle.octets.specs.Parts.{part};
+ghost use Rattle.objects.specs.Places.{First, Finds, placeOf};
 ghost use Rattle.command.specs.Plans.{handlerKind, PlanOf, Plans};
 ghost use Rattle.command.specs.Surveys.{noted, firstOf};
 ghost use Rattle.command.specs.Requests.{Frames, ownNumber, lastNumber, addressedBy, Settled, Sorts, Named, Headed, Detailed, Typed, Begun, Reads};
@@ -232,13 +234,12 @@ impl Survey {
     }
 }
 
-// What a walk over a command's objects found: the survey, whether it came to the end, and where the devices and the type's own objects stand.
+// What a walk over a command's objects found: the survey, whether it came to the end, and where the devices and the type's own value stand.
 struct Sorted {
     survey: Survey,
     whole: bool,
     devices: Where,
     own: Where,
-    last: Where,
 }
 
 // Where the first of such objects stands, once one object more was met.
@@ -262,7 +263,6 @@ fn go_through(s: &[u8], handler: Handler, second: Cursor) -> Sorted
     ensures { λ r. ⌜ Sorts r (now (s .entry)) handler ⌝ }
 {
     let needed = value_number(handler);
-    let further = last_number(handler);
     let mut counts = [0u8; 128];
     counts[1] = 1;
     let mut survey = Survey {
@@ -272,7 +272,6 @@ fn go_through(s: &[u8], handler: Handler, second: Cursor) -> Sorted
     };
     let mut devices = Where::Nowhere;
     let mut own = Where::Nowhere;
-    let mut last = Where::Nowhere;
     let mut c = second;
     loop {
         let at = c.at;
@@ -282,7 +281,6 @@ fn go_through(s: &[u8], handler: Handler, second: Cursor) -> Sorted
                 whole: true,
                 devices,
                 own,
-                last,
             };
         }
         match c.object(s) {
@@ -295,7 +293,6 @@ fn go_through(s: &[u8], handler: Handler, second: Cursor) -> Sorted
                 survey = survey.note(counted, fits(number, s, start, len), 127 < tag);
                 devices = first(devices, number == 0x02, start, len);
                 own = first(own, number == needed, start, len);
-                last = first(last, number == further, start, len);
                 c = next;
             }
             Found::Fault(_) => {
@@ -304,7 +301,6 @@ fn go_through(s: &[u8], handler: Handler, second: Cursor) -> Sorted
                     whole: false,
                     devices,
                     own,
-                    last,
                 }
             }
         }
@@ -469,6 +465,17 @@ fn read_known(s: &[u8], d: Details, handler: Handler, v: Sorted) -> Read
     }
 }
 
+// Where the further object of a type stands: the devices again, or an object to look for.
+fn find_further(s: &[u8], number: u8, devices: Span) -> Where
+    requires { ⌜ First (now s) 0x02 (devices .at) (devices .len) × (devices .at ≡ placeOf 0x02 (now s)) ⌝ }
+    ensures { λ r. ⌜ Finds r (now (s .entry)) number ⌝ }
+{
+    if number == 0x02 {
+        return Where::At(devices.at, devices.len);
+    }
+    find(s, number)
+}
+
 // Steps 7 and 8 once the devices are found.
 fn read_own(s: &[u8], d: Details, handler: Handler, v: Sorted, devices: Span) -> Read
     requires { ⌜ Named (now s) d handler v devices ⌝ }
@@ -476,11 +483,10 @@ fn read_own(s: &[u8], d: Details, handler: Handler, v: Sorted, devices: Span) ->
 {
     let survey = v.survey;
     let own = v.own;
-    let last = v.last;
     match own {
         Where::At(at, len) => {
             let needed = Span { at, len };
-            match last {
+            match find_further(s, last_number(handler), devices) {
                 Where::At(at, len) => {
                     settle(s, d, handler, survey, devices, needed, Span { at, len })
                 }

@@ -20,29 +20,24 @@ use Rattle.command.proofs.go_through.Lts as lts
 use Rattle.command.proofs.Survey.note.Reads as note-reads
 use Rattle.command.proofs.first.Reads as first-reads
 use Rattle.command.proofs.fits.Reads as fits-reads
-use Rattle.command.proofs.last_number.Reads as last-number-reads
 use Rattle.command.proofs.times.Reads as times-reads
 use Rattle.command.proofs.value_number.Reads as value-number-reads
 use Rattle.objects.proofs.Cursor.object.Reads as object-reads
 
 abbrev Inv-loop : tie.InvT-loop
-Inv-loop s handler needed further counts₀ survey₀ devices₀ own₀ last₀ c₀ counts survey devices own last c =
-    Sorting s handler needed further counts survey devices own last (c .at)
+Inv-loop s handler needed counts₀ survey₀ devices₀ own₀ c₀ counts survey devices own c = Sorting s handler needed counts survey devices own (c .at)
 
 abbrev μ-loop : tie.MeasureT-loop
-μ-loop s handler needed further counts₀ survey₀ devices₀ own₀ last₀ c₀ counts survey devices own last c = length s - c .at
+μ-loop s handler needed counts₀ survey₀ devices₀ own₀ c₀ counts survey devices own c = length s - c .at
 
 value-number-requires : tie.Need-value-number-requires Inv-loop μ-loop
 value-number-requires c κs = tt
-
-last-number-requires : tie.Need-last-number-requires Inv-loop μ-loop
-last-number-requires c κs = tt
 
 array-write-counts : tie.Need-array-write-counts Inv-loop μ-loop
 array-write-counts c = search needs
 
 loop-holds : tie.Need-loop-holds Inv-loop μ-loop
-loop-holds c = sorting-start _ _ _ (c .before .before .before .pre .1) _ _ (c .before .value-number .ensures) (c .last-number .ensures)
+loop-holds c = sorting-start _ _ _ (c .before .before .pre .1) _ (c .value-number .ensures)
 
 object-requires : tie.Need-object-requires Inv-loop μ-loop
 object-requires c κs = tt
@@ -60,7 +55,7 @@ add-counts : tie.Need-add-counts Inv-loop μ-loop
 add-counts c =
     let w = c .before .before .before .before .before .loop .inv .noted in
     let t = c .before .tag .given .0 .0 in
-    omega (arith, count-small _ _ _ _ _ (t % 128) w (omega arith), w .within, c .before .before .before .before .before .before .before .before .before .pre .0)
+    omega (arith, count-small _ _ _ _ _ (t % 128) w (omega arith), w .within, c .before .before .before .before .before .before .before .before .pre .0)
 
 array-write-counts-2 : tie.Need-array-write-counts-2 Inv-loop μ-loop
 array-write-counts-2 c = omega arith
@@ -70,7 +65,7 @@ times-requires c κs = tt
 
 fits-requires : tie.Need-fits-requires Inv-loop μ-loop
 fits-requires c κs =
-    let s = now (c .before .before .before .before .before .before .before .before .before .before .args .s) in
+    let s = now (c .before .before .before .before .before .before .before .before .before .args .s) in
     let at = c .before .before .before .before .before .before .loop .c .at in
     let m : Meets (Object _ _ _ _) s at = subst (λ (r : Found). Meets r s at) (c .before .before .tag .given .1) (c .before .before .before .before .object .ensures) in
     omega (arith, m .ends, m .within)
@@ -84,40 +79,37 @@ first-requires c κs = tt
 first-requires-2 : tie.Need-first-requires-2 Inv-loop μ-loop
 first-requires-2 c κs = tt
 
-first-requires-3 : tie.Need-first-requires-3 Inv-loop μ-loop
-first-requires-3 c κs = tt
-
 loop-less : tie.Need-loop-less Inv-loop μ-loop
 loop-less c =
-    let s = now (c .before .before .before .before .before .before .before .before .before .before .before .before .before .before .before .args .s) in
-    let at = c .before .before .before .before .before .before .before .before .before .before .before .loop .c .at in
-    let m : Meets (Object _ _ _ _) s at = subst (λ (r : Found). Meets r s at) (c .before .before .before .before .before .before .before .tag .given .1) (c .before .before .before .before .before .before .before .before .before .object .ensures) in
-    omega (arith, m .ends, m .behind, m .within, c .before .before .before .before .before .before .before .before .before .before .before .loop .inv .noted .within)
+    let s = now (c .before .before .before .before .before .before .before .before .before .before .before .before .before .args .s) in
+    let at = c .before .before .before .before .before .before .before .before .before .before .loop .c .at in
+    let m : Meets (Object _ _ _ _) s at = subst (λ (r : Found). Meets r s at) (c .before .before .before .before .before .before .tag .given .1) (c .before .before .before .before .before .before .before .before .object .ensures) in
+    omega (arith, m .ends, m .behind, m .within, c .before .before .before .before .before .before .before .before .before .before .loop .inv .noted .within)
 
 loop-again : tie.Need-loop-again Inv-loop μ-loop
 loop-again c =
-    let s = now (c .before .before .before .before .before .before .before .before .before .before .before .before .before .before .before .args .s) in
-    let l = c .before .before .before .before .before .before .before .before .before .before .before .loop in
+    let s = now (c .before .before .before .before .before .before .before .before .before .before .before .before .before .args .s) in
+    let l = c .before .before .before .before .before .before .before .before .before .before .loop in
     let at = l .c .at in
-    let m : Meets (Object _ _ _ _) s at = subst (λ (r : Found). Meets r s at) (c .before .before .before .before .before .before .before .tag .given .1) (c .before .before .before .before .before .before .before .before .before .object .ensures) in
-    let t = c .before .before .before .before .before .before .before .tag .given .0 .0 in
-    let a = c .before .before .before .before .before .times .ensures in
-    let b = c .before .before .before .before .fits2 .ensures in
-    let e = c .before .before .before .note .ensures ∙ (λ i. noted (l .survey) (ltb (getD (l .counts) (t % 128) 0) (a i)) (b i) (leb 128 t)) in
-    sorting-on s _ _ _ _ _ _ _ _ at (l .inv) t _ _ _ m _ e _ _ _ (c .before .before .first .ensures) (c .before .first2 .ensures) (c .first3 .ensures)
+    let m : Meets (Object _ _ _ _) s at = subst (λ (r : Found). Meets r s at) (c .before .before .before .before .before .before .tag .given .1) (c .before .before .before .before .before .before .before .before .object .ensures) in
+    let t = c .before .before .before .before .before .before .tag .given .0 .0 in
+    let a = c .before .before .before .before .times .ensures in
+    let b = c .before .before .before .fits2 .ensures in
+    let e = c .before .before .note .ensures ∙ (λ i. noted (l .survey) (ltb (getD (l .counts) (t % 128) 0) (a i)) (b i) (leb 128 t)) in
+    sorting-on s _ _ _ _ _ _ at (l .inv) t _ _ _ m _ e _ _ (c .before .first .ensures) (c .first2 .ensures)
 
 enum-told : tie.Need-enum-told Inv-loop μ-loop
 enum-told c = search needs
 
 returns : tie.Need-returns Inv-loop μ-loop
-returns c = sorted-end _ _ _ _ _ _ _ _ _ _ (c .before .loop .inv) (c .if1 .taken)
+returns c = sorted-end _ _ _ _ _ _ _ _ (c .before .loop .inv) (c .if1 .taken)
 
 returns-2 : tie.Need-returns-2 Inv-loop μ-loop
 returns-2 c =
-    let s = now (c .before .before .before .before .before .before .before .before .args .s) in
+    let s = now (c .before .before .before .before .before .before .before .args .s) in
     let at = c .before .before .before .before .loop .c .at in
     let m : Meets (Fault _) s at = subst (λ (r : Found). Meets r s at) (c .enum-told .given .1) (c .before .before .object .ensures) in
-    sorted-fault _ _ _ _ _ _ _ _ _ _ (c .before .before .before .before .loop .inv) _ (c .before .before .before .if1 .left) m
+    sorted-fault _ _ _ _ _ _ _ _ (c .before .before .before .before .loop .inv) _ (c .before .before .before .if1 .left) m
 
 pub go-through-spec : {M : Type 1} → statement M
 go-through-spec =
@@ -126,7 +118,6 @@ go-through-spec =
     Inv-loop
     μ-loop
     value-number-requires
-    last-number-requires
     array-write-counts
     loop-holds
     object-requires
@@ -140,7 +131,6 @@ go-through-spec =
     note-requires
     first-requires
     first-requires-2
-    first-requires-3
     loop-less
     loop-again
     enum-told

@@ -25,7 +25,7 @@ read-own-requires : tie.Need-read-own-requires
 read-own-requires c κs =
     let s = now (c .before .before .before .before .before .before .args .s) in
     let w : Finds (At _ _) s 0x02 = found-as s (c .before .devices .given .1) refl (c .before .before .before .before .before .before .pre .1 .devices) in
-    record { begun = c .before .before .before .before .before .before .pre .0; sorted = c .before .before .before .before .before .before .pre .1; unflagged = c .before .before .before .if1 .left; first-02 = w .0 }
+    record { begun = c .before .before .before .before .before .before .pre .0; sorted = c .before .before .before .before .before .before .pre .1; unflagged = c .before .before .before .if1 .left; first-02 = w .0; place-02 = w .1 }
 
 enum-told : tie.Need-enum-told
 enum-told c = search needs

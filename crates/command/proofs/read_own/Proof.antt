@@ -12,20 +12,28 @@ use Rattle.command.proofs.read_own.Statement.{statement}
 use Rattle.command.proofs.read_own.Tie as tie
 use Rattle.command.proofs.read_own.Reads as reads
 use Rattle.command.proofs.read_own.Lts as lts
+use Rattle.command.proofs.find_further.Reads as find-further-reads
+use Rattle.command.proofs.last_number.Reads as last-number-reads
 use Rattle.command.proofs.settle.Reads as settle-reads
 
 enum-known-own : tie.Need-enum-known-own
 enum-known-own c = search needs
 
-enum-known-last : tie.Need-enum-known-last
-enum-known-last c = search needs
+last-number-requires : tie.Need-last-number-requires
+last-number-requires c κs = search needs
+
+find-further-requires : tie.Need-find-further-requires
+find-further-requires c κs = (c .before .before .before .before .before .before .pre .first-02, c .before .before .before .before .before .before .pre .place-02)
+
+enum-known-at : tie.Need-enum-known-at
+enum-known-at c = search needs
 
 settle-requires : tie.Need-settle-requires
 settle-requires c κs =
-    let z = c .before .before .before .before .before .before .before .before .pre in
-    let s = now (c .before .before .before .before .before .before .before .before .args .s) in
-    let w1 : Finds (At _ _) s (ownNumber (c .before .before .before .before .before .before .before .before .args .handler)) = found-as s (c .before .before .before .before .own .given .1) refl (z .sorted .own) in
-    let w2 : Finds (At _ _) s (lastNumber (c .before .before .before .before .before .before .before .before .args .handler)) = found-as s (c .before .last .given .1) refl (z .sorted .last) in
+    let z = c .before .before .before .before .before .before .before .before .before .before .pre in
+    let s = now (c .before .before .before .before .before .before .before .before .before .before .args .s) in
+    let w1 : Finds (At _ _) s (ownNumber (c .before .before .before .before .before .before .before .before .before .before .args .handler)) = found-as s (c .before .before .before .before .before .before .own .given .1) refl (z .sorted .own) in
+    let w2 : Finds (At _ _) s (lastNumber (c .before .before .before .before .before .before .before .before .before .before .args .handler)) = found-as s (c .before .at .given .1) (c .before .before .before .before .last-number .ensures) (c .before .before .before .find-further .ensures) in
     record {
       begun = z .begun;
       surveyed = z .sorted .surveyed;
@@ -48,10 +56,10 @@ returns c = search needs
 
 returns-2 : tie.Need-returns-2
 returns-2 c =
-    let z = c .before .before .before .before .before .before .before .pre in
-    let s = now (c .before .before .before .before .before .before .before .args .s) in
-    let w1 : Finds (At _ _) s (ownNumber (c .before .before .before .before .before .before .before .args .handler)) = found-as s (c .before .before .before .own .given .1) refl (z .sorted .own) in
-    let w2 : Finds (Nowhere) s (lastNumber (c .before .before .before .before .before .before .before .args .handler)) = found-as s (c .enum-told .given .1) refl (z .sorted .last) in
+    let z = c .before .before .before .before .before .before .before .before .before .pre in
+    let s = now (c .before .before .before .before .before .before .before .before .before .args .s) in
+    let w1 : Finds (At _ _) s (ownNumber (c .before .before .before .before .before .before .before .before .before .args .handler)) = found-as s (c .before .before .before .before .before .own .given .1) refl (z .sorted .own) in
+    let w2 : Finds (Nowhere) s (lastNumber (c .before .before .before .before .before .before .before .before .before .args .handler)) = found-as s (c .enum-told .given .1) (c .before .before .before .last-number .ensures) (c .before .before .find-further .ensures) in
     λ p t. known-no-last s _ _ (z .begun) _ (z .sorted .surveyed) (z .unflagged) (z .first-02 .there) (w1 .0 .there) p t w2
 
 returns-3 : tie.Need-returns-3
@@ -66,7 +74,9 @@ read-own-spec =
     tie.close
     (tie.spec
     enum-known-own
-    enum-known-last
+    last-number-requires
+    find-further-requires
+    enum-known-at
     settle-requires
     enum-told
     enum-told-2
