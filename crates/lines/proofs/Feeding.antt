@@ -18,8 +18,7 @@ use Rattle.rules.proofs.Laws.{stop, skip}
 use Rattle.rules.proofs.Input.{fed-pieces}
 use Rattle.octets.specs.Parts.{pasted}
 use Rattle.octets.proofs.Pastes.{take-pasted, length-pasted}
-use Rattle.session.specs.Book.{Ledger}
-use Rattle.session.specs.Picture.{Shows, shown}
+use Rattle.session.specs.Picture.{ShowsAt, shownAt}
 use Rattle.text.specs.declared.Gathered.{Gathered}
 use Rattle.text.specs.Gathers.{beforeFeed, fitting, Gathers}
 use Rattle.text.proofs.Stores.{paste-none}
@@ -190,7 +189,7 @@ module _ (c : Running) (p line chunk : List ℕ) (from : ℕ) (g : Gathered) (li
 
     goes-whole :
         (r : Performed) (p′ out : List ℕ) (at : ℕ) (out′ : List ℕ) → g .whole ≡ true →
-        SaysFed (lineEnds (record { begun = c .begun; state = shown (c .ledger) p; pending = take (g .len) line′ })) r p′ out at out′ →
+        SaysFed (lineEnds (record { begun = c .begun; state = shownAt (c .ledger) p; pending = take (g .len) line′ })) r p′ out at out′ →
         Goes x (piece s) (record { running = record { begun = true; ledger = r .ledger; len = 0 }; next = g .next; at = r .at }) p′ line′ out at out′
     goes-whole r p′ out at out′ e t =
         let q = grown x (beforeFeed s) .reader in
@@ -214,7 +213,7 @@ module _ (c : Running) (p line chunk : List ℕ) (from : ℕ) (g : Gathered) (li
 
   pub feeds-whole :
       (r : Performed) (p′ out : List ℕ) (at : ℕ) (out′ : List ℕ) → g .whole ≡ true →
-      SaysFed (lineEnds (record { begun = c .begun; state = shown (c .ledger) p; pending = take (g .len) line′ })) r p′ out at out′ →
+      SaysFed (lineEnds (record { begun = c .begun; state = shownAt (c .ledger) p; pending = take (g .len) line′ })) r p′ out at out′ →
       Feeds (record { running = record { begun = true; ledger = r .ledger; len = 0 }; next = g .next; at = r .at }) p′ out at out′
   feeds-whole r p′ out at out′ e t =
       ((λ x z. goes-whole x z r p′ out at out′ e t), (keeps _ refl, record { good = t .good; size = line-size; kept = omega arith }))
@@ -256,12 +255,12 @@ next-one d k line line′ t = t .next
 
 -- what is held has a reader
 pub reader-of :
-    (c : Running) (p line : List ℕ) → Ready c p line → Holds (record { begun = c .begun; state = shown (c .ledger) p; pending = take (c .len) line }) c p line
+    (c : Running) (p line : List ℕ) → Ready c p line → Holds (record { begun = c .begun; state = shownAt (c .ledger) p; pending = take (c .len) line }) c p line
 reader-of c p line y =
     let e = length-take-le (c .len) line (omega (arith, y .size, y .kept)) in
-    record { begun = refl; shows = y .good .shows; pending = sym (take-all 3201 (take (c .len) line) (omega (arith, y .kept))); count = omega (arith, y .kept) }
+    record { begun = refl; shows = record { shows = y .good .good .shows; kept = y .good .kept }; pending = sym (take-all 3201 (take (c .len) line) (omega (arith, y .kept))); count = omega (arith, y .kept) }
 
 -- before the first byte
-pub first-held : (l : Ledger) (p line : List ℕ) → Shows (start []) l p → Holds atFirst (record { begun = false; ledger = l; len = 0 }) p line
+pub first-held : (l p line : List ℕ) → ShowsAt (start []) l p → Holds atFirst (record { begun = false; ledger = l; len = 0 }) p line
 unfolding atFirst
 first-held l p line s = record { begun = refl; shows = s; pending = sym (take-nil 3201); count = omega arith }

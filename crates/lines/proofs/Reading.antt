@@ -14,10 +14,10 @@ use Rattle.rules.specs.Lines.{printed, frameOf, callIn, perform, lineStep}
 use Rattle.rules.specs.Input.{Fed, lineBytes, begins, goes, lineEnds}
 use Rattle.rules.proofs.Soundness.{start-sound}
 use Rattle.octets.specs.Parts.{pasted, cleared}
-use Rattle.session.specs.Book.{Ledger}
-use Rattle.session.specs.Picture.{Shows, GoodIn, ledgerOf}
+use Rattle.session.specs.Book.{tableOf}
+use Rattle.session.specs.Picture.{ShowsAt, GoodAt, ledgerOf}
 use Rattle.session.proofs.Starts.{empty-pool}
-use Rattle.session.proofs.Views.{shows-good}
+use Rattle.session.proofs.Views.{shows-at, good-at}
 use Rattle.text.specs.declared.Frame.{Frame}
 use Rattle.text.specs.declared.Frame.the-variants.{Unreadable}
 use Rattle.text.specs.Frames.{frameTold}
@@ -34,7 +34,7 @@ frame-unread (some s) f t e = absurd (let z : _≡_ {A = ℕ} 0 1 = cc in omega 
 -- what a line says, fact by fact
 abbrev pub Told : Fed → Performed → List ℕ → List ℕ → ℕ → List ℕ → Type 0
 Told f r p before at after =
-    (Shows (f .reader .state) (r .ledger) p × GoodIn (r .ledger) p) × ((after ≡ pasted before at (f .out)) × (r .at ≡ at + length (f .out)))
+    (ShowsAt (f .reader .state) (r .ledger) p × GoodAt (r .ledger) p) × ((after ≡ pasted before at (f .out)) × (r .at ≡ at + length (f .out)))
 
 module _ (f : Fed) (r : Performed) (p before : List ℕ) (at : ℕ) (after : List ℕ) where
   told-says : Told f r p before at after → SaysFed f r p before at after
@@ -62,15 +62,15 @@ cleared-all d n e =
     ∙ append-nil (replicate n 0)
 
 -- the first line, by its frame: a fresh session
-module _ (s : List ℕ) (l : Ledger) (pool p : List ℕ) (n : length pool ≡ 8192) (c : p ≡ cleared pool 0 8192) (m : l ≡ ledgerOf (start s)) where
-  fresh-shows : Shows (start s) l p
-  fresh-shows = record { ledger = m; pool = c ∙ cleared-all pool 8192 n ∙ empty-pool s }
+module _ (s l pool p : List ℕ) (n : length pool ≡ 8192) (c : p ≡ cleared pool 0 8192) (m : l ≡ tableOf (ledgerOf (start s))) where
+  fresh-shows : ShowsAt (start s) l p
+  fresh-shows = shows-at (start s) l p (start-sound s) m (c ∙ cleared-all pool 8192 n ∙ empty-pool s)
 
   fresh-says :
       (t : List ℕ) (before : List ℕ) (at k : ℕ) (after : List ℕ) → after ≡ pasted before at t → k ≡ at + length t →
       Says (start s) t (record { ledger = l; at = k }) p before at after
   fresh-says t before at k after e f =
-      record { shows = fresh-shows; good = shows-good (start s) l p (start-sound s) fresh-shows; stands = e; place = f }
+      record { shows = fresh-shows; good = good-at (start s) l p (start-sound s) fresh-shows; stands = e; place = f }
 
   first-told :
       (o q : Option (List ℕ)) (before : List ℕ) (at k : ℕ) (after : List ℕ) → o ≡ q →
@@ -84,7 +84,7 @@ module _ (s : List ℕ) (l : Ledger) (pool p : List ℕ) (n : length pool ≡ 81
 
 -- an unreadable first line is a blank one, and R9
 pub first-unread :
-    (l : Ledger) (pool p : List ℕ) (n : length pool ≡ 8192) (c : p ≡ cleared pool 0 8192) (m : l ≡ ledgerOf (start [])) (o : Option (List ℕ))
+    (l pool p : List ℕ) (n : length pool ≡ 8192) (c : p ≡ cleared pool 0 8192) (m : l ≡ tableOf (ledgerOf (start []))) (o : Option (List ℕ))
     (before : List ℕ) (at k : ℕ) (after : List ℕ) → o ≡ none →
     (after ≡ pasted before at (lineBytes (printed (refused R9)))) × (k ≡ at + length (lineBytes (printed (refused R9)))) →
     Told (begins o) (record { ledger = l; at = k }) p before at after

@@ -9,8 +9,8 @@ use Rattle.rules.specs.State.{State, Chan}
 use Rattle.rules.specs.Pool.{cells, promisedTo, promised}
 use Rattle.rules.specs.Sound.{Each, SoundChan}
 use Rattle.session.specs.declared.Channel.{Channel}
-use Rattle.session.specs.Book.{Ledger}
-use Rattle.session.specs.Picture.{entry, ledgerOf, shown, Shows, GoodIn}
+use Rattle.session.specs.Book.{Ledger, ledgerIn}
+use Rattle.session.specs.Picture.{entry, ledgerOf, shown, shownAt, ShowsAt, GoodAt}
 use Rattle.session.proofs.Facts.{bounds}
 use Rattle.session.proofs.Views.{shows-back}
 
@@ -41,9 +41,12 @@ alike (c ∷ cs) (d ∷ ds) e h =
     }
 
 -- the state that a good session shows
-pub known : (a : State) (l : Ledger) (p : List ℕ) → GoodIn l p → Shows a l p → shown l p ≡ a
+pub known : (a : State) (t p : List ℕ) → GoodAt t p → ShowsAt a t p → shownAt t p ≡ a
 unfolding ledgerOf promised
-known a l p g s =
+known a t p good shows =
+    let l = ledgerIn t in
+    let g = good .good in
+    let s = shows .shows in
     let same : ledgerOf a ≡ ledgerOf (shown l p) = sym (s .ledger) ∙ g .shows .ledger in
     let chans = alike (a .chans) (shown l p .chans) (ap (λ (m : Ledger). m .channels) same) (g .sound .each) in
     let profile = ap (λ (m : Ledger). length (m .profile)) same in
@@ -51,5 +54,5 @@ known a l p g s =
     (record { thirteen = profile ∙ g .sound .thirteen; seven = chans .size ∙ g .sound .seven; each = chans .each; within = omega (arith, chans .promise, g .sound .within) }) s
 
 -- the pool of a good session
-pub pool-size : (l : Ledger) (p : List ℕ) → GoodIn l p → length p ≡ 8192
-pool-size l p g = bounds l p (record { 0 = 1 }) (record { good = g; low = omega arith; high = omega arith }) .size
+pub pool-size : (t p : List ℕ) → GoodAt t p → length p ≡ 8192
+pool-size t p g = bounds (ledgerIn t) p (record { 0 = 1 }) (record { good = g .good; low = omega arith; high = omega arith }) .size

@@ -22,9 +22,8 @@ use Rattle.rules.specs.Input.{lineBytes}
 use Rattle.rules.proofs.Laws.{branch, both-right}
 use Rattle.octets.specs.Parts.{part, pasted}
 use Rattle.session.specs.declared.Ended.{Ended}
-use Rattle.session.specs.Book.{Ledger}
-use Rattle.session.specs.Picture.{GoodIn, shown}
-use Rattle.session.specs.Calls.{endedOf, writtenBy, overlaid, Answers}
+use Rattle.session.specs.Picture.{GoodAt, shownAt}
+use Rattle.session.specs.Calls.{endedOf, writtenBy, overlaid, AnswersAt}
 use Rattle.text.specs.declared.Spoken.{Spoken}
 use Rattle.text.specs.declared.Spoken.the-variants.{Arrival, Take}
 use Rattle.text.specs.Calls.{callSpoken}
@@ -39,12 +38,12 @@ unfolding outcomeOf endedOf overlaid writtenBy
 front-back (wrote s) d = ap wrote (take-append-seam s (drop (length s) d))
 front-back (refused r) d = refl
 
-module _ (x : Answer) (l : Ledger) (p : List ℕ) (e : Ended) (before reply : List ℕ) (t : Answers x l p e before reply) where
+module _ (x : Answer) (l p : List ℕ) (e : Ended) (before reply : List ℕ) (t : AnswersAt x l p e before reply) where
   pub count-fits : countOf e ≤ length reply
-  count-fits = count-within (x .outcome) e before reply (t .ended, t .lent)
+  count-fits = count-within (x .outcome) e before reply (t .answers .ended, t .answers .lent)
 
   outcome-is : outcomeOf e reply ≡ x .outcome
-  outcome-is = (λ i. outcomeOf (t .ended i) (t .lent i)) ∙ front-back (x .outcome) before
+  outcome-is = (λ i. outcomeOf (t .answers .ended i) (t .answers .lent i)) ∙ front-back (x .outcome) before
 
   -- and are printed
   pub answer-says :
@@ -52,7 +51,12 @@ module _ (x : Answer) (l : Ledger) (p : List ℕ) (e : Ended) (before reply : Li
       Says (x .state) (lineBytes (printed (x .outcome))) (record { ledger = l; at = k }) p out at after
   answer-says out at k after f g =
       let same = ap lineOf outcome-is in
-      record { shows = t .shows; good = t .good; stands = f ∙ ap (pasted out at) same; place = g ∙ ap (λ (s : List ℕ). at + length s) same }
+      record {
+        shows = record { shows = t .answers .shows; kept = t .kept };
+        good = record { good = t .answers .good; kept = t .kept };
+        stands = f ∙ ap (pasted out at) same;
+        place = g ∙ ap (λ (s : List ℕ). at + length s) same;
+      }
 
 -- a line by the call that it has
 pub call-says :
@@ -62,10 +66,10 @@ call-says a o q r p before at after e t = subst (λ (x : Option Call). SaysLine 
 
 -- R9, and the session as it was
 pub unread-says :
-    (l : Ledger) (p before : List ℕ) (at k : ℕ) (after : List ℕ) → GoodIn l p → after ≡ pasted before at (lineBytes (printed (refused Unreadable))) →
-    k ≡ at + length (lineBytes (printed (refused Unreadable))) → SaysLine (perform (shown l p) none) (record { ledger = l; at = k }) p before at after
+    (l p before : List ℕ) (at k : ℕ) (after : List ℕ) → GoodAt l p → after ≡ pasted before at (lineBytes (printed (refused Unreadable))) →
+    k ≡ at + length (lineBytes (printed (refused Unreadable))) → SaysLine (perform (shownAt l p) none) (record { ledger = l; at = k }) p before at after
 unfolding perform
-unread-says l p before at k after g e f = record { shows = g .shows; good = g; stands = e; place = f }
+unread-says l p before at k after g e f = record { shows = record { shows = g .good .shows; kept = g .kept }; good = g; stands = e; place = f }
 
 -- what a frame's call tells of it: an arrival has a channel, a take at most 1500 bytes
 abbrev pub Bounded : List ℕ → Option Call → Type 0

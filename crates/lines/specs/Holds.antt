@@ -6,21 +6,21 @@ use lib.ListN.{length, take, drop}
 use Rattle.rules.specs.Checks.{_⇒_else_, isEmpty, member}
 use Rattle.rules.specs.Input.{Reader, feeds}
 use Rattle.octets.specs.Parts.{pasted}
-use Rattle.session.specs.Picture.{GoodIn, Shows}
+use Rattle.session.specs.Picture.{GoodAt, ShowsAt}
 use Rattle.text.specs.Gathers.{beforeFeed, fitting}
 use Rattle.lines.specs.declared.Running.{Running}
 use Rattle.lines.specs.declared.Progress.{Progress}
 
 -- the code may go on: a good session, and room for a line of which at most 3201 bytes are kept
 pub record Ready (c : Running) (p line : List ℕ) : Type 0 where
-  pub good : GoodIn (c .ledger) p
+  pub good : GoodAt (c .ledger) p
   pub size : length line ≡ 3201
   pub kept : c .len ≤ 3201
 
 -- the code holds what the reader has; of a line that is too long it keeps the first 3201 bytes
 pub record Holds (r : Reader) (c : Running) (p line : List ℕ) : Type 0 where
   pub begun : c .begun ≡ r .begun
-  pub shows : Shows (r .state) (c .ledger) p
+  pub shows : ShowsAt (r .state) (c .ledger) p
   pub pending : take (c .len) line ≡ take 3201 (r .pending)
   pub count : c .len ≡ min (length (r .pending)) 3201
 

@@ -7,13 +7,13 @@ use Rattle.rules.specs.State.{State}
 use Rattle.rules.specs.Lines.{Printed}
 use Rattle.rules.specs.Input.{Fed, lineBytes}
 use Rattle.octets.specs.Parts.{pasted}
-use Rattle.session.specs.Picture.{GoodIn, Shows}
+use Rattle.session.specs.Picture.{GoodAt, ShowsAt}
 use Rattle.lines.specs.declared.Performed.{Performed}
 
 -- the session shows the state and is good; the bytes stand in the output from its place on
 pub record Says (a : State) (t : List ℕ) (r : Performed) (p before : List ℕ) (at : ℕ) (after : List ℕ) : Type 0 where
-  pub shows : Shows a (r .ledger) p
-  pub good : GoodIn (r .ledger) p
+  pub shows : ShowsAt a (r .ledger) p
+  pub good : GoodAt (r .ledger) p
   pub stands : after ≡ pasted before at t
   pub place : r .at ≡ at + length t
 

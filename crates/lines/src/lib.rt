@@ -7,9 +7,7 @@ use radio::taking_in;
 use rules::ChannelNumber;
 use rules::Refusal;
 use session::Ended;
-use session::Ledger;
-use session::Lent;
-use session::fresh_ledger;
+use session::start_ledger;
 use text::Frame;
 use text::Spoken;
 use text::gather;
@@ -27,8 +25,8 @@ ghost use Rattle.rules.specs.Run.{commanding, arriving, takingOut, droppingLink
 ghost use Rattle.rules.specs.Lines.{printed, frameOf, callOf, perform, lineStep};
 ghost use Rattle.rules.specs.Input.{Reader, lineBytes, begins, goes, lineEnds, atFirst};
 ghost use Rattle.octets.specs.Parts.{pasted};
-ghost use Rattle.session.specs.Picture.{GoodIn, Shows, shown};
-ghost use Rattle.session.specs.Calls.{Answers};
+ghost use Rattle.session.specs.Picture.{GoodAt, ShowsAt, shownAt};
+ghost use Rattle.session.specs.Calls.{AnswersAt};
 ghost use Rattle.text.specs.Prints.{countOf};
 ghost use Rattle.lines.specs.Says.{Says, SaysLine, SaysFed};
 ghost use Rattle.lines.specs.Holds.{Ready, Holds, piece, lastPiece, Goes, Keeps};
@@ -36,7 +34,7 @@ ghost use Rattle.lines.specs.Holds.{Ready, Holds, piece, lastPiece, Goes
 // What the program keeps between two pieces of its input, beside the pool and the line: whether the first line was read, the ledger, and how many bytes of a line are kept.
 pub struct Running {
     pub begun: bool,
-    pub ledger: Ledger,
+    pub ledger: [u16; 50],
     pub len: usize,
 }
 
@@ -49,7 +47,7 @@ pub struct Progress {
 
 // A line was performed: the ledger, and where the output goes on.
 pub struct Performed {
-    pub ledger: Ledger,
+    pub ledger: [u16; 50],
     pub at: usize,
 }
 
@@ -63,12 +61,10 @@ fn print_unreadable(out: &mut [u8], at: usize) -> usize
 }
 
 // Prints the line of a call whose reply stands at the front of a buffer.
-fn tell(lent: Lent, reply: &[u8], out: &mut [u8], at: usize) -> Performed
-    requires { ⌜ (countOf (lent .ended) ≤ length (now reply)) × (at + 2 * length (now reply) + 3 ≤ length (now out)) ⌝ }
-    ensures { λ r. ⌜ ((x : Answer) (p before : List ℕ) → Answers x (lent .ledger) p (lent .ended) before (now (reply .entry)) → Says (x .state) (lineBytes (printed (x .outcome))) r p (now (out .entry)) at (now (out .exit))) ⌝ }
+fn tell(ledger: [u16; 50], ended: Ended, reply: &[u8], out: &mut [u8], at: usize) -> Performed
+    requires { ⌜ (countOf ended ≤ length (now reply)) × (at + 2 * length (now reply) + 3 ≤ length (now out)) ⌝ }
+    ensures { λ r. ⌜ ((x : Answer) (p before : List ℕ) → AnswersAt x ledger p ended before (now (reply .entry)) → Says (x .state) (lineBytes (printed (x .outcome))) r p (now (out .entry)) at (now (out .exit))) ⌝ }
 {
-    let ledger = lent.ledger;
-    let ended = lent.ended;
     Performed {
         ledger,
         at: print(out, at, ended, reply),
@@ -77,24 +73,25 @@ fn tell(lent: Lent, reply: &[u8], out: &mut [u8], at: usize) -> Performed
 
 // A command and its line.
 fn say_command(
-    ledger: Ledger,
+    ledger: [u16; 50],
     pool: &mut [u8; 8192],
     frame: &[u8],
     reply: &mut [u8],
     out: &mut [u8],
     at: usize,
 ) -> Performed
-    requires { ⌜ GoodIn ledger (now pool) ⌝ }
+    requires { ⌜ GoodAt ledger (now pool) ⌝ }
     requires { ⌜ at + 2 * length (now reply) + 3 ≤ length (now out) ⌝ }
-    ensures { λ r. ⌜ SaysLine (perform (shown ledger (now (pool .entry))) (some (commanding (length (now (reply .entry))) (now (frame .entry))))) r (now (pool .exit)) (now (out .entry)) at (now (out .exit)) ⌝ }
+    ensures { λ r. ⌜ SaysLine (perform (shownAt ledger (now (pool .entry))) (some (commanding (length (now (reply .entry))) (now (frame .entry))))) r (now (pool .exit)) (now (out .entry)) at (now (out .exit)) ⌝ }
 {
-    let lent = command_in(ledger, pool, frame, reply);
-    tell(lent, reply, out, at)
+    let mut kept = ledger;
+    let ended = command_in(&mut kept, pool, frame, reply);
+    tell(kept, ended, reply, out, at)
 }
 
 // An arrival and its line.
 fn say_arrival(
-    ledger: Ledger,
+    ledger: [u16; 50],
     pool: &mut [u8; 8192],
     n: ChannelNumber,
     bytes: &[u8],
@@ -102,59 +99,62 @@ fn say_arrival(
     out: &mut [u8],
     at: usize,
 ) -> Performed
-    requires { ⌜ GoodIn ledger (now pool) ⌝ }
+    requires { ⌜ GoodAt ledger (now pool) ⌝ }
     requires { ⌜ at + 2 * length (now reply) + 3 ≤ length (now out) ⌝ }
-    ensures { λ r. ⌜ SaysLine (perform (shown ledger (now (pool .entry))) (some (arriving (length (now (reply .entry))) n (now (bytes .entry))))) r (now (pool .exit)) (now (out .entry)) at (now (out .exit)) ⌝ }
+    ensures { λ r. ⌜ SaysLine (perform (shownAt ledger (now (pool .entry))) (some (arriving (length (now (reply .entry))) n (now (bytes .entry))))) r (now (pool .exit)) (now (out .entry)) at (now (out .exit)) ⌝ }
 {
-    let lent = arrival_in(ledger, pool, n, bytes, reply);
-    tell(lent, reply, out, at)
+    let mut kept = ledger;
+    let ended = arrival_in(&mut kept, pool, n, bytes, reply);
+    tell(kept, ended, reply, out, at)
 }
 
 // A take and its line.
 fn say_take(
-    ledger: Ledger,
+    ledger: [u16; 50],
     pool: &mut [u8; 8192],
     n: ChannelNumber,
     reply: &mut [u8],
     out: &mut [u8],
     at: usize,
 ) -> Performed
-    requires { ⌜ GoodIn ledger (now pool) ⌝ }
+    requires { ⌜ GoodAt ledger (now pool) ⌝ }
     requires { ⌜ at + 2 * length (now reply) + 3 ≤ length (now out) ⌝ }
-    ensures { λ r. ⌜ SaysLine (perform (shown ledger (now (pool .entry))) (some (takingOut (length (now (reply .entry))) n))) r (now (pool .exit)) (now (out .entry)) at (now (out .exit)) ⌝ }
+    ensures { λ r. ⌜ SaysLine (perform (shownAt ledger (now (pool .entry))) (some (takingOut (length (now (reply .entry))) n))) r (now (pool .exit)) (now (out .entry)) at (now (out .exit)) ⌝ }
 {
-    let lent = taking_in(ledger, pool, n, reply);
-    tell(lent, reply, out, at)
+    let mut kept = ledger;
+    let ended = taking_in(&mut kept, pool, n, reply);
+    tell(kept, ended, reply, out, at)
 }
 
 // A drop and its line.
 fn say_drop(
-    ledger: Ledger,
+    ledger: [u16; 50],
     pool: &mut [u8; 8192],
     n: ChannelNumber,
     reply: &mut [u8],
     out: &mut [u8],
     at: usize,
 ) -> Performed
-    requires { ⌜ GoodIn ledger (now pool) ⌝ }
+    requires { ⌜ GoodAt ledger (now pool) ⌝ }
     requires { ⌜ at + 2 * length (now reply) + 3 ≤ length (now out) ⌝ }
-    ensures { λ r. ⌜ SaysLine (perform (shown ledger (now (pool .entry))) (some (droppingLink (length (now (reply .entry))) n))) r (now (pool .exit)) (now (out .entry)) at (now (out .exit)) ⌝ }
+    ensures { λ r. ⌜ SaysLine (perform (shownAt ledger (now (pool .entry))) (some (droppingLink (length (now (reply .entry))) n))) r (now (pool .exit)) (now (out .entry)) at (now (out .exit)) ⌝ }
 {
-    let lent = dropping_in(ledger, n, reply);
-    tell(lent, reply, out, at)
+    let mut kept = ledger;
+    let ended = dropping_in(&mut kept, n, reply);
+    tell(kept, ended, reply, out, at)
 }
 
 // Does what a frame asks for, and prints its line; R9 where it is no call.
 fn answer(
-    ledger: Ledger,
+    ledger: [u16; 50],
     pool: &mut [u8; 8192],
     frame: &[u8],
     out: &mut [u8],
     at: usize,
 ) -> Performed
-    requires { ⌜ GoodIn ledger (now pool) ⌝ }
+    requires { ⌜ GoodAt ledger (now pool) ⌝ }
     requires { ⌜ at + 3003 ≤ length (now out) ⌝ }
-    ensures { λ r. ⌜ SaysLine (perform (shown ledger (now (pool .entry))) (callOf (now (frame .entry)))) r (now (pool .exit)) (now (out .entry)) at (now (out .exit)) ⌝ }
+    ensures { λ r. ⌜ SaysLine (perform (shownAt ledger (now (pool .entry))) (callOf (now (frame .entry)))) r (now (pool .exit)) (now (out .entry)) at (now (out .exit)) ⌝ }
 {
     let mut reply = [0u8; 1500];
     match read_call(frame) {
@@ -171,17 +171,17 @@ fn answer(
 
 // Performs a line after the first, and prints its answer into `out` from `at` on.
 pub fn perform(
-    ledger: Ledger,
+    ledger: [u16; 50],
     pool: &mut [u8; 8192],
     line: &[u8],
     out: &mut [u8],
     at: usize,
 ) -> Performed
-    requires { ⌜ GoodIn ledger (now pool) ⌝ }
+    requires { ⌜ GoodAt ledger (now pool) ⌝ }
     requires { ⌜ at + 3003 ≤ length (now out) ⌝ }
-    ensures { λ r. ⌜ Shows (lineStep (shown ledger (now (pool .entry))) (now (line .entry)) .state) (r .ledger) (now (pool .exit)) × GoodIn (r .ledger) (now (pool .exit)) ⌝ }
-    ensures { λ r. ⌜ now (out .exit) ≡ pasted (now (out .entry)) at (goes (shown ledger (now (pool .entry))) (now (line .entry)) .out) ⌝ }
-    ensures { λ r. ⌜ r .at ≡ at + length (goes (shown ledger (now (pool .entry))) (now (line .entry)) .out) ⌝ }
+    ensures { λ r. ⌜ ShowsAt (lineStep (shownAt ledger (now (pool .entry))) (now (line .entry)) .state) (r .ledger) (now (pool .exit)) × GoodAt (r .ledger) (now (pool .exit)) ⌝ }
+    ensures { λ r. ⌜ now (out .exit) ≡ pasted (now (out .entry)) at (goes (shownAt ledger (now (pool .entry))) (now (line .entry)) .out) ⌝ }
+    ensures { λ r. ⌜ r .at ≡ at + length (goes (shownAt ledger (now (pool .entry))) (now (line .entry)) .out) ⌝ }
 {
     let mut frame = [0u8; 1600];
     match read_frame(line, &mut frame) {
@@ -196,36 +196,40 @@ pub fn perform(
 // Performs the first line, which is the profile: a fresh session, and R9 where the line is unreadable.
 pub fn begin(pool: &mut [u8; 8192], line: &[u8], out: &mut [u8], at: usize) -> Performed
     requires { ⌜ (at + 3003 ≤ length (now out)) × (length (now pool) ≡ 8192) ⌝ }
-    ensures { λ r. ⌜ Shows (begins (frameOf (now (line .entry))) .reader .state) (r .ledger) (now (pool .exit)) × GoodIn (r .ledger) (now (pool .exit)) ⌝ }
+    ensures { λ r. ⌜ ShowsAt (begins (frameOf (now (line .entry))) .reader .state) (r .ledger) (now (pool .exit)) × GoodAt (r .ledger) (now (pool .exit)) ⌝ }
     ensures { λ r. ⌜ now (out .exit) ≡ pasted (now (out .entry)) at (begins (frameOf (now (line .entry))) .out) ⌝ }
     ensures { λ r. ⌜ r .at ≡ at + length (begins (frameOf (now (line .entry))) .out) ⌝ }
 {
     octets::clear(pool, 0, 8192);
+    let mut ledger = [0u16; 50];
     let mut frame = [0u8; 1600];
     match read_frame(line, &mut frame) {
-        Frame::Bytes(n) => Performed {
-            ledger: fresh_ledger(&frame[..n]),
-            at,
-        },
-        Frame::Unreadable => Performed {
-            ledger: fresh_ledger(b""),
-            at: print_unreadable(out, at),
-        },
+        Frame::Bytes(n) => {
+            start_ledger(&mut ledger, &frame[..n]);
+            Performed { ledger, at }
+        }
+        Frame::Unreadable => {
+            start_ledger(&mut ledger, b"");
+            Performed {
+                ledger,
+                at: print_unreadable(out, at),
+            }
+        }
     }
 }
 
 // Performs a line that is whole: the first, or one after it.
 fn end_line(
     begun: bool,
-    ledger: Ledger,
+    ledger: [u16; 50],
     pool: &mut [u8; 8192],
     line: &[u8],
     out: &mut [u8],
     at: usize,
 ) -> Performed
-    requires { ⌜ GoodIn ledger (now pool) ⌝ }
+    requires { ⌜ GoodAt ledger (now pool) ⌝ }
     requires { ⌜ at + 3003 ≤ length (now out) ⌝ }
-    ensures { λ r. ⌜ SaysFed (lineEnds (record { begun = begun; state = shown ledger (now (pool .entry)); pending = now (line .entry) })) r (now (pool .exit)) (now (out .entry)) at (now (out .exit)) ⌝ }
+    ensures { λ r. ⌜ SaysFed (lineEnds (record { begun = begun; state = shownAt ledger (now (pool .entry)); pending = now (line .entry) })) r (now (pool .exit)) (now (out .entry)) at (now (out .exit)) ⌝ }
 {
     if begun {
         return perform(ledger, pool, line, out, at);
@@ -301,11 +305,13 @@ pub fn finish(
 // What the program keeps before its first byte, with a pool of zeros.
 pub fn before() -> Running
     ensures { λ r. ⌜ ((line : List ℕ) → Holds atFirst r (replicate 8192 0) line) ⌝ }
-    ensures { λ r. ⌜ GoodIn (r .ledger) (replicate 8192 0) ⌝ }
+    ensures { λ r. ⌜ GoodAt (r .ledger) (replicate 8192 0) ⌝ }
 {
+    let mut ledger = [0u16; 50];
+    start_ledger(&mut ledger, b"");
     Running {
         begun: false,
-        ledger: fresh_ledger(b""),
+        ledger,
         len: 0,
     }
 }

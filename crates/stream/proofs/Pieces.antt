@@ -14,7 +14,7 @@ use Rattle.rules.specs.Checks.{_⇒_else_, member, some-of}
 use Rattle.rules.specs.Input.{Reader, Fed, feeds, atFirst}
 use Rattle.rules.proofs.Input.{fed-pieces}
 use Rattle.octets.specs.Parts.{pasted}
-use Rattle.session.specs.Picture.{GoodIn}
+use Rattle.session.specs.Picture.{GoodAt}
 use Rattle.text.specs.Gathers.{beforeFeed}
 use Rattle.lines.specs.declared.Running.{Running}
 use Rattle.lines.specs.declared.Progress.{Progress}
@@ -110,13 +110,13 @@ pub record Turning (c : Running) (p line piece out : List ℕ) : Type 0 where
   pub output : length out ≡ 65536
 
 pub turning-none :
-    (c : Running) (p line piece out : List ℕ) → ((l : List ℕ) → Holds atFirst c (replicate 8192 0) l) × GoodIn (c .ledger) (replicate 8192 0) →
+    (c : Running) (p line piece out : List ℕ) → ((l : List ℕ) → Holds atFirst c (replicate 8192 0) l) × GoodAt (c .ledger) (replicate 8192 0) →
     p ≡ replicate 8192 0 → (length line ≡ 3201) × (length piece ≡ 65536) × (length out ≡ 65536) → Turning c p line piece out
 unfolding atFirst
 turning-none c p line piece out t e n =
     let few = t .0 line .count in
     record {
-      ready = record { good = subst (GoodIn (c .ledger)) (sym e) (t .1); size = n .0; kept = omega arith };
+      ready = record { good = subst (GoodAt (c .ledger)) (sym e) (t .1); size = n .0; kept = omega arith };
       input = n .1;
       output = n .2;
     }

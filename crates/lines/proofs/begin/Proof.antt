@@ -22,34 +22,34 @@ enum-known-n : tie.Need-enum-known-n
 enum-known-n c = search needs
 
 array-share-prefix-frame : tie.Need-array-share-prefix-frame
-array-share-prefix-frame c = (frame-read _ _ _ _ _ (c .before .before .before .before .read-frame .ensures) (c .before .n .given .1)) .fits
+array-share-prefix-frame c = (frame-read _ _ _ _ _ (c .before .before .before .before .before .read-frame .ensures) (c .before .before .n .given .1)) .fits
 
-slice-aggregate-fresh-ledger : tie.Need-slice-aggregate-fresh-ledger
-slice-aggregate-fresh-ledger c = sym (length-take-le _ _ ((frame-read _ _ _ _ _ (c .before .before .before .before .before .read-frame .ensures) (c .before .before .n .given .1)) .fits))
+slice-aggregate-start-ledger : tie.Need-slice-aggregate-start-ledger
+slice-aggregate-start-ledger c = sym (length-take-le _ _ ((frame-read _ _ _ _ _ (c .before .before .before .before .before .before .read-frame .ensures) (c .before .before .before .n .given .1)) .fits))
 
-fresh-ledger-requires : tie.Need-fresh-ledger-requires
-fresh-ledger-requires c κs = search needs
+start-ledger-requires : tie.Need-start-ledger-requires
+start-ledger-requires c κs = search needs
 
 enum-told : tie.Need-enum-told
 enum-told c = search needs
 
-slice-aggregate-fresh-ledger-2 : tie.Need-slice-aggregate-fresh-ledger-2
-slice-aggregate-fresh-ledger-2 c = search needs
+slice-aggregate-start-ledger-2 : tie.Need-slice-aggregate-start-ledger-2
+slice-aggregate-start-ledger-2 c = search needs
 
-fresh-ledger-requires-2 : tie.Need-fresh-ledger-requires-2
-fresh-ledger-requires-2 c κs = search needs
+start-ledger-requires-2 : tie.Need-start-ledger-requires-2
+start-ledger-requires-2 c κs = search needs
 
 print-unreadable-requires : tie.Need-print-unreadable-requires
 print-unreadable-requires c κs = search needs
 
 returns : tie.Need-returns
-returns c = first-read _ _ _ _ (c .before .before .before .before .before .before .before .before .before .before .before .before .pre .1) (c .before .before .before .before .before .before .before .before .clear .ensures) (c .fresh-ledger .ensures) _ (now (c .before .before .before .before .before .before .before .before .before .before .before .before .args .out)) (c .before .before .before .before .before .before .before .before .before .before .before .before .args .at) ((frame-read _ _ _ _ _ (c .before .before .before .before .before .before .read-frame .ensures) (c .before .before .before .n .given .1)) .bytes)
+returns c = first-read _ _ _ _ (c .before .before .before .before .before .before .before .before .before .before .before .before .before .pre .1) (c .before .before .before .before .before .before .before .before .before .clear .ensures) (c .start-ledger .ensures) _ (now (c .before .before .before .before .before .before .before .before .before .before .before .before .before .args .out)) (c .before .before .before .before .before .before .before .before .before .before .before .before .before .args .at) ((frame-read _ _ _ _ _ (c .before .before .before .before .before .before .before .read-frame .ensures) (c .before .before .before .before .n .given .1)) .bytes)
 
 same-length : tie.Need-same-length
 same-length c = search needs
 
 returns-2 : tie.Need-returns-2
-returns-2 c = first-unread _ _ _ (c .before .before .before .before .before .before .before .before .before .before .before .before .before .before .before .pre .1) (c .before .before .before .before .before .before .before .before .before .before .before .clear .ensures) (c .before .before .before .before .fresh-ledger2 .ensures) _ _ _ _ _ (frame-unread _ _ (c .before .before .before .before .before .before .before .before .before .read-frame .ensures .0) (c .before .before .before .before .before .before .enum-told .given .1)) (c .before .before .print-unreadable .ensures)
+returns-2 c = first-unread _ _ _ (c .before .before .before .before .before .before .before .before .before .before .before .before .before .before .before .before .pre .1) (c .before .before .before .before .before .before .before .before .before .before .before .before .clear .ensures) (c .before .before .before .before .start-ledger2 .ensures) _ _ _ _ _ (frame-unread _ _ (c .before .before .before .before .before .before .before .before .before .before .read-frame .ensures .0) (c .before .before .before .before .before .before .before .enum-told .given .1)) (c .before .before .print-unreadable .ensures)
 
 pub begin-spec : {M : Type 1} → statement M
 begin-spec =
@@ -60,11 +60,11 @@ begin-spec =
     read-frame-requires
     enum-known-n
     array-share-prefix-frame
-    slice-aggregate-fresh-ledger
-    fresh-ledger-requires
+    slice-aggregate-start-ledger
+    start-ledger-requires
     enum-told
-    slice-aggregate-fresh-ledger-2
-    fresh-ledger-requires-2
+    slice-aggregate-start-ledger-2
+    start-ledger-requires-2
     print-unreadable-requires
     returns
     same-length

@@ -9,10 +9,10 @@ use Rattle.lines.proofs.say_drop.Statement.{statement}
 use Rattle.lines.proofs.say_drop.Tie as tie
 
 dropping-in-requires : tie.Need-dropping-in-requires
-dropping-in-requires c κs = search needs
+dropping-in-requires c κs = record { pool = _; good = c .before .before .before .before .pre .0 }
 
 tell-requires : tie.Need-tell-requires
-tell-requires c κs = (count-fits _ _ _ _ _ _ (c .before .before .before .before .dropping-in .ensures _ (c .before .before .before .before .before .before .before .before .pre .0)), omega arith)
+tell-requires c κs = (count-fits _ _ _ _ _ _ (c .before .before .before .before .dropping-in .ensures _ (c .before .before .before .before .before .before .before .before .before .pre .0)), omega arith)
 
 same-length : tie.Need-same-length
 same-length c = search needs
@@ -22,7 +22,7 @@ same-length-2 c = search needs
 
 returns : tie.Need-returns
 unfolding perform step
-returns c = c .before .before .tell .ensures _ _ _ (c .before .before .before .before .before .before .before .dropping-in .ensures _ (c .before .before .before .before .before .before .before .before .before .before .before .pre .0))
+returns c = c .before .before .tell .ensures _ _ _ (c .before .before .before .before .before .before .before .dropping-in .ensures _ (c .before .before .before .before .before .before .before .before .before .before .before .before .pre .0))
 
 pub say-drop-spec : {M : Type 1} → statement M
 say-drop-spec =
