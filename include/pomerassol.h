@@ -24,54 +24,40 @@ extern "C" {
 /* A number that a call returns is the count of bytes written, at most 1500, or this flag plus the refusal's number, 1 to 9. */
 #define POMERASSOL_REFUSED UINT32_C(0x1000000)
 
-/* The link of a channel. */
+/* The link of a channel, by its number. */
 #define POMERASSOL_NOT_YET 0
 #define POMERASSOL_ESTABLISHED 1
 #define POMERASSOL_DROPPED 2
 
-/* A channel: its grant (0 where it is not open), its link, the bytes held each way, and how many of those to send are ready. */
-typedef struct {
-    uint16_t grant;
-    uint8_t link;
-    uint16_t rx;
-    uint16_t tx;
-    uint16_t ready;
-} pomerassol_channel;
-
-/* The event list: whether 09, data available, and 0A, channel status, are listed. Each is 0 or 1. */
-typedef struct {
-    uint8_t available;
-    uint8_t status;
-} pomerassol_events;
-
-/* The kept bytes of the profile, the event list, and channels 1 to 7. */
-typedef struct {
-    uint8_t profile[13];
-    pomerassol_events events;
-    pomerassol_channel channels[7];
-} pomerassol_ledger;
+/* The ledger is 50 numbers. Here is the place of each:
+ *   - from 0 to 12 the kept bytes of the profile, each at most 255;
+ *   - 13 and 14 the event list: whether 09, data available, and 0A, channel status, are listed. Each is 0 or 1;
+ *   - from 15 on five numbers for each of the channels 1 to 7, in this order: its grant (0 where it is not open), its link,
+ *     the bytes held for receive, the bytes held for send, and how many of those to send are ready. */
+#define POMERASSOL_PROFILE 0
+#define POMERASSOL_PROFILE_SIZE 13
+#define POMERASSOL_EVENT_AVAILABLE 13
+#define POMERASSOL_EVENT_STATUS 14
+#define POMERASSOL_CHANNEL(n) (15 + 5 * ((n) - 1))
+#define POMERASSOL_GRANT(n) (POMERASSOL_CHANNEL(n) + 0)
+#define POMERASSOL_LINK(n) (POMERASSOL_CHANNEL(n) + 1)
+#define POMERASSOL_RX(n) (POMERASSOL_CHANNEL(n) + 2)
+#define POMERASSOL_TX(n) (POMERASSOL_CHANNEL(n) + 3)
+#define POMERASSOL_READY(n) (POMERASSOL_CHANNEL(n) + 4)
 
 /* What a host keeps for a card. Every held byte lies in the pool; a host reads the record if it likes, and never writes it. */
 typedef struct {
-    pomerassol_ledger ledger;
+    uint16_t ledger[50];
     uint8_t pool[8192];
 } pomerassol_session;
 
-POMERASSOL_ASSERT(sizeof(pomerassol_channel) == 10, "channel");
-POMERASSOL_ASSERT(offsetof(pomerassol_channel, grant) == 0, "grant");
-POMERASSOL_ASSERT(offsetof(pomerassol_channel, link) == 2, "link");
-POMERASSOL_ASSERT(offsetof(pomerassol_channel, rx) == 4, "rx");
-POMERASSOL_ASSERT(offsetof(pomerassol_channel, tx) == 6, "tx");
-POMERASSOL_ASSERT(offsetof(pomerassol_channel, ready) == 8, "ready");
-POMERASSOL_ASSERT(sizeof(pomerassol_events) == 2, "events");
-POMERASSOL_ASSERT(sizeof(pomerassol_ledger) == 86, "ledger");
-POMERASSOL_ASSERT(offsetof(pomerassol_ledger, events) == 13, "events");
-POMERASSOL_ASSERT(offsetof(pomerassol_ledger, channels) == 16, "channels");
-POMERASSOL_ASSERT(sizeof(pomerassol_session) == 8278, "session");
-POMERASSOL_ASSERT(offsetof(pomerassol_session, pool) == 86, "pool");
+POMERASSOL_ASSERT(sizeof(pomerassol_session) == 8292, "session");
+POMERASSOL_ASSERT(offsetof(pomerassol_session, ledger) == 0, "ledger");
+POMERASSOL_ASSERT(offsetof(pomerassol_session, pool) == 100, "pool");
+POMERASSOL_ASSERT(POMERASSOL_READY(7) == 49, "ready");
 
-/* A fresh session from profile bytes of any length; at a card's reset, anew. The record may hold anything whose two event
- * flags are 0 or 1, as memory that is all 0. Afterwards it shows `start` of the profile: no channel, no event, an empty pool. */
+/* A fresh session from profile bytes of any length; at a card's reset, anew. The record may hold anything, as memory that is
+ * all 0. Afterwards it shows `start` of the profile: no channel, no event, an empty pool. */
 void pomerassol_start(pomerassol_session *s, const uint8_t *profile, size_t profile_size);
 
 /* The card sends a command. The answer is `command` of the session, the buffer's size and the bytes: the response that the

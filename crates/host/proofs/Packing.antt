@@ -15,8 +15,7 @@ use Rattle.rules.proofs.Cases.{taking-cases}
 use Rattle.rules.proofs.Sizes.{written-within}
 use Rattle.rules.proofs.Soundness.{chan-sound}
 use Rattle.session.specs.declared.Ended.{Ended}
-use Rattle.session.specs.Book.{Ledger}
-use Rattle.session.specs.Calls.{endedOf, Answers}
+use Rattle.session.specs.Calls.{endedOf, AnswersAt}
 use Rattle.host.specs.Packed.{packed, Fits, Packs}
 
 within-fits : (k : ℕ) (o : Outcome) → k ≤ 1500 → Within k o → Fits (endedOf o)
@@ -40,13 +39,16 @@ call-fits a (arriving buffer n s) h = within-fits 16 _ (omega arith) (written-wi
 call-fits a (takingOut buffer n) h = within-fits 1500 _ (omega arith) (take-within a buffer n h)
 call-fits a (droppingLink buffer n) h = within-fits 16 _ (omega arith) (written-within a (droppingLink buffer n) h)
 
-module _ (a : State) (c : Call) (l : Ledger) (p : List ℕ) (e : Ended) (before after : List ℕ) (h : Answers (step a c) l p e before after) where
+module _ (a : State) (c : Call) (t p : List ℕ) (e : Ended) (before after : List ℕ) (h : AnswersAt (step a c) t p e before after) where
   -- how the call ended can be packed
   pub answer-fits : Sound a → Fits e
-  answer-fits s = subst Fits (sym (h .ended)) (call-fits a c s)
+  answer-fits s = subst Fits (sym (h .answers .ended)) (call-fits a c s)
 
   -- and once it is packed, the call is told
-  pub answer-packs : (m : Ledger) (r : ℕ) → (m ≡ l) × (r ≡ packed e) → Packs (step a c) m p r before after
-  answer-packs m r t =
-      subst (λ (k : Ledger). Packs (step a c) k p r before after) (sym (t .0))
-      (record { answers = record { shows = h .shows; good = h .good; ended = refl; lent = h .lent }; told = t .1 ∙ ap packed (h .ended) })
+  pub answer-packs : (r : ℕ) → r ≡ packed e → Packs (step a c) t p r before after
+  answer-packs r m =
+      let x = h .answers in
+      record {
+        answers = record { answers = record { shows = x .shows; good = x .good; ended = refl; lent = x .lent }; kept = h .kept };
+        told = m ∙ ap packed (x .ended);
+      }

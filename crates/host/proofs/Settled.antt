@@ -7,7 +7,7 @@ use Rattle.outcomes.specs.Settles.{Settles}
 use Rattle.outcomes.proofs.Claims.{from-claims}
 use Rattle.rules.specs.Command.{Answer}
 use Rattle.session.specs.declared.Session.{Session}
-use Rattle.session.proofs.Alike.{lent-alike, session-alike}
+use Rattle.session.proofs.Alike.{lent-alike, ledger-told, pool-told, session-alike}
 use Rattle.host.specs.Packed.{Hosts}
 use Rattle.host.proofs.pomerassol_start as start-call
 use Rattle.host.proofs.pomerassol_command as command-call
@@ -21,7 +21,7 @@ module _ {r : Answer} {m n : ℕ} {before after after′ : List ℕ} (s t : Sess
   number-alike = p .told ∙ sym (q .told)
 
   pub record-alike : s ≡ t
-  record-alike = session-alike s t (p .answers .shows) (q .answers .shows)
+  record-alike = λ i. record { ledger = ledger-told (p .answers) (q .answers) i; pool = pool-told (p .answers) (q .answers) i }
 
   pub buffer-alike : after ≡ after′
   buffer-alike = lent-alike (p .answers) (q .answers)

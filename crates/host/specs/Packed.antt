@@ -6,9 +6,8 @@ use Rattle.rules.specs.Words.{numberOf}
 use Rattle.rules.specs.Command.{Answer}
 use Rattle.session.specs.declared.Ended.{Ended}
 use Rattle.session.specs.declared.Ended.the-variants.{Wrote, Refused}
-use Rattle.session.specs.Book.{Ledger}
 use Rattle.session.specs.declared.Session.{Session}
-use Rattle.session.specs.Calls.{endedOf, Answers}
+use Rattle.session.specs.Calls.{endedOf, AnswersAt}
 
 -- the count of bytes written, or 1000000 (hexadecimal) plus the refusal's number
 unfoldable pub packed : Ended → ℕ
@@ -20,9 +19,9 @@ unfoldable pub Fits : Ended → Type 0
 Fits (Wrote count) = count ≤ 1500
 Fits (Refused r) = Unit {0}
 
--- the call is the answer x, on the parts that are lent, and the number tells how it ended
-pub record Packs (x : Answer) (l : Ledger) (p : List ℕ) (r : ℕ) (before after : List ℕ) : Type 0 where
-  pub answers : Answers x l p (endedOf (x .outcome)) before after
+-- the call is the answer x, on the two arrays that are lent, the ledger's numbers t and the pool p, and the number tells how it ended
+pub record Packs (x : Answer) (t p : List ℕ) (r : ℕ) (before after : List ℕ) : Type 0 where
+  pub answers : AnswersAt x t p (endedOf (x .outcome)) before after
   pub told : r ≡ packed (endedOf (x .outcome))
 
 -- the same on the record that the host lends

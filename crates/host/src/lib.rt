@@ -1,4 +1,4 @@
-// The calls over a record that the host lends, exported to C. Each lends the pool, moves only the ledger, and packs how it ended into one number.
+// The calls over a record that the host lends, exported to C. Each lends both arrays, moves nothing, and packs how it ended into one number.
 use modem::command_in;
 use octets;
 use radio::arrival_in;
@@ -6,23 +6,15 @@ use radio::dropping_in;
 use radio::taking_in;
 use rules::ChannelNumber;
 use session::Ended;
-use session::Ledger;
-use session::Lent;
 use session::Session;
-use session::fresh_ledger;
+use session::start_ledger;
 ghost use mathlib.Core.Path.{_≡_};
 ghost use lib.ListN.{length};
 ghost use Rattle.rules.specs.State.{start};
 ghost use Rattle.rules.specs.Command.{command};
 ghost use Rattle.rules.specs.Radio.{arrival, taking, dropping};
-ghost use Rattle.session.specs.Picture.{Good, GoodIn, Shows, shown, view};
+ghost use Rattle.session.specs.Picture.{Good, GoodAt, ShowsAt, shownAt, view};
 ghost use Rattle.host.specs.Packed.{packed, Fits, Hosts, Packs};
-
-// What a call over the lent parts of the record hands back: the ledger to store, and the number that tells how it ended.
-struct Told {
-    ledger: Ledger,
-    number: u32,
-}
 
 // How a call ended, in one number: the count, or 1000000 (hexadecimal) plus the refusal's number.
 fn pack(ended: Ended) -> u32
@@ -35,73 +27,64 @@ fn pack(ended: Ended) -> u32
     }
 }
 
-// What a call hands back, with how it ended packed.
-fn tell(lent: Lent) -> Told
-    requires { ⌜ Fits (lent .ended) ⌝ }
-    ensures { λ r. ⌜ (r .ledger ≡ lent .ledger) × (r .number ≡ packed (lent .ended)) ⌝ }
-{
-    let ledger = lent.ledger;
-    let ended = lent.ended;
-    Told {
-        ledger,
-        number: pack(ended),
-    }
-}
-
-// The start over the lent pool: its bytes are cleared, and a fresh ledger is handed back.
-fn start_lent(pool: &mut [u8; 8192], profile: &[u8]) -> Ledger
-    requires { ⌜ length (now pool) ≡ 8192 ⌝ }
-    ensures { λ r. ⌜ Shows (start (now (profile .entry))) r (now (pool .exit)) × GoodIn r (now (pool .exit)) ⌝ }
+// The start over the lent arrays: the pool's bytes are cleared, and the ledger is written anew.
+fn start_lent(ledger: &mut [u16; 50], pool: &mut [u8; 8192], profile: &[u8])
+    requires { ⌜ (length (now ledger) ≡ 50) × (length (now pool) ≡ 8192) ⌝ }
+    ensures { λ _. ⌜ ShowsAt (start (now (profile .entry))) (now (ledger .exit)) (now (pool .exit)) × GoodAt (now (ledger .exit)) (now (pool .exit)) ⌝ }
 {
     octets::clear(pool, 0, 8192);
-    fresh_ledger(profile)
+    start_ledger(ledger, profile);
 }
 
-// The command call over the lent parts.
-fn command_packed(ledger: Ledger, pool: &mut [u8; 8192], bytes: &[u8], out: &mut [u8]) -> Told
-    requires { ⌜ GoodIn ledger (now pool) ⌝ }
-    ensures { λ r. ⌜ Packs (command (shown ledger (now (pool .entry))) (length (now (out .entry))) (now (bytes .entry))) (r .ledger) (now (pool .exit)) (r .number) (now (out .entry)) (now (out .exit)) ⌝ }
+// The command call over the lent arrays.
+fn command_packed(
+    ledger: &mut [u16; 50],
+    pool: &mut [u8; 8192],
+    bytes: &[u8],
+    out: &mut [u8],
+) -> u32
+    requires { ⌜ GoodAt (now ledger) (now pool) ⌝ }
+    ensures { λ r. ⌜ Packs (command (shownAt (now (ledger .entry)) (now (pool .entry))) (length (now (out .entry))) (now (bytes .entry))) (now (ledger .exit)) (now (pool .exit)) r (now (out .entry)) (now (out .exit)) ⌝ }
 {
-    tell(command_in(ledger, pool, bytes, out))
+    pack(command_in(ledger, pool, bytes, out))
 }
 
-// The arrival over the lent parts.
+// The arrival over the lent arrays.
 fn arrival_packed(
-    ledger: Ledger,
+    ledger: &mut [u16; 50],
     pool: &mut [u8; 8192],
     channel: u8,
     bytes: &[u8],
     out: &mut [u8],
-) -> Told
-    requires { ⌜ GoodIn ledger (now pool) ⌝ }
-    ensures { λ r. ⌜ Packs (arrival (shown ledger (now (pool .entry))) (length (now (out .entry))) (record { 0 = channel }) (now (bytes .entry))) (r .ledger) (now (pool .exit)) (r .number) (now (out .entry)) (now (out .exit)) ⌝ }
+) -> u32
+    requires { ⌜ GoodAt (now ledger) (now pool) ⌝ }
+    ensures { λ r. ⌜ Packs (arrival (shownAt (now (ledger .entry)) (now (pool .entry))) (length (now (out .entry))) (record { 0 = channel }) (now (bytes .entry))) (now (ledger .exit)) (now (pool .exit)) r (now (out .entry)) (now (out .exit)) ⌝ }
 {
-    tell(arrival_in(ledger, pool, ChannelNumber(channel), bytes, out))
+    pack(arrival_in(ledger, pool, ChannelNumber(channel), bytes, out))
 }
 
-// The take over the lent parts.
-fn take_packed(ledger: Ledger, pool: &mut [u8; 8192], channel: u8, out: &mut [u8]) -> Told
-    requires { ⌜ GoodIn ledger (now pool) ⌝ }
-    ensures { λ r. ⌜ Packs (taking (shown ledger (now (pool .entry))) (length (now (out .entry))) (record { 0 = channel })) (r .ledger) (now (pool .exit)) (r .number) (now (out .entry)) (now (out .exit)) ⌝ }
+// The take over the lent arrays.
+fn take_packed(ledger: &mut [u16; 50], pool: &mut [u8; 8192], channel: u8, out: &mut [u8]) -> u32
+    requires { ⌜ GoodAt (now ledger) (now pool) ⌝ }
+    ensures { λ r. ⌜ Packs (taking (shownAt (now (ledger .entry)) (now (pool .entry))) (length (now (out .entry))) (record { 0 = channel })) (now (ledger .exit)) (now (pool .exit)) r (now (out .entry)) (now (out .exit)) ⌝ }
 {
-    tell(taking_in(ledger, pool, ChannelNumber(channel), out))
+    pack(taking_in(ledger, pool, ChannelNumber(channel), out))
 }
 
-// The drop over the lent parts. The pool stays.
-fn drop_packed(ledger: Ledger, pool: &mut [u8; 8192], channel: u8, out: &mut [u8]) -> Told
-    requires { ⌜ GoodIn ledger (now pool) ⌝ }
-    ensures { λ r. ⌜ Packs (dropping (shown ledger (now (pool .entry))) (length (now (out .entry))) (record { 0 = channel })) (r .ledger) (now (pool .exit)) (r .number) (now (out .entry)) (now (out .exit)) ⌝ }
+// The drop over the lent arrays. The pool stays; it is lent so that the session is asked to be good.
+fn drop_packed(ledger: &mut [u16; 50], pool: &mut [u8; 8192], channel: u8, out: &mut [u8]) -> u32
+    requires { ⌜ GoodAt (now ledger) (now pool) ⌝ }
+    ensures { λ r. ⌜ Packs (dropping (shownAt (now (ledger .entry)) (now (pool .entry))) (length (now (out .entry))) (record { 0 = channel })) (now (ledger .exit)) (now (pool .exit)) r (now (out .entry)) (now (out .exit)) ⌝ }
 {
-    tell(dropping_in(ledger, ChannelNumber(channel), out))
+    pack(dropping_in(ledger, ChannelNumber(channel), out))
 }
 
 // A fresh session from profile bytes of any length, in the host's record, whatever it held.
 #[no_mangle]
 pub extern "C" fn pomerassol_start(s: &mut Session, profile: &[u8])
-    ensures { λ _. ⌜ Shows (start (now (profile .entry))) (now (s .exit) .ledger) (now (s .exit) .pool) × Good (now (s .exit)) ⌝ }
+    ensures { λ _. ⌜ ShowsAt (start (now (profile .entry))) (now (s .exit) .ledger) (now (s .exit) .pool) × Good (now (s .exit)) ⌝ }
 {
-    let ledger = start_lent(&mut s.pool, profile);
-    s.ledger = ledger;
+    start_lent(&mut s.ledger, &mut s.pool, profile);
 }
 
 // The card sends a command.
@@ -110,9 +93,7 @@ pub extern "C" fn pomerassol_command(s: &mut Session, bytes: &[u8], out: &mut [u
     requires { ⌜ Good (now s) ⌝ }
     ensures { λ r. ⌜ Hosts (command (view (now (s .entry))) (length (now (out .entry))) (now (bytes .entry))) (now (s .exit)) r (now (out .entry)) (now (out .exit)) ⌝ }
 {
-    let told = command_packed(s.ledger, &mut s.pool, bytes, out);
-    s.ledger = told.ledger;
-    told.number
+    command_packed(&mut s.ledger, &mut s.pool, bytes, out)
 }
 
 // The radio brings bytes for a channel.
@@ -126,9 +107,7 @@ pub extern "C" fn pomerassol_arrival(
     requires { ⌜ Good (now s) ⌝ }
     ensures { λ r. ⌜ Hosts (arrival (view (now (s .entry))) (length (now (out .entry))) (record { 0 = channel }) (now (bytes .entry))) (now (s .exit)) r (now (out .entry)) (now (out .exit)) ⌝ }
 {
-    let told = arrival_packed(s.ledger, &mut s.pool, channel, bytes, out);
-    s.ledger = told.ledger;
-    told.number
+    arrival_packed(&mut s.ledger, &mut s.pool, channel, bytes, out)
 }
 
 // The radio takes the bytes of a channel that are ready, as many as fit.
@@ -137,9 +116,7 @@ pub extern "C" fn pomerassol_take(s: &mut Session, channel: u8, out: &mut [u8]) 
     requires { ⌜ Good (now s) ⌝ }
     ensures { λ r. ⌜ Hosts (taking (view (now (s .entry))) (length (now (out .entry))) (record { 0 = channel })) (now (s .exit)) r (now (out .entry)) (now (out .exit)) ⌝ }
 {
-    let told = take_packed(s.ledger, &mut s.pool, channel, out);
-    s.ledger = told.ledger;
-    told.number
+    take_packed(&mut s.ledger, &mut s.pool, channel, out)
 }
 
 // The radio tells that the link of a channel was dropped.
@@ -148,7 +125,5 @@ pub extern "C" fn pomerassol_drop(s: &mut Session, channel: u8, out: &mut [u8]) 
     requires { ⌜ Good (now s) ⌝ }
     ensures { λ r. ⌜ Hosts (dropping (view (now (s .entry))) (length (now (out .entry))) (record { 0 = channel })) (now (s .exit)) r (now (out .entry)) (now (out .exit)) ⌝ }
 {
-    let told = drop_packed(s.ledger, &mut s.pool, channel, out);
-    s.ledger = told.ledger;
-    told.number
+    drop_packed(&mut s.ledger, &mut s.pool, channel, out)
 }

@@ -1,4 +1,4 @@
--- `host::arrival_packed` meets its contract: that of the arrival over a lent pool, told.
+-- `host::arrival_packed` meets its contract: that of the arrival over the lent arrays, packed.
 -- Assumes nothing.
 use Rattle.rules.specs.Run.{arriving, step}
 use Rattle.host.proofs.Packing.{answer-fits, answer-packs}
@@ -7,22 +7,22 @@ use Rattle.host.proofs.arrival_packed.Statement.{statement}
 use Rattle.host.proofs.arrival_packed.Tie as tie
 use Rattle.host.proofs.arrival_packed.Reads as reads
 use Rattle.host.proofs.arrival_packed.Lts as lts
-use Rattle.host.proofs.tell.Reads as tell-reads
+use Rattle.host.proofs.pack.Reads as pack-reads
 use Rattle.radio.proofs.arrival_in.Reads as arrival-in-reads
 
 arrival-in-requires : tie.Need-arrival-in-requires
 arrival-in-requires c κs = search needs
 
-tell-requires : tie.Need-tell-requires
+pack-requires : tie.Need-pack-requires
 unfolding step
-tell-requires c κs = answer-fits _ (arriving _ _ _) _ _ _ _ _ (c .before .before .arrival-in .ensures) (c .before .before .before .before .before .before .before .pre .sound)
+pack-requires c κs = answer-fits _ (arriving _ _ _) _ _ _ _ _ (c .before .before .arrival-in .ensures) (c .before .before .before .before .before .before .before .before .pre .good .sound)
 
 same-length : tie.Need-same-length
 same-length c = search needs
 
 returns : tie.Need-returns
 unfolding step
-returns c = answer-packs _ (arriving _ _ _) _ _ _ _ _ (c .before .before .before .arrival-in .ensures) _ _ (c .tell .ensures)
+returns c = answer-packs _ (arriving _ _ _) _ _ _ _ _ (c .before .before .before .arrival-in .ensures) _ (c .pack .ensures)
 
 pub arrival-packed-spec : {M : Type 1} → statement M
-arrival-packed-spec = tie.close (tie.spec arrival-in-requires tell-requires same-length returns)
+arrival-packed-spec = tie.close (tie.spec arrival-in-requires pack-requires same-length returns)

@@ -1,4 +1,4 @@
--- `host::start_lent` meets its contract: a pool that is cleared whole is the pool of a fresh session.
+-- `host::start_lent` meets its contract: a pool that is cleared whole is the pool of a fresh session, and the ledger is written anew.
 -- Assumes nothing.
 use Prim.Native.Nat.{ℕ, _+_, _-_}
 use mathlib.Core.Path.{_≡_, ap, _∙_}
@@ -10,8 +10,7 @@ use denote.Ref.{now}
 use Rattle.rules.specs.State.{start}
 use Rattle.rules.proofs.Soundness.{start-sound}
 use Rattle.octets.specs.Parts.{pasted, cleared}
-use Rattle.session.specs.Picture.{Shows}
-use Rattle.session.proofs.Views.{shows-good}
+use Rattle.session.proofs.Views.{shows-at, good-at}
 use Rattle.session.proofs.Starts.{empty-pool}
 use borrow.Author.Needs.{needs}
 use Rattle.host.proofs.start_lent.Statement.{statement}
@@ -19,7 +18,7 @@ use Rattle.host.proofs.start_lent.Tie as tie
 use Rattle.host.proofs.start_lent.Reads as reads
 use Rattle.host.proofs.start_lent.Lts as lts
 use Rattle.octets.proofs.clear.Reads as clear-reads
-use Rattle.session.proofs.fresh_ledger.Reads as fresh-ledger-reads
+use Rattle.session.proofs.start_ledger.Reads as start-ledger-reads
 
 -- a list that is cleared whole
 all-cleared : (n : ℕ) (d : List ℕ) → length d ≡ n → cleared d 0 n ≡ replicate n 0
@@ -34,16 +33,17 @@ all-cleared n d h =
 clear-requires : tie.Need-clear-requires
 clear-requires c κs = search needs
 
-fresh-ledger-requires : tie.Need-fresh-ledger-requires
-fresh-ledger-requires c κs = search needs
+start-ledger-requires : tie.Need-start-ledger-requires
+start-ledger-requires c κs = search needs
 
 returns : tie.Need-returns
 returns c =
-    let s = c .before .before .before .before in
+    let s = c .before .before .before .before .before in
     let p = now (s .args .profile) in
-    let shows : Shows (start p) (c .fresh-ledger .result) _ =
-    record { ledger = c .fresh-ledger .ensures; pool = c .before .clear .ensures ∙ all-cleared 8192 (now (s .args .pool)) (s .pre) ∙ empty-pool p } in
-    (shows, shows-good (start p) _ _ (start-sound p) shows)
+    let z = start-sound p in
+    let shows =
+    shows-at (start p) _ _ z (c .start-ledger .ensures) (c .before .before .clear .ensures ∙ all-cleared 8192 (now (s .args .pool)) (s .pre .1) ∙ empty-pool p) in
+    (shows, good-at (start p) _ _ z shows)
 
 pub start-lent-spec : {M : Type 1} → statement M
-start-lent-spec = tie.close (tie.spec clear-requires fresh-ledger-requires returns)
+start-lent-spec = tie.close (tie.spec clear-requires start-ledger-requires returns)
