@@ -217,8 +217,9 @@ pub fn send(
     if room < bytes.len() {
         return tell_problem(out, d, 0x04);
     }
+    let rest = room - bytes.len();
+    let count = tell_sent(out, d, plain(ignored), told(rest));
     store(ledger, pool, n, bytes);
     send_on(ledger, n, d.qualifier);
-    let rest = room - bytes.len();
-    tell_sent(out, d, plain(ignored), told(rest))
+    count
 }

@@ -4,8 +4,10 @@ use pool::Pool;
 use rules::ChannelNumber;
 use rules::Link;
 use rules::Refusal;
+use session::AVAILABLE_AT;
 use session::Answered;
 use session::Ended;
+use session::STATUS_AT;
 use session::Session;
 use session::arrive;
 use session::base;
@@ -26,7 +28,7 @@ ghost use Rattle.radio.specs.declared.Permit.the-variants.{Pass};
 ghost use Rattle.radio.specs.Permits.{permitOf, arrivalTold, dropTold};
 
 // Whether a channel may be used by the radio, or R3, R4 or R5.
-pub enum Permit {
+enum Permit {
     Pass,
     Refuse(Refusal),
 }
@@ -118,7 +120,7 @@ fn accept(
     ensures { λ r. ⌜ AnswersAt (arrival (shownAt (now (ledger .entry)) (now (pool .entry))) (length (now (out .entry))) n (now (bytes .entry))) (now (ledger .exit)) (now (pool .exit)) r (now (out .entry)) (now (out .exit)) ⌝ }
 {
     let c = entry(ledger, n);
-    let listed = ledger[13];
+    let listed = ledger[AVAILABLE_AT];
     let rx = c.rx as usize;
     let grant = c.grant as usize;
     if grant - rx < bytes.len() {
@@ -196,7 +198,7 @@ fn tell_dropped(ledger: &mut [u16; 50], n: ChannelNumber, out: &mut [u8]) -> End
     requires { ⌜ (1 ≤ n .0) × (n .0 ≤ 7) × (16 ≤ length (now out)) ⌝ }
     ensures { λ r. ⌜ ((p : List ℕ) → GoodAt (now (ledger .entry)) p → permitOf (shownAt (now (ledger .entry)) p) n ≡ Pass → AnswersAt (dropping (shownAt (now (ledger .entry)) p) (length (now (out .entry))) n) (now (ledger .exit)) p r (now (out .entry)) (now (out .exit))) ⌝ }
 {
-    let listed = ledger[14];
+    let listed = ledger[STATUS_AT];
     drop_link(ledger, n);
     if listed < 1 {
         return Ended::Wrote(0);

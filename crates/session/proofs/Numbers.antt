@@ -241,3 +241,7 @@ module _ (t : List ℕ) (k : Kept t) (e : Events) where
 
   pub listed-kept : Kept (set (set t 13 (listedNumber (e .available))) 14 (listedNumber (e .status)))
   listed-kept = subst Kept (sym listed-table) (kept-table w (thirteen-in t k) (seven-entries t))
+
+-- channel k + 1 has the entry at k
+pub at-hand : (es : List Channel) (k : ℕ) (d : Channel) → getD es (k + 1 - 1) d ≡ getD es k d
+at-hand es k d = ap (λ (j : ℕ). getD es j d) (let e : k + 1 - 1 ≡ k = omega arith in e)

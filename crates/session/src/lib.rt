@@ -23,6 +23,13 @@ pub const ESTABLISHED: u16 = 1;
 
 pub const DROPPED: u16 = 2;
 
+// Where the ledger says whether each event is listed, and where the channels' numbers begin.
+pub const AVAILABLE_AT: usize = 13;
+
+pub const STATUS_AT: usize = 14;
+
+const CHANNELS_AT: usize = 15;
+
 // A channel: its grant (0 where it is not open), its link by number, how many bytes are held each way, and how many of those to send are ready.
 pub struct Channel {
     pub grant: u16,
@@ -78,7 +85,7 @@ pub fn entry(ledger: &[u16; 50], n: ChannelNumber) -> Channel
     requires { ⌜ (1 ≤ n .0) × (n .0 ≤ 7) × (length (now ledger) ≡ 50) ⌝ }
     ensures { λ r. ⌜ r ≡ entryIn (ledgerIn (now (ledger .entry))) n ⌝ }
 {
-    let at = 5 * n.0 as usize + 10;
+    let at = 5 * (n.0 as usize - 1) + CHANNELS_AT;
     Channel {
         grant: ledger[at],
         link: ledger[at + 1],
@@ -93,7 +100,7 @@ pub fn put_entry(ledger: &mut [u16; 50], n: ChannelNumber, c: Channel)
     requires { ⌜ (1 ≤ n .0) × (n .0 ≤ 7) × Kept (now ledger) ⌝ }
     ensures { λ _. ⌜ Entered (now (ledger .entry)) n c (now (ledger .exit)) ⌝ }
 {
-    let at = 5 * n.0 as usize + 10;
+    let at = 5 * (n.0 as usize - 1) + CHANNELS_AT;
     ledger[at] = c.grant;
     ledger[at + 1] = c.link;
     ledger[at + 2] = c.rx;
@@ -109,7 +116,7 @@ pub fn base(ledger: &[u16; 50], k: usize) -> usize
     let mut at: usize = 0;
     let mut i: usize = 0;
     while i < k {
-        let grant = ledger[5 * i + 15];
+        let grant = ledger[5 * i + CHANNELS_AT];
         at += 2 * Pool::space(grant);
         i += 1;
     }
@@ -266,8 +273,8 @@ pub fn set_events(ledger: &mut [u16; 50], events: Events)
     requires { ⌜ Belongs (now ledger) ⌝ }
     ensures { λ _. ⌜ ((p : List ℕ) → GoodAt (now (ledger .entry)) p → ShowsAt (withEvents (shownAt (now (ledger .entry)) p) events) (now (ledger .exit)) p) ⌝ }
 {
-    ledger[13] = events.available as u16;
-    ledger[14] = events.status as u16;
+    ledger[AVAILABLE_AT] = events.available as u16;
+    ledger[STATUS_AT] = events.status as u16;
 }
 
 // A count as it is told: at most FF.

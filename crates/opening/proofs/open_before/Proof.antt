@@ -1,16 +1,13 @@
 -- `opening::open_before` meets its contract: each turn sees one open channel more.
 -- Assumes nothing.
-use Prim.Native.Nat.{_-_}
+use Prim.Native.Nat.{_-_, _≤_, _<_}
+use mathlib.Core.Path.{subst, _∙_}
 use native.Mathlib.Omega.{arith}
-use Rattle.opening.proofs.Unused.{Seen, seen-none, seen-more, seen-stop, seen-all}
-use Prim.Native.Nat.{ℕ, _≤_, _<_, _+_}
-use mathlib.Core.Path.{_≡_, ap, subst, _∙_}
-use lib.ListN.{getD}
-use mathlib.Core.List.{List}
 use denote.Ref.{now}
 use Rattle.session.specs.declared.Channel.{Channel}
 use Rattle.session.specs.Book.{ledgerIn}
-use Rattle.session.proofs.Numbers.{seven-entries}
+use Rattle.session.proofs.Numbers.{seven-entries, at-hand}
+use Rattle.opening.proofs.Unused.{Seen, seen-none, seen-more, seen-stop, seen-all}
 use Rattle.opening.proofs.open_before.Statement.{statement}
 use Rattle.opening.proofs.open_before.Tie as tie
 use Rattle.opening.proofs.open_before.Reads as reads
@@ -22,10 +19,6 @@ Inv-loop ledger n k₀ k = Seen (ledgerIn ledger .channels) n k
 
 abbrev μ-loop : tie.MeasureT-loop
 μ-loop ledger n k₀ k = n - k
-
--- the entry that was read is that of the channel at hand
-at-hand : (es : List Channel) (k : ℕ) (d : Channel) → getD es (k + 1 - 1) d ≡ getD es k d
-at-hand es k d = ap (λ (j : ℕ). getD es j d) (let e : k + 1 - 1 ≡ k = omega arith in e)
 
 loop-holds : tie.Need-loop-holds Inv-loop μ-loop
 loop-holds c = seen-none _ _ (seven-entries (now (c .args .ledger))) (c .pre .1)

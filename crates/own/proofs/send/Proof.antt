@@ -67,14 +67,6 @@ same-length-3 c = search needs
 returns-3 : tie.Need-returns-3
 returns-3 c = left-at _ _ _ _ _ _ _ _ (send-overfull _ _ _ (c .before .before .before .before .before .before .before .before .before .before .before .before .before .before .pre .0 .numbered) (c .before .before .before .before .before .before .before .before .before .before .before .before .before .before .args .d) (now (c .before .before .before .before .before .before .before .before .before .before .before .before .before .before .args .bytes)) (c .before .before .before .before .before .before .before .before .before .before .before .before .before .before .args .ignored) (subst (λ (x : Channel). 1 ≤ x .grant) (c .before .before .before .before .before .before .before .before .before .before .entry .ensures) (c .before .before .before .before .before .before .before .before .if1 .left)) (sym (c .before .before .before .before .before .before .before .is-dropped .ensures ∙ ap (λ (x : Channel). isDropped (linkOf (x .link))) (c .before .before .before .before .before .before .before .before .before .before .entry .ensures)) ∙ c .before .before .before .before .before .before .if2 .left) (subst (λ (x : Channel). x .grant - x .tx < length (now (c .before .before .before .before .before .before .before .before .before .before .before .before .before .before .args .bytes))) (c .before .before .before .before .before .before .before .before .before .before .entry .ensures) (c .before .before .before .before .if3 .taken))) (good-numbered (c .before .before .before .before .before .before .before .before .before .before .before .before .before .before .pre .0)) (c .before .before .tell-problem3 .ensures)
 
-store-requires : tie.Need-store-requires
-store-requires c κs = (c .before .before .before .before .before .before .before .before .before .before .before .before .pre .0, send-fits _ _ _ (c .before .before .before .before .before .before .before .before .before .before .before .before .pre .0 .numbered) (c .before .before .before .before .before .before .before .before .before .before .before .before .args .d) (now (c .before .before .before .before .before .before .before .before .before .before .before .before .args .bytes)) (c .before .before .before .before .before .before .before .before .before .before .before .before .args .ignored) (subst (λ (x : Channel). 1 ≤ x .grant) (c .before .before .before .before .before .before .before .before .entry .ensures) (c .before .before .before .before .before .before .if1 .left)) (subst (λ (x : Channel). length (now (c .before .before .before .before .before .before .before .before .before .before .before .before .args .bytes)) ≤ x .grant - x .tx) (c .before .before .before .before .before .before .before .before .entry .ensures) (c .before .before .if3 .left)))
-
-send-on-requires : tie.Need-send-on-requires
-send-on-requires c κs =
-    let z = c .before .store .ensures in
-    (record { pool = _; good = record { good = stored-ok _ _ _ (c .before .before .before .before .before .before .before .before .before .before .before .before .before .before .pre .0 .numbered) (c .before .before .before .before .before .before .before .before .before .before .before .before .before .before .args .d) (now (c .before .before .before .before .before .before .before .before .before .before .before .before .before .before .args .bytes)) (c .before .before .before .before .before .before .before .before .before .before .before .before .before .before .args .ignored) (subst (λ (x : Channel). 1 ≤ x .grant) (c .before .before .before .before .before .before .before .before .before .before .entry .ensures) (c .before .before .before .before .before .before .before .before .if1 .left)) (subst (λ (x : Channel). length (now (c .before .before .before .before .before .before .before .before .before .before .before .before .before .before .args .bytes)) ≤ x .grant - x .tx) (c .before .before .before .before .before .before .before .before .before .before .entry .ensures) (c .before .before .before .before .if3 .left)) _ _ (z .shows); kept = z .kept } }, (c .before .before .before .before .before .before .before .before .before .before .before .before .before .before .pre .0 .numbered .low, c .before .before .before .before .before .before .before .before .before .before .before .before .before .before .pre .0 .numbered .high))
-
 sub-rest : tie.Need-sub-rest
 sub-rest c = search needs
 
@@ -87,18 +79,26 @@ told-requires c κs = search needs
 tell-sent-requires : tie.Need-tell-sent-requires
 tell-sent-requires c κs = search needs
 
+store-requires : tie.Need-store-requires
+store-requires c κs = (c .before .before .before .before .before .before .before .before .before .before .before .before .before .before .before .before .before .before .pre .0, send-fits _ _ _ (c .before .before .before .before .before .before .before .before .before .before .before .before .before .before .before .before .before .before .pre .0 .numbered) (c .before .before .before .before .before .before .before .before .before .before .before .before .before .before .before .before .before .before .args .d) (now (c .before .before .before .before .before .before .before .before .before .before .before .before .before .before .before .before .before .before .args .bytes)) (c .before .before .before .before .before .before .before .before .before .before .before .before .before .before .before .before .before .before .args .ignored) (subst (λ (x : Channel). 1 ≤ x .grant) (c .before .before .before .before .before .before .before .before .before .before .before .before .before .before .entry .ensures) (c .before .before .before .before .before .before .before .before .before .before .before .before .if1 .left)) (subst (λ (x : Channel). length (now (c .before .before .before .before .before .before .before .before .before .before .before .before .before .before .before .before .before .before .args .bytes)) ≤ x .grant - x .tx) (c .before .before .before .before .before .before .before .before .before .before .before .before .before .before .entry .ensures) (c .before .before .before .before .before .before .before .before .if3 .left)))
+
+send-on-requires : tie.Need-send-on-requires
+send-on-requires c κs =
+    let z = c .before .store .ensures in
+    (record { pool = _; good = record { good = stored-ok _ _ _ (c .before .before .before .before .before .before .before .before .before .before .before .before .before .before .before .before .before .before .before .before .pre .0 .numbered) (c .before .before .before .before .before .before .before .before .before .before .before .before .before .before .before .before .before .before .before .before .args .d) (now (c .before .before .before .before .before .before .before .before .before .before .before .before .before .before .before .before .before .before .before .before .args .bytes)) (c .before .before .before .before .before .before .before .before .before .before .before .before .before .before .before .before .before .before .before .before .args .ignored) (subst (λ (x : Channel). 1 ≤ x .grant) (c .before .before .before .before .before .before .before .before .before .before .before .before .before .before .before .before .entry .ensures) (c .before .before .before .before .before .before .before .before .before .before .before .before .before .before .if1 .left)) (subst (λ (x : Channel). length (now (c .before .before .before .before .before .before .before .before .before .before .before .before .before .before .before .before .before .before .before .before .args .bytes)) ≤ x .grant - x .tx) (c .before .before .before .before .before .before .before .before .before .before .before .before .before .before .before .before .entry .ensures) (c .before .before .before .before .before .before .before .before .before .before .if3 .left)) _ _ (z .shows); kept = z .kept } }, (c .before .before .before .before .before .before .before .before .before .before .before .before .before .before .before .before .before .before .before .before .pre .0 .numbered .low, c .before .before .before .before .before .before .before .before .before .before .before .before .before .before .before .before .before .before .before .before .pre .0 .numbered .high))
+
 same-length-4 : tie.Need-same-length-4
 same-length-4 c = search needs
 
 returns-4 : tie.Need-returns-4
 returns-4 c =
-    let z = c .before .before .before .before .before .before .before .before .store .ensures in
-    let y = c .before .before .before .before .before .before .send-on .ensures _ (record { good = stored-ok _ _ _ (c .before .before .before .before .before .before .before .before .before .before .before .before .before .before .before .before .before .before .before .before .before .pre .0 .numbered) (c .before .before .before .before .before .before .before .before .before .before .before .before .before .before .before .before .before .before .before .before .before .args .d) (now (c .before .before .before .before .before .before .before .before .before .before .before .before .before .before .before .before .before .before .before .before .before .args .bytes)) (c .before .before .before .before .before .before .before .before .before .before .before .before .before .before .before .before .before .before .before .before .before .args .ignored) (subst (λ (x : Channel). 1 ≤ x .grant) (c .before .before .before .before .before .before .before .before .before .before .before .before .before .before .before .before .before .entry .ensures) (c .before .before .before .before .before .before .before .before .before .before .before .before .before .before .before .if1 .left)) (subst (λ (x : Channel). length (now (c .before .before .before .before .before .before .before .before .before .before .before .before .before .before .before .before .before .before .before .before .before .args .bytes)) ≤ x .grant - x .tx) (c .before .before .before .before .before .before .before .before .before .before .before .before .before .before .before .before .before .entry .ensures) (c .before .before .before .before .before .before .before .before .before .before .before .if3 .left)) _ _ (z .shows); kept = z .kept }) in
-    let left = c .before .before .before .told .ensures ∙ ap (λ (x : Channel). capped (x .grant - x .tx - length (now (c .before .before .before .before .before .before .before .before .before .before .before .before .before .before .before .before .before .before .before .before .before .args .bytes)))) (c .before .before .before .before .before .before .before .before .before .before .before .before .before .before .before .before .before .entry .ensures) in
+    let z = c .before .before .store .ensures in
+    let y = c .send-on .ensures _ (record { good = stored-ok _ _ _ (c .before .before .before .before .before .before .before .before .before .before .before .before .before .before .before .before .before .before .before .before .before .pre .0 .numbered) (c .before .before .before .before .before .before .before .before .before .before .before .before .before .before .before .before .before .before .before .before .before .args .d) (now (c .before .before .before .before .before .before .before .before .before .before .before .before .before .before .before .before .before .before .before .before .before .args .bytes)) (c .before .before .before .before .before .before .before .before .before .before .before .before .before .before .before .before .before .before .before .before .before .args .ignored) (subst (λ (x : Channel). 1 ≤ x .grant) (c .before .before .before .before .before .before .before .before .before .before .before .before .before .before .before .before .before .entry .ensures) (c .before .before .before .before .before .before .before .before .before .before .before .before .before .before .before .if1 .left)) (subst (λ (x : Channel). length (now (c .before .before .before .before .before .before .before .before .before .before .before .before .before .before .before .before .before .before .before .before .before .args .bytes)) ≤ x .grant - x .tx) (c .before .before .before .before .before .before .before .before .before .before .before .before .before .before .before .before .before .entry .ensures) (c .before .before .before .before .before .before .before .before .before .before .before .if3 .left)) _ _ (z .shows); kept = z .kept }) in
+    let left = c .before .before .before .before .before .before .before .before .told .ensures ∙ ap (λ (x : Channel). capped (x .grant - x .tx - length (now (c .before .before .before .before .before .before .before .before .before .before .before .before .before .before .before .before .before .before .before .before .before .args .bytes)))) (c .before .before .before .before .before .before .before .before .before .before .before .before .before .before .before .before .before .entry .ensures) in
     record {
       answers =
-          send-done _ _ _ (c .before .before .before .before .before .before .before .before .before .before .before .before .before .before .before .before .before .before .before .before .before .pre .0 .numbered) (c .before .before .before .before .before .before .before .before .before .before .before .before .before .before .before .before .before .before .before .before .before .args .d) (now (c .before .before .before .before .before .before .before .before .before .before .before .before .before .before .before .before .before .before .before .before .before .args .bytes)) (c .before .before .before .before .before .before .before .before .before .before .before .before .before .before .before .before .before .before .before .before .before .args .ignored) (subst (λ (x : Channel). 1 ≤ x .grant) (c .before .before .before .before .before .before .before .before .before .before .before .before .before .before .before .before .before .entry .ensures) (c .before .before .before .before .before .before .before .before .before .before .before .before .before .before .before .if1 .left)) (subst (λ (x : Channel). length (now (c .before .before .before .before .before .before .before .before .before .before .before .before .before .before .before .before .before .before .before .before .before .args .bytes)) ≤ x .grant - x .tx) (c .before .before .before .before .before .before .before .before .before .before .before .before .before .before .before .before .before .entry .ensures) (c .before .before .before .before .before .before .before .before .before .before .before .if3 .left)) _ _ _ _ _ _ _ _ (sym (c .before .before .before .before .before .before .before .before .before .before .before .before .before .before .is-dropped .ensures ∙ ap (λ (x : Channel). isDropped (linkOf (x .link))) (c .before .before .before .before .before .before .before .before .before .before .before .before .before .before .before .before .before .entry .ensures)) ∙ c .before .before .before .before .before .before .before .before .before .before .before .before .before .if2 .left) (z .shows) (y .shows) (c .before .before .before .before .plain .ensures) left
-          (c .before .before .tell-sent .ensures);
+          send-done _ _ _ (c .before .before .before .before .before .before .before .before .before .before .before .before .before .before .before .before .before .before .before .before .before .pre .0 .numbered) (c .before .before .before .before .before .before .before .before .before .before .before .before .before .before .before .before .before .before .before .before .before .args .d) (now (c .before .before .before .before .before .before .before .before .before .before .before .before .before .before .before .before .before .before .before .before .before .args .bytes)) (c .before .before .before .before .before .before .before .before .before .before .before .before .before .before .before .before .before .before .before .before .before .args .ignored) (subst (λ (x : Channel). 1 ≤ x .grant) (c .before .before .before .before .before .before .before .before .before .before .before .before .before .before .before .before .before .entry .ensures) (c .before .before .before .before .before .before .before .before .before .before .before .before .before .before .before .if1 .left)) (subst (λ (x : Channel). length (now (c .before .before .before .before .before .before .before .before .before .before .before .before .before .before .before .before .before .before .before .before .before .args .bytes)) ≤ x .grant - x .tx) (c .before .before .before .before .before .before .before .before .before .before .before .before .before .before .before .before .before .entry .ensures) (c .before .before .before .before .before .before .before .before .before .before .before .if3 .left)) _ _ _ _ _ _ _ _ (sym (c .before .before .before .before .before .before .before .before .before .before .before .before .before .before .is-dropped .ensures ∙ ap (λ (x : Channel). isDropped (linkOf (x .link))) (c .before .before .before .before .before .before .before .before .before .before .before .before .before .before .before .before .before .entry .ensures)) ∙ c .before .before .before .before .before .before .before .before .before .before .before .before .before .if2 .left) (z .shows) (y .shows) (c .before .before .before .before .before .before .before .before .before .plain .ensures) left
+          (c .before .before .before .before .before .before .before .tell-sent .ensures);
       kept = y .kept;
     }
 
@@ -119,11 +119,11 @@ send-spec =
     tell-problem-requires-3
     same-length-3
     returns-3
-    store-requires
-    send-on-requires
     sub-rest
     plain-requires
     told-requires
     tell-sent-requires
+    store-requires
+    send-on-requires
     same-length-4
     returns-4)

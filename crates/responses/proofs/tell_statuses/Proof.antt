@@ -1,10 +1,9 @@
 -- `responses::tell_statuses` meets its contract: each turn tells of one channel more.
 -- Assumes nothing.
 use Prim.Native.Nat.{ℕ, _+_, _-_, _≤_, _<_}
-use mathlib.Core.Path.{_≡_, refl, sym, ap, subst, _∙_}
-use mathlib.Core.List.{List}
+use mathlib.Core.Path.{_≡_, ap, subst, _∙_}
 use native.Mathlib.Omega.{arith}
-use lib.ListN.{length, getD}
+use lib.ListN.{length}
 use denote.Ref.{now}
 use borrow.Author.Needs.{needs}
 use Rattle.rules.specs.Frames.{objectBytes}
@@ -13,7 +12,7 @@ use Rattle.octets.specs.Parts.{pasted}
 use Rattle.session.specs.declared.Channel.{Channel}
 use Rattle.session.specs.Book.{ledgerIn}
 use Rattle.session.specs.Picture.{linkOf}
-use Rattle.session.proofs.Numbers.{seven-entries}
+use Rattle.session.proofs.Numbers.{seven-entries, at-hand}
 use Rattle.responses.proofs.Writes.{head-size, after-head}
 use Rattle.responses.proofs.Statuses.{Sofar, sofar-none, sofar-fits, sofar-closed, sofar-open, sofar-end, some-stand, none-stands}
 use Rattle.responses.proofs.tell_statuses.Statement.{statement}
@@ -30,10 +29,6 @@ Inv-loop out₀ result ledger head at₀ k₀ out at k = Sofar (ledgerIn ledger 
 
 abbrev μ-loop : tie.MeasureT-loop
 μ-loop out₀ result ledger head at₀ k₀ out at k = 7 - k
-
--- the entry that was read is that of the channel at hand
-at-hand : (es : List Channel) (k : ℕ) (d : Channel) → getD es (k + 1 - 1) d ≡ getD es k d
-at-hand es k d = ap (λ (j : ℕ). getD es j d) (let e : k + 1 - 1 ≡ k = omega arith in e)
 
 tell-result-requires : tie.Need-tell-result-requires Inv-loop μ-loop
 tell-result-requires c κs = search needs

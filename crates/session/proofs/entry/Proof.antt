@@ -1,6 +1,6 @@
 -- `session::entry` meets its contract: five numbers from its place on.
 -- Assumes nothing.
-use mathlib.Core.Path.{refl}
+use native.Mathlib.Omega.{arith}
 use denote.Ref.{now}
 use Rattle.session.proofs.Numbers.{entry-read}
 use borrow.Author.Needs.{needs}
@@ -12,6 +12,9 @@ use Rattle.session.proofs.entry.Lts as lts
 cast-at : tie.Need-cast-at
 cast-at c = search needs
 
+sub-at : tie.Need-sub-at
+sub-at c = search needs
+
 mul-at : tie.Need-mul-at
 mul-at c = search needs
 
@@ -21,14 +24,14 @@ add-at c = search needs
 mul-t4 : tie.Need-mul-t4
 mul-t4 c = search needs
 
-element-copy-out-t8 : tie.Need-element-copy-out-t8
-element-copy-out-t8 c = search needs
+element-copy-out-t9 : tie.Need-element-copy-out-t9
+element-copy-out-t9 c = search needs
 
-add-t5 : tie.Need-add-t5
-add-t5 c = search needs
+add-t6 : tie.Need-add-t6
+add-t6 c = search needs
 
-mul-t9 : tie.Need-mul-t9
-mul-t9 c = search needs
+mul-t5 : tie.Need-mul-t5
+mul-t5 c = search needs
 
 element-copy-out-t12 : tie.Need-element-copy-out-t12
 element-copy-out-t12 c = search needs
@@ -61,19 +64,20 @@ element-copy-out-t27 : tie.Need-element-copy-out-t27
 element-copy-out-t27 c = search needs
 
 returns : tie.Need-returns
-returns c = entry-read (now (c .before .before .before .before .before .before .args .ledger)) (c .before .before .before .before .before .before .args .n) _ (c .before .before .before .before .before .before .pre .0) (c .before .before .before .before .before .before .pre .1) refl
+returns c = entry-read (now (c .before .before .before .before .before .before .args .ledger)) (c .before .before .before .before .before .before .args .n) _ (c .before .before .before .before .before .before .pre .0) (c .before .before .before .before .before .before .pre .1) (omega arith)
 
 pub entry-spec : {M : Type 1} → statement M
 entry-spec =
     tie.close
     (tie.spec
     cast-at
+    sub-at
     mul-at
     add-at
     mul-t4
-    element-copy-out-t8
-    add-t5
-    mul-t9
+    element-copy-out-t9
+    add-t6
+    mul-t5
     element-copy-out-t12
     add-t13
     mul-t14

@@ -1,6 +1,6 @@
 -- `session::put_entry` meets its contract: five numbers from its place on, and the others as they were.
 -- Assumes nothing.
-use mathlib.Core.Path.{refl}
+use native.Mathlib.Omega.{arith}
 use denote.Ref.{now}
 use Rattle.session.proofs.Numbers.{entered}
 use borrow.Author.Needs.{needs}
@@ -11,6 +11,9 @@ use Rattle.session.proofs.put_entry.Lts as lts
 
 cast-at : tie.Need-cast-at
 cast-at c = search needs
+
+sub-at : tie.Need-sub-at
+sub-at c = search needs
 
 mul-at : tie.Need-mul-at
 mul-at c = search needs
@@ -61,13 +64,14 @@ element-write-ledger-5 : tie.Need-element-write-ledger-5
 element-write-ledger-5 c = search needs
 
 returns : tie.Need-returns
-returns c = entered (now (c .before .args .ledger)) (c .before .pre .2) (c .before .args .n) (c .before .pre .0) (c .before .pre .1) (c .before .args .c) _ refl
+returns c = entered (now (c .before .args .ledger)) (c .before .pre .2) (c .before .args .n) (c .before .pre .0) (c .before .pre .1) (c .before .args .c) _ (omega (arith, c .before .pre .0))
 
 pub put-entry-spec : {M : Type 1} → statement M
 put-entry-spec =
     tie.close
     (tie.spec
     cast-at
+    sub-at
     mul-at
     add-at
     mul-ledger
