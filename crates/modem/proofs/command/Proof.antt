@@ -1,4 +1,4 @@
--- `modem::command` meets its contract: that of the call over a lent pool.
+-- `modem::command` meets its contract: that of the call over the record's two arrays.
 -- Assumes nothing.
 use Rattle.session.specs.Picture.{view}
 use borrow.Author.Needs.{needs}
