@@ -12,7 +12,7 @@ use Rattle.rules.specs.declared.Refusal.the-variants.{Overfull}
 use Rattle.rules.specs.Words.{channelOf}
 use Rattle.rules.specs.State.{State, Chan, isOpen, isDropped, chan, withChan, room, arrived, handed}
 use Rattle.rules.specs.Reading.{Reading, wrong, asked, reading, Command, Body, moreTime, eventList, openChannel, closeChannel, receiveData, sendData, channelStatus, other}
-use Rattle.rules.specs.Own.{Reply, reply, Result, Further, nothing, opened, received, sent, statuses, error, problem, done, capped, sending, own}
+use Rattle.rules.specs.Own.{Reply, reply, Result, Further, nothing, opened, received, sent, statuses, error, problem, done, capped, sending, own, protocolOf}
 use Rattle.rules.specs.Command.{Answer, Meant, answered, refusal, Outcome, wrote, refused, command, meantBy}
 use Rattle.rules.specs.Radio.{arrival, arrivalEvent}
 use Rattle.rules.specs.Run.{Call, step}
@@ -67,7 +67,7 @@ unfolding own isDone
 own-undone a c moreTime i = λ _. refl
 own-undone a c (eventList es) i = listing-cases (Undone-stays a) a es i (λ _. refl) (λ _ e. absurd (true≢false e))
 own-undone a c (openChannel b size t) i =
-    opening-cases (Undone-stays a) a (λ _ _ _. refl) (c .qualifier) b size t i (λ _. refl) (λ _ _ _ _ _ _ _ e. absurd (true≢false e))
+    opening-cases (Undone-stays a) a (λ _ _ _. refl) (c .qualifier) b size (protocolOf t) i (λ _. refl) (λ _ _ _ _ _ _ _ e. absurd (true≢false e))
 own-undone a c closeChannel i = closing-cases (Undone-stays a) a (λ _ _ _. refl) (channelOf (c .destination)) i (λ _ e. absurd (true≢false e))
 own-undone a c (receiveData r) i =
     receiving-cases (Undone-stays a) a (λ _ _ _. refl) (channelOf (c .destination)) r i (λ _ _ _ e. absurd (true≢false e))
@@ -120,7 +120,7 @@ unfolding own
 own-counts a c moreTime i = tt
 own-counts a c (eventList es) i = listing-cases (Counted (channelOf (c .destination))) a es i tt (λ _. tt)
 own-counts a c (openChannel b size t) i =
-    opening-cases (Counted (channelOf (c .destination))) a (λ _ _. tt) (c .qualifier) b size t i tt (λ _ _ _ _ _ _ _. tt)
+    opening-cases (Counted (channelOf (c .destination))) a (λ _ _. tt) (c .qualifier) b size (protocolOf t) i tt (λ _ _ _ _ _ _ _. tt)
 own-counts a c closeChannel i = closing-cases (Counted (channelOf (c .destination))) a (λ _ _. tt) (channelOf (c .destination)) i (λ _. tt)
 own-counts a c (receiveData r) i =
     let n = channelOf (c .destination) in

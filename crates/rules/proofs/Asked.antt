@@ -10,6 +10,7 @@ use native.Mathlib.Omega.{arith}
 use lib.ListN.{length, drop}
 use lib.Dec.{eqb}
 use borrow.Author.Tests.{eq-eqb, eqb-true}
+use Rattle.rules.specs.declared.Details.{Details}
 use Rattle.rules.specs.declared.Refusal.{Refusal}
 use Rattle.rules.specs.Checks.{_⇒_else_, isEmpty, every, some-of, occurrences, member}
 use Rattle.rules.specs.Frames.{Object, len, lengthAt, objectBytes, written, fills, following, framed, contents, frame}
@@ -64,17 +65,17 @@ bearer-fits b e =
     (either (two && six) (three && none-there) e)
 
 -- all objects that the bench writes count, with their lengths, and the values are read as they were
-record Kept (os : List Object) (b : Body) : Type 0 where
+record Kept (d : Details) (os : List Object) (b : Body) : Type 0 where
   kind : known (kindOf b) ≡ true
   named : Each Named os
-  counts : sift (rowOf (kindOf b)) [] os ≡ record { counting = os; unexpected = [] }
-  whole : complete (rowOf (kindOf b)) os ≡ true
+  counts : sift (rowOf d) [] os ≡ record { counting = os; unexpected = [] }
+  whole : complete (rowOf d) os ≡ true
   lengths : measured os ≡ true
-  values : bodyIn (kindOf b) os ≡ b
+  values : bodyIn d os ≡ b
 
 kept :
     (n k q from to : ℕ) (b : Body) → bodyProper b ≡ true →
-    Kept (flagged 0x01 (n ∷ k ∷ q ∷ []) ∷ flagged 0x02 (from ∷ to ∷ []) ∷ bodyObjects b) b
+    Kept (record { number = n; kind = kindOf b; qualifier = q }) (flagged 0x01 (n ∷ k ∷ q ∷ []) ∷ flagged 0x02 (from ∷ to ∷ []) ∷ bodyObjects b) b
 unfolding bodyObjects transportObjects bodyProper pairBytes known kindOf table member some-of sift rowOf rowAmong times occurrences complete every present measured lengthFits valueOf bodyIn _⇒_else_
 kept n k q from to moreTime e = record { kind = refl; named = omega arith; counts = refl; whole = refl; lengths = refl; values = refl }
 kept n k q from to (eventList es) e = record { kind = refl; named = omega arith; counts = refl; whole = refl; lengths = refl; values = refl }
@@ -111,12 +112,12 @@ turned false x y = refl
 -- the objects that the bench writes are read as its record
 objects-read :
     (p : List ℕ) (c : Command) → addressed (kindOf (c .body)) (c .source) (c .destination) ≡ true → bodyProper (c .body) ≡ true →
-    readObjects p (written (commandObjects c)) ≡ (allowsType p (kindOf (c .body)) ⇒ asked c false else wrong (detailsOf c) 0x30)
+    readObjects p (written (commandObjects c)) ≡ (allowsType p (detailsOf c) ⇒ asked c false else wrong (detailsOf c) 0x30)
 unfolding readObjects commandObjects written objectBytes isEmpty startsWithDetails isFault detailsBytes detailsOf detailsIn valueOf some-of commandIn _⇒_else_
 objects-read p c a e =
     let k = kept (c .number) (kindOf (c .body)) (c .qualifier) (c .source .0) (c .destination .0) (c .body) e in
     rw (walk-written (commandObjects c) (k .named), k .kind, k .counts, k .whole, k .lengths, k .values, a)
-    (turned (allowsType p (kindOf (c .body))) (wrong (detailsOf c) 0x30) (asked c false))
+    (turned (allowsType p (detailsOf c)) (wrong (detailsOf c) 0x30) (asked c false))
 
 -- a refusal writes nothing
 unwritten : (r : Refusal) (s : List ℕ) → refused r ≡ wrote s → ⊥
@@ -125,7 +126,7 @@ unwritten r s e = false≢true (cc)
 -- the modem's reading of what the bench writes is the same record, with nothing ignored; a type that the profile forbids is told 30
 pub read-back :
     (p : List ℕ) (buffer : ℕ) (c : Command) (s : List ℕ) → benchWrite buffer c ≡ wrote s →
-    reading p s ≡ (allowsType p (kindOf (c .body)) ⇒ asked c false else wrong (detailsOf c) 0x30)
+    reading p s ≡ (allowsType p (detailsOf c) ⇒ asked c false else wrong (detailsOf c) 0x30)
 unfolding benchWrite
 read-back p buffer c s =
     branch P _ _ _ (λ _ e. absurd (unwritten _ s e)) (λ _.
@@ -135,7 +136,7 @@ read-back p buffer c s =
     subst R is (frame-read p (commandObjects c) ∙ objects-read p c (not-not _ a) (not-not _ b)))))
   where
     R : List ℕ → Type 0
-    R x = reading p x ≡ (allowsType p (kindOf (c .body)) ⇒ asked c false else wrong (detailsOf c) 0x30)
+    R x = reading p x ≡ (allowsType p (detailsOf c) ⇒ asked c false else wrong (detailsOf c) 0x30)
 
     P : Outcome → Type 0
     P x = x ≡ wrote s → R s

@@ -4,11 +4,10 @@ use Prim.Native.Nat.{ℕ, _+_, _≤_, min}
 use mathlib.Core.Path.{_≡_, refl}
 use mathlib.Core.Bool.{Bool, true, false, not}
 use mathlib.Core.List.{List, [], _∷_, _++_}
-use mathlib.Core.Option.{Option}
 use native.Mathlib.Omega.{arith}
 use lib.ListN.{length, take}
 use lib.Dec.{ltb}
-use borrow.Author.Tests.{ltb-false, eqb-false}
+use borrow.Author.Tests.{ltb-false, eqb-true, eqb-false}
 use Rattle.rules.specs.declared.ChannelNumber.{ChannelNumber}
 use Rattle.rules.specs.declared.Link.{Link}
 use Rattle.rules.specs.declared.Link.the-variants.{NotYet, Established}
@@ -18,8 +17,8 @@ use Rattle.rules.specs.Checks.{_⇒_else_, isEmpty, every, some-of, memb
 use Rattle.rules.specs.Profile.{allowsEvent, channels}
 use Rattle.rules.specs.State.{State, Chan, chan, withChan, isOpen, isEstablished, isDropped, room, closed, fresh, arrived, handed, stored, readied, taken, dropped}
 use Rattle.rules.specs.Pool.{unpromised, grantFor}
-use Rattle.rules.specs.Reading.{Reading, Bearer, Transport, reading}
-use Rattle.rules.specs.Own.{Reply, Result, Status, reply, error, problem, done, nothing, opened, received, sent, bit1, plain, capped, served, isTcp, openBefore, listing, listed, opening, closing, receiving, sending}
+use Rattle.rules.specs.Reading.{Reading, Bearer, reading}
+use Rattle.rules.specs.Own.{Reply, Result, Status, reply, error, problem, done, nothing, opened, received, sent, bit1, plain, capped, served, openBefore, listing, listed, opening, closing, receiving, sending}
 use Rattle.rules.specs.Written.{responseBytes}
 use Rattle.rules.specs.Command.{Answer, Meant, answered, refusal, command, meantBy}
 use Rattle.rules.specs.Bench.{causeProper}
@@ -110,9 +109,9 @@ causes =
     }
 
 -- the facts under which an OPEN CHANNEL opens
-pub record Opens (a : State) (b : Bearer) (size : ℕ) (t : Option Transport) : Type 0 where
+pub record Opens (a : State) (b : Bearer) (size protocol : ℕ) : Type 0 where
   pub bearer : served (a .profile) b ≡ true
-  pub tcp : isTcp t ≡ true
+  pub tcp : protocol ≡ 0x02
   pub asks : 1 ≤ size
   pub unused : openBefore (channels (a .profile)) (a .chans) ≡ channels (a .profile) → ⊥
   pub free : 2 ≤ unpromised a
@@ -132,22 +131,22 @@ module _ (Q : Reply → Type 0) (a : State) where
 
   pub opening-cases :
       Why 0x40 →
-      (q : ℕ) (b : Bearer) (size : ℕ) (t : Option Transport) (i : Bool) →
+      (q : ℕ) (b : Bearer) (size protocol : ℕ) (i : Bool) →
       Q (reply a (error 0x30)) →
       ((number : ChannelNumber) (link : Link) (g : ℕ) →
       number .0 ≡ openBefore (channels (a .profile)) (a .chans) + 1 → link ≡ (bit1 q ⇒ Established else NotYet) → g ≡ grantFor size (unpromised a) →
-      Opens a b size t →
+      Opens a b size protocol →
       Q (reply (withChan a number (fresh g link)) (done (ltb g size ⇒ 0x07 else plain i) (opened (record { number = number; link = link }) b g)))) →
-      Q (opening a q b size t i)
+      Q (opening a q b size protocol i)
   unfolding opening
-  opening-cases why q b size t i e30 f =
+  opening-cases why q b size protocol i e30 f =
       branch Q _ _ _ (λ _. e30) (λ e₁.
       branch Q _ _ _ (λ _. why 0x06 (causes .at-40-06)) (λ e₂.
       branch Q _ _ _ (λ _. why 0x04 (causes .at-40-04)) (λ e₃.
       branch Q _ _ _ (λ _. why 0x01 (causes .at-40-01)) (λ e₄.
       branch Q _ _ _ (λ _. why 0x04 (causes .at-40-04)) (λ e₅.
       f _ _ _ refl refl refl
-      (record { bearer = not-not _ e₁; tcp = not-not _ e₂; asks = positive _ (eqb-false _ _ e₃); unused = eqb-false _ _ e₄; free = ltb-false _ _ e₅ }))))))
+      (record { bearer = not-not _ e₁; tcp = eqb-true _ _ (not-not _ e₂); asks = positive _ (eqb-false _ _ e₃); unused = eqb-false _ _ e₄; free = ltb-false _ _ e₅ }))))))
 
   pub closing-cases :
       Why 0x41 →

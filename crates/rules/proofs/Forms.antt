@@ -14,7 +14,7 @@ use Rattle.rules.specs.declared.Ending.the-variants.{End}
 use Rattle.rules.specs.declared.Link.{Link}
 use Rattle.rules.specs.declared.Link.the-variants.{NotYet, Established, Dropped}
 use Rattle.rules.specs.Checks.{_⇒_else_, same}
-use Rattle.rules.specs.Frames.{len, longLength, lengthAt, lengthBytes, Object, object, goodTag, valueAfter, objectAt, Walk, walk, objectBytes, written}
+use Rattle.rules.specs.Frames.{len, longLength, lengthAt, lengthBytes, Object, object, tag, tagAt, valueAfter, afterTag, objectAt, Walk, walk, objectBytes, written}
 use Rattle.rules.specs.Reading.{Bearer, Transport, pairIn, bearerIn, transportIn}
 use Rattle.rules.specs.Written.{pairBytes, bearerBytes, statusBytes}
 use Rattle.rules.specs.Bench.{statusIn}
@@ -35,42 +35,35 @@ pub record Named (o : Object) : Type 0 where
   pub seven-bits : o .number ≤ 126
 
 -- the tag that is written has the number and the flag
-record Tag (n : ℕ) (f : Bool) (t : ℕ) : Type 0 where
-  good : goodTag t ≡ true
-  number : t % 0x80 ≡ n
-  flag : leb 0x80 t ≡ f
+tag-read : (t n : ℕ) (f : Bool) (s : List ℕ) → t % 0x80 ≡ n → leb 0x80 t ≡ f → 1 ≤ n → n ≤ 126 → tagAt (t ∷ s) ≡ tag n f s
+unfolding tagAt
+tag-read t n f s e b l h =
+    skip _ _ _ (rw (ne-eqb (t % 0x80) 0 (omega arith), ne-eqb (t % 0x80) 0x7F (omega arith))) ∙ (λ i. tag (e i) (b i) s)
 
-good-tag : (t n : ℕ) → t % 0x80 ≡ n → 1 ≤ n → n ≤ 126 → goodTag t ≡ true
-unfolding goodTag
-good-tag t n e l h = rw (ne-eqb (t % 0x80) 0 (omega arith), ne-eqb (t % 0x80) 0x7F (omega arith))
-
-tag-back : (n : ℕ) (f : Bool) → 1 ≤ n → n ≤ 126 → Tag n f (f ⇒ n + 0x80 else n)
+pub tag-back : (n : ℕ) (f : Bool) (s : List ℕ) → 1 ≤ n → n ≤ 126 → tagAt ((f ⇒ n + 0x80 else n) ∷ s) ≡ tag n f s
 unfolding _⇒_else_
-tag-back n true l h =
-    let e : (n + 0x80) % 0x80 ≡ n = omega arith in
-    record { good = good-tag (n + 0x80) n e l h; number = e; flag = le-leb 0x80 (n + 0x80) (omega arith) }
-tag-back n false l h =
-    let e : n % 0x80 ≡ n = omega arith in record { good = good-tag n n e l h; number = e; flag = lt-leb 0x80 n (omega arith) }
+tag-back n true s l h = tag-read (n + 0x80) n true s (omega arith) (le-leb 0x80 (n + 0x80) (omega arith)) l h
+tag-back n false s l h = tag-read n n false s (omega arith) (lt-leb 0x80 n (omega arith)) l h
 
 -- an object is read as it was written
-value-back : (t : ℕ) (o : Object) (s : List ℕ) → Tag (o .number) (o .flag) t → valueAfter t (len (length (o .value)) (o .value ++ s)) ≡ object o s
+value-back : (o : Object) (s : List ℕ) → valueAfter (o .number) (o .flag) (len (length (o .value)) (o .value ++ s)) ≡ object o s
 unfolding valueAfter
-value-back t o s h =
+value-back o s =
     skip _ _ _ (let e = length-append (o .value) s in le-ltb (length (o .value ++ s)) (length (o .value)) (omega arith))
     ∙ (λ i.
     object
-    (record { number = h .number i; flag = h .flag i; value = take-append-seam (o .value) s i })
+    (record { number = o .number; flag = o .flag; value = take-append-seam (o .value) s i })
     (drop-append-seam (o .value) s i))
 
 pub object-back : (o : Object) (s : List ℕ) → Named o → objectAt (objectBytes o ++ s) ≡ object o s
-unfolding objectBytes objectAt
+unfolding objectBytes objectAt afterTag
 object-back o s h =
-    let t = o .flag ⇒ o .number + 0x80 else o .number in
-    let g = tag-back (o .number) (o .flag) (h .some) (h .seven-bits) in
-    stop _ _ _ (g .good)
-    ∙ ap (λ (r : List ℕ). valueAfter t (lengthAt r)) (append-assoc (lengthBytes (length (o .value))) (o .value) s)
-    ∙ ap (valueAfter t) (length-back (length (o .value)) (o .value ++ s))
-    ∙ value-back t o s g
+    let n = o .number in
+    let f = o .flag in
+    ap afterTag (tag-back n f ((lengthBytes (length (o .value)) ++ o .value) ++ s) (h .some) (h .seven-bits))
+    ∙ ap (λ (r : List ℕ). valueAfter n f (lengthAt r)) (append-assoc (lengthBytes (length (o .value))) (o .value) s)
+    ∙ ap (valueAfter n f) (length-back (length (o .value)) (o .value ++ s))
+    ∙ value-back o s
 
 -- objects are walked as they were written
 pub walk-written : (os : List Object) → Each Named os → walk (written os) ≡ record { objects = os; ending = End; rest = [] }

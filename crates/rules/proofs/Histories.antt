@@ -13,7 +13,7 @@ use Rattle.rules.specs.Frames.{contents}
 use Rattle.rules.specs.State.{State, Chan, start, closed, chan, withChan, fresh, arrived, handed, stored, taken, dropped}
 use Rattle.rules.specs.Pool.{unpromised}
 use Rattle.rules.specs.Reading.{Reading, reading, Command, Body, moreTime, eventList, openChannel, closeChannel, receiveData, sendData, channelStatus, other, kindOf, commandIn, toModem}
-use Rattle.rules.specs.Own.{Reply, bit1, listed, own}
+use Rattle.rules.specs.Own.{Reply, bit1, listed, own, protocolOf}
 use Rattle.rules.specs.Command.{Answer, Meant, wrote, command, meantBy}
 use Rattle.rules.specs.Run.{Call, starting, commanding, arriving, takingOut, droppingLink, step, after}
 use Rattle.rules.specs.Sound.{Sound}
@@ -64,7 +64,7 @@ module _ (n : ChannelNumber) (from : 1 ≤ n .0) (a : State) (h : History) (o : 
       listing-cases (Told-by c) a es i f
       (λ _. subst (Follows n (listed a es)) (sym (skip _ _ _ (ap closes e))) (follows-of n (listed a es) h (matches-of n a h f)))
   own-follows c (openChannel b size t) i e u =
-      opening-cases (Told-by c) a (λ _ _. f) (c .qualifier) b size t i f
+      opening-cases (Told-by c) a (λ _ _. f) (c .qualifier) b size (protocolOf t) i f
       (λ m l g eₘ eₗ eᵍ x.
       let at = opened-place a (m .0) o eₘ (x .unused) in
       let law = subst (Granted size (unpromised a)) (sym eᵍ) (grant-law size (unpromised a)) in

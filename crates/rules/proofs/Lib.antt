@@ -4,7 +4,6 @@ pub mod Readings
 pub mod Grants
 pub mod Soundness
 pub mod Sizes
-pub mod Octets
 pub mod Told
 pub mod Walks
 pub mod Forms

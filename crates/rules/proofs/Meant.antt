@@ -19,7 +19,7 @@ use Rattle.rules.specs.Table.{table, known, bearerFits}
 use Rattle.rules.specs.State.{State, Chan, chan, isDropped}
 use Rattle.rules.specs.Pool.{unpromised}
 use Rattle.rules.specs.Reading.{Reading, reading, Command, Body, Bearer, moreTime, eventList, openChannel, closeChannel, receiveData, sendData, channelStatus, other, bodyIn, commandIn, kindOf, detailsOf}
-use Rattle.rules.specs.Own.{Reply, Status, bit1, plain, served, opened, statusesFrom, own}
+use Rattle.rules.specs.Own.{Reply, Status, bit1, plain, served, opened, statusesFrom, own, protocolOf}
 use Rattle.rules.specs.Written.{bearerBytes}
 use Rattle.rules.specs.Command.{meantBy}
 use Rattle.rules.specs.Bench.{bearerProper, errorProper, successProper, furtherProper, resultProper, rising, proper}
@@ -107,7 +107,7 @@ own-proper a c moreTime i h m u = both _ _ (plain-proper 0x02 i refl) refl
 own-proper a c (eventList es) i h m u =
     listing-cases (Listed (detailsWith c (eventList es))) a es i refl (λ _. both _ _ (plain-proper 0x05 i refl) refl)
 own-proper a c (openChannel b size t) i h m u =
-    opening-cases (Listed (detailsWith c (openChannel b size t))) a (λ _ e. e) (c .qualifier) b size t i refl
+    opening-cases (Listed (detailsWith c (openChannel b size t))) a (λ _ e. e) (c .qualifier) b size (protocolOf t) i refl
     (λ n l g eₙ eₗ e f.
     let place = opened-place a (n .0) h eₙ (f .unused) in
     let law = subst (Granted size (unpromised a)) (sym e) (grant-law size (unpromised a)) in
@@ -125,8 +125,8 @@ own-proper a c channelStatus i h m u =
     both _ _ (plain-proper 0x44 i refl) (statuses-rise 0 1 (a .chans) (omega arith) (omega (arith, h .seven)))
 own-proper a c (other t) i h m u = rw u
 
-other-read : (t : ℕ) (os : List Object) → OtherUnknown (bodyIn t os)
-other-read t os = body-cases OtherUnknown t os (λ _. tt) (λ _. tt) (λ _. tt) (λ _. tt) (λ _. tt) (λ _. tt) (λ _. tt) (λ e. e)
+other-read : (d : Details) (os : List Object) → OtherUnknown (bodyIn d os)
+other-read d os = body-cases OtherUnknown d os (λ _. tt) (λ _. tt) (λ _. tt) (λ _. tt) (λ _. tt) (λ _. tt) (λ _. tt) (λ e. e)
 
 -- the response that the command call means is one that the paper lists
 pub meant-proper : (a : State) (s : List ℕ) → Sound a → proper (meantBy a (reading (a .profile) s) .response) ≡ true
@@ -136,4 +136,4 @@ meant-proper a s h =
     (λ r i.
     let os = contents s in
     let c = commandIn (detailsRead os) (counted os) in
-    own-proper a c (c .body) i h (bearer-read (a .profile) os r) (other-read (detailsRead os .kind) (counted os)))
+    own-proper a c (c .body) i h (bearer-read (a .profile) os r) (other-read (detailsRead os) (counted os)))

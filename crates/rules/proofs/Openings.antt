@@ -10,15 +10,15 @@ use native.Mathlib.Omega.{arith}
 use native.Mathlib.Nat.{not-suc-le-zero, le-of-suc-le-suc}
 use lib.ListN.{getD}
 use lib.Dec.{ltb}
-use borrow.Author.Tests.{ne-eqb, ltb-true, ltb-false, eqb-true, eqb-false}
+use borrow.Author.Tests.{ne-eqb, ltb-true, ltb-false, eqb-true, eqb-false, eq-eqb}
 use Rattle.rules.specs.declared.ChannelNumber.{ChannelNumber}
 use Rattle.rules.specs.declared.Link.the-variants.{NotYet, Established}
 use Rattle.rules.specs.Checks.{_⇒_else_}
 use Rattle.rules.specs.Profile.{channels}
 use Rattle.rules.specs.State.{State, Chan, closed, isOpen, chan, withChan, fresh}
 use Rattle.rules.specs.Pool.{cells, promised, unpromised, grantFor}
-use Rattle.rules.specs.Reading.{Bearer, Transport}
-use Rattle.rules.specs.Own.{Reply, reply, Further, problem, done, opened, bit1, plain, served, isTcp, openBefore, opening, closing}
+use Rattle.rules.specs.Reading.{Bearer}
+use Rattle.rules.specs.Own.{Reply, reply, Further, problem, done, opened, bit1, plain, served, openBefore, opening, closing}
 use Rattle.rules.specs.Run.{Call}
 use Rattle.rules.specs.Demands.{reached, isDone, AllOpen, Lowest}
 use Rattle.rules.proofs.Laws.{branch, skip}
@@ -99,37 +99,37 @@ opens a q b size i k =
     reply (withChan a number (fresh g link)) (done (ltb g size ⇒ 0x07 else plain i) (opened (record { number = number; link = link }) b g))
 
 module _
-    (a : State) (q : ℕ) (b : Bearer) (size : ℕ) (t : Option Transport) (i : Bool)
-    (s : served (a .profile) b ≡ true) (u : isTcp t ≡ true) (f : 1 ≤ size) where
+    (a : State) (q : ℕ) (b : Bearer) (size protocol : ℕ) (i : Bool)
+    (s : served (a .profile) b ≡ true) (u : protocol ≡ 0x02) (f : 1 ≤ size) where
   opening-last :
       (Q : Reply → Type 0) →
       (AllOpen a → Q (reply a (problem 0x01))) →
       ((AllOpen a → ⊥) → unpromised a < 2 → Q (reply a (problem 0x04))) →
       ((AllOpen a → ⊥) → 2 ≤ unpromised a → (k : ℕ) → Lowest a k → Q (opens a q b size i k)) →
-      Q (opening a q b size t i)
+      Q (opening a q b size protocol i)
   unfolding opening
   opening-last Q x y z =
-      subst Q (sym (skip _ _ _ (ap not s) ∙ skip _ _ _ (ap not u) ∙ skip _ _ _ (ne-eqb size 0 (omega arith))))
+      subst Q (sym (skip _ _ _ (ap not s) ∙ skip _ _ _ (ap not (eq-eqb _ _ u)) ∙ skip _ _ _ (ne-eqb size 0 (omega arith))))
       (branch Q _ _ _ (λ e. x (all-open a (eqb-true _ _ e))) (λ e.
       let some : AllOpen a → ⊥ = λ h. eqb-false _ _ e (none-unused a h) in
       branch Q _ _ _ (λ c. y some (ltb-true _ _ c)) (λ c.
       z some (ltb-false _ _ c) (stand a + 1) (lowest a (eqb-false _ _ e)))))
 
   -- an OPEN CHANNEL lacks a number exactly when every number is open
-  pub no-number : opening a q b size t i .result ≡ problem 0x01 ↔ AllOpen a
+  pub no-number : opening a q b size protocol i .result ≡ problem 0x01 ↔ AllOpen a
   no-number = (
     opening-last (λ (r : Reply). r .result ≡ problem 0x01 → AllOpen a) (λ h _. h) (λ _ _ e. let w : _≡_ {A = ℕ} 4 1 = cc in absurd (omega arith)) (λ _ _ _ _ e. absurd (done-not-problem _ _ _ e)),
     opening-last (λ (r : Reply). AllOpen a → r .result ≡ problem 0x01) (λ _ _. refl) (λ n _ h. absurd (n h)) (λ n _ _ _ h. absurd (n h)),
   )
 
   -- where a number is unused, it lacks cells exactly when fewer than two are unpromised
-  pub no-cells : (AllOpen a → ⊥) → opening a q b size t i .result ≡ problem 0x04 ↔ unpromised a < 2
+  pub no-cells : (AllOpen a → ⊥) → opening a q b size protocol i .result ≡ problem 0x04 ↔ unpromised a < 2
   no-cells n = (
     opening-last (λ (r : Reply). r .result ≡ problem 0x04 → unpromised a < 2) (λ h _. absurd (n h)) (λ _ c _. c) (λ _ _ _ _ e. absurd (done-not-problem _ _ _ e)),
     opening-last (λ (r : Reply). unpromised a < 2 → r .result ≡ problem 0x04) (λ h _. absurd (n h)) (λ _ _ _. refl) (λ _ m _ _ l. absurd (omega arith)),
   )
 
   -- where a number is unused and two cells are unpromised, it opens the lowest unused number
-  pub opens-lowest : (AllOpen a → ⊥) → 2 ≤ unpromised a → (k : ℕ) × Lowest a k × (opening a q b size t i ≡ opens a q b size i k)
+  pub opens-lowest : (AllOpen a → ⊥) → 2 ≤ unpromised a → (k : ℕ) × Lowest a k × (opening a q b size protocol i ≡ opens a q b size i k)
   opens-lowest n m =
       opening-last (λ (r : Reply). (k : ℕ) × Lowest a k × (r ≡ opens a q b size i k)) (λ h. absurd (n h)) (λ _ l. absurd (omega arith)) (λ _ _ k l. (k, l, refl))

@@ -23,13 +23,13 @@ abbrev pub detailsRead : List ℕ → Details
 detailsRead s = detailsIn (valueOf 0x01 (walk s .objects))
 
 abbrev pub counted : List ℕ → List Object
-counted s = sift (rowOf (detailsRead s .kind)) [] (walk s .objects) .counting
+counted s = sift (rowOf (detailsRead s)) [] (walk s .objects) .counting
 
 -- what is known of a command that was read
 pub record Read (p s : List ℕ) : Type 0 where
   pub kind : known (detailsRead s .kind) ≡ true
-  pub allowed : allowsType p (detailsRead s .kind) ≡ true
-  pub whole : complete (rowOf (detailsRead s .kind)) (counted s) ≡ true
+  pub allowed : allowsType p (detailsRead s) ≡ true
+  pub whole : complete (rowOf (detailsRead s)) (counted s) ≡ true
   pub lengths : measured (counted s) ≡ true
   pub devices :
       addressed (detailsRead s .kind) (commandIn (detailsRead s) (counted s) .source) (commandIn (detailsRead s) (counted s) .destination) ≡
@@ -87,7 +87,10 @@ module _ (Q : Reading → Type 0) (p : List ℕ) where
   reading-cases s blank told f = branch Q _ _ _ (λ _. blank 0x32 (error-32 zeros)) (λ _. objects-cases (contents s) blank told f)
 
 -- the values of a type, by the type
-module _ (Q : Body → Type 0) (t : ℕ) (os : List Object) where
+module _ (Q : Body → Type 0) (d : Details) (os : List Object) where
+  abbrev t : ℕ
+  t = d .kind
+
   pub body-cases :
       (t ≡ 0x02 → Q moreTime) →
       (t ≡ 0x05 → Q (eventList (valueOf 0x19 os))) →
@@ -98,7 +101,7 @@ module _ (Q : Body → Type 0) (t : ℕ) (os : List Object) where
       (t ≡ 0x43 → Q (sendData (valueOf 0x36 os))) →
       (t ≡ 0x44 → Q channelStatus) →
       (known t ≡ false → Q (other t)) →
-      Q (bodyIn t os)
+      Q (bodyIn d os)
   unfolding bodyIn known table member some-of
   body-cases f₀₂ f₀₅ f₄₀ f₄₁ f₄₂ f₄₃ f₄₄ f =
       branch Q _ _ _ (λ e. f₀₂ (eqb-true _ _ e)) (λ e₀₂.
@@ -110,14 +113,14 @@ module _ (Q : Body → Type 0) (t : ℕ) (os : List Object) where
       branch Q _ _ _ (λ e. f₄₄ (eqb-true _ _ e)) (λ e₄₄. f (rw (e₀₂, e₀₅, e₄₀, e₄₁, e₄₂, e₄₃, e₄₄)))))))))
 
 -- the command that was read has the details that its bytes tell
-kind-in : (t : ℕ) (os : List Object) → kindOf (bodyIn t os) ≡ t
+kind-in : (d : Details) (os : List Object) → kindOf (bodyIn d os) ≡ d .kind
 unfolding kindOf
-kind-in t os =
-    body-cases (λ (b : Body). kindOf b ≡ t) t os (λ e. sym e) (λ e. sym e) (λ e. sym e) (λ e. sym e) (λ e. sym e) (λ e. sym e) (λ e. sym e) (λ _. refl)
+kind-in d os =
+    body-cases (λ (b : Body). kindOf b ≡ d .kind) d os (λ e. sym e) (λ e. sym e) (λ e. sym e) (λ e. sym e) (λ e. sym e) (λ e. sym e) (λ e. sym e) (λ _. refl)
 
 pub details-told : (d : Details) (os : List Object) → detailsOf (commandIn d os) ≡ d
 unfolding detailsOf commandIn
-details-told d os = λ i. record { number = d .number; kind = kind-in (d .kind) os i; qualifier = d .qualifier }
+details-told d os = λ i. record { number = d .number; kind = kind-in d os i; qualifier = d .qualifier }
 
 -- an object that is there has its length
 pub value-fits : (n : ℕ) (os : List Object) → present n os ≡ true → measured os ≡ true → lengthFits n (valueOf n os) ≡ true

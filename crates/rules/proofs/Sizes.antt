@@ -19,7 +19,7 @@ use Rattle.rules.specs.Table.{table, rowAmong, rowOf, complete, present,
 use Rattle.rules.specs.Profile.{allowsBearer02}
 use Rattle.rules.specs.State.{State, Chan, chan}
 use Rattle.rules.specs.Reading.{Reading, wrong, asked, reading, Command, Body, Bearer, moreTime, eventList, openChannel, closeChannel, receiveData, sendData, channelStatus, other, bodyIn, bearerIn, commandIn}
-use Rattle.rules.specs.Own.{Reply, Result, Further, Status, error, problem, done, nothing, opened, received, sent, statuses, capped, served, statusesFrom, own}
+use Rattle.rules.specs.Own.{Reply, Result, Further, Status, error, problem, done, nothing, opened, received, sent, statuses, capped, served, statusesFrom, own, protocolOf}
 use Rattle.rules.specs.Written.{flagged, unflagged, detailsBytes, bearerBytes, pairBytes, statusBytes, statusObject, statusObjects, furtherObjects, resultBytes, resultObjects, responseObjects, responseBytes, eventBytes}
 use Rattle.rules.specs.Command.{Answer, Outcome, wrote, refused, meantBy}
 use Rattle.rules.specs.Radio.{arrivalEvent, dropEvent}
@@ -149,9 +149,10 @@ unfolding bearerIn bearerBytes bearerFits isEmpty _⇒_else_
 bearer-in [] e = absurd (false≢true e)
 bearer-in (x ∷ v) e = e
 
-bearer-there : (os : List Object) → complete (rowOf 0x40) os ≡ true → present 0x35 os ≡ true
+bearer-there : (d : Details) (os : List Object) → d .kind ≡ 0x40 → complete (rowOf d) os ≡ true → present 0x35 os ≡ true
 unfolding complete rowOf rowAmong table every _⇒_else_
-bearer-there os e =
+bearer-there d os k w =
+    let e = subst (λ (t : ℕ). complete (rowAmong t table) os ≡ true) k w in
     both-left (present 0x35 os) _ (both-right (present 0x02 os) _ (both-right (present 0x01 os) _ e))
 
 bearer-length : (v : List ℕ) → lengthFits 0x35 v ≡ true → bearerFits v ≡ true
@@ -161,11 +162,11 @@ bearer-length v e = e
 pub bearer-read : (p s : List ℕ) → Read p s → BearerMeasured (commandIn (detailsRead s) (counted s) .body)
 unfolding commandIn
 bearer-read p s h =
-    body-cases BearerMeasured (detailsRead s .kind) (counted s) (λ _. tt) (λ _. tt)
+    body-cases BearerMeasured (detailsRead s) (counted s) (λ _. tt) (λ _. tt)
     (λ e.
     bearer-in (valueOf 0x35 (counted s))
     (bearer-length (valueOf 0x35 (counted s))
-    (value-fits 0x35 (counted s) (bearer-there (counted s) (subst (λ (t : ℕ). complete (rowOf t) (counted s) ≡ true) e (h .whole))) (h .lengths))))
+    (value-fits 0x35 (counted s) (bearer-there (detailsRead s) (counted s) e (h .whole)) (h .lengths))))
     (λ _. tt) (λ _. tt) (λ _. tt) (λ _. tt) (λ _. tt)
 
 -- every command's result is short
@@ -177,7 +178,7 @@ unfolding own
 own-short a c moreTime i h m = nothing-short
 own-short a c (eventList es) i h m = listing-cases After a es i tt (λ _. nothing-short)
 own-short a c (openChannel b size t) i h m =
-    opening-cases After a (λ _ _. tt) (c .qualifier) b size t i tt
+    opening-cases After a (λ _ _. tt) (c .qualifier) b size (protocolOf t) i tt
     (λ n l g _ _ _ o. opened-short (record { number = n; link = l }) b g (bearer-short (a .profile) b (o .bearer) m))
 own-short a c closeChannel i h m = closing-cases After a (λ _ _. tt) (channelOf (c .destination)) i (λ _. nothing-short)
 own-short a c (receiveData r) i h m =

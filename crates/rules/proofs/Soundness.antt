@@ -18,7 +18,7 @@ use Rattle.rules.specs.State.{State, Chan, closed, isOpen, start, chan, 
 use Rattle.rules.specs.Pool.{cells, promisedTo, promised, unpromised, grantFor}
 use Rattle.rules.specs.Words.{channelOf}
 use Rattle.rules.specs.Reading.{Reading, wrong, asked, reading, Command, Body, moreTime, eventList, openChannel, closeChannel, receiveData, sendData, channelStatus, other}
-use Rattle.rules.specs.Own.{Reply, bit1, openBefore, listed, own}
+use Rattle.rules.specs.Own.{Reply, bit1, openBefore, listed, own, protocolOf}
 use Rattle.rules.specs.Command.{Answer, refused, answered, meantBy}
 use Rattle.rules.specs.Run.{Call, starting, commanding, arriving, takingOut, droppingLink, step, after}
 use Rattle.rules.specs.Sound.{Each, SoundChan, Sound}
@@ -159,7 +159,7 @@ own-sound a c moreTime i h = h
 own-sound a c (eventList es) i h =
     listing-cases After a es i h (λ _. record { thirteen = h .thirteen; seven = h .seven; each = h .each; within = h .within })
 own-sound a c (openChannel b size t) i h =
-    opening-cases After a (λ _ _. h) (c .qualifier) b size t i h
+    opening-cases After a (λ _ _. h) (c .qualifier) b size (protocolOf t) i h
     (λ n l g eₙ eₗ e o.
     let place = opened-place a (n .0) h eₙ (o .unused) in
     let law = subst (Granted size (unpromised a)) (sym e) (grant-law size (unpromised a)) in

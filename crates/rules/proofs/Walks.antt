@@ -10,7 +10,7 @@ use lib.ListN.{length, take, drop, length-drop}
 use Rattle.rules.specs.declared.Ending.{Ending}
 use Rattle.rules.specs.declared.Ending.the-variants.{End}
 use Rattle.rules.specs.Checks.{_⇒_else_}
-use Rattle.rules.specs.Frames.{LengthRead, len, noLength, longLength, lengthAt, ObjectRead, object, faulty, Object, Walk, valueAfter, objectAt, goodTag, onward, walkUpTo, walk}
+use Rattle.rules.specs.Frames.{LengthRead, len, noLength, longLength, lengthAt, ObjectRead, object, faulty, Object, Walk, TagRead, tag, noTag, tagAt, valueAfter, afterTag, objectAt, onward, walkUpTo, walk}
 use Rattle.rules.proofs.Laws.{branch}
 
 -- what is left after a length, and after an object, is shorter than what was there
@@ -38,14 +38,15 @@ length-leaves (b ∷ s) =
     branch (LengthLeaves (suc (length s))) _ _ _ (λ _. omega arith) (λ _.
     branch (LengthLeaves (suc (length s))) _ _ _ (λ _. weaken (length s) (suc (length s)) (longLength s) (omega arith) (long-leaves s)) (λ _. tt))
 
-value-leaves : (t k : ℕ) (l : LengthRead) → LengthLeaves k l → ObjectLeaves k (valueAfter t l)
+value-leaves : (t : ℕ) (f : Bool) (k : ℕ) (l : LengthRead) → LengthLeaves k l → ObjectLeaves k (valueAfter t f l)
 unfolding valueAfter
-value-leaves t k noLength h = tt
-value-leaves t k (len n s) h = branch (ObjectLeaves k) _ _ _ (λ _. tt) (λ _. let e = length-drop n s in omega arith)
+value-leaves t f k noLength h = tt
+value-leaves t f k (len n s) h = branch (ObjectLeaves k) _ _ _ (λ _. tt) (λ _. let e = length-drop n s in omega arith)
 
 object-leaves : (t : ℕ) (s : List ℕ) → ObjectLeaves (length s) (objectAt (t ∷ s))
-unfolding objectAt
-object-leaves t s = branch (ObjectLeaves (length s)) _ _ _ (λ _. value-leaves t (length s) (lengthAt s) (length-leaves s)) (λ _. tt)
+unfolding objectAt tagAt afterTag
+object-leaves t s =
+    branch (λ (r : TagRead). ObjectLeaves (length s) (afterTag r)) _ _ _ (λ _. tt) (λ _. value-leaves _ _ (length s) (lengthAt s) (length-leaves s))
 
 -- a walk goes on the same with any fuel that is enough
 onward-same :

@@ -1,6 +1,6 @@
 -- "Frames and objects": lengths, tags, an object, the walk and its first fault, the outer frame; and how an object is written.
 use Prim.Native.Nat.{ℕ, zero, suc, _+_, _%_}
-use mathlib.Core.Bool.{Bool, true, false, not, _&&_}
+use mathlib.Core.Bool.{Bool, true, false, _&&_, _||_}
 use mathlib.Core.List.{List, [], _∷_, _++_}
 use lib.ListN.{length, getD, take, drop}
 use lib.Dec.{ltb, leb, eqb}
@@ -36,26 +36,38 @@ pub record Object : Type 0 where
   pub flag : Bool
   pub value : List ℕ
 
--- numbers 0 and 127 are faults
-unfoldable pub goodTag : ℕ → Bool
-goodTag t = not (eqb (t % 0x80) 0) && not (eqb (t % 0x80) 0x7F)
+-- a tag's number, its comprehension flag and the bytes after it, or no tag
+pub data TagRead : Type 0 where
+  tag : ℕ → Bool → List ℕ → TagRead
+  noTag : TagRead
+
+-- the tag's top bit is the flag, its low seven bits the number; numbers 0 and 127 are faults
+unfoldable pub tagAt : List ℕ → TagRead
+tagAt [] = noTag
+tagAt (b ∷ s) =
+    eqb (b % 0x80) 0 || eqb (b % 0x80) 0x7F ⇒ noTag else
+    tag (b % 0x80) (leb 0x80 b) s
 
 -- an object and the bytes after it, or the fault
 pub data ObjectRead : Type 0 where
   object : Object → List ℕ → ObjectRead
   faulty : Ending → ObjectRead
 
--- the tag's top bit is the flag, its low seven bits the number; the value must stand whole
-unfoldable pub valueAfter : ℕ → LengthRead → ObjectRead
-valueAfter t noLength = faulty BadLength
-valueAfter t (len n s) =
+-- the value must stand whole
+unfoldable pub valueAfter : ℕ → Bool → LengthRead → ObjectRead
+valueAfter number flag noLength = faulty BadLength
+valueAfter number flag (len n s) =
     ltb (length s) n ⇒ faulty CutValue else
-    object (record { number = t % 0x80; flag = leb 0x80 t; value = take n s }) (drop n s)
+    object (record { number = number; flag = flag; value = take n s }) (drop n s)
+
+-- a length and a value stand behind a tag
+unfoldable pub afterTag : TagRead → ObjectRead
+afterTag noTag = faulty BadTag
+afterTag (tag number flag s) = valueAfter number flag (lengthAt s)
 
 -- the object at the front of the bytes: a tag, a length, a value
 unfoldable pub objectAt : List ℕ → ObjectRead
-objectAt [] = faulty BadTag
-objectAt (t ∷ s) = goodTag t ⇒ valueAfter t (lengthAt s) else faulty BadTag
+objectAt s = afterTag (tagAt s)
 
 -- what a walk found: the objects before the end or the first fault, which of these it met, and the bytes from there on
 pub record Walk : Type 0 where

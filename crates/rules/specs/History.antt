@@ -77,7 +77,7 @@ unfoldable pub commandSeen : List ℕ → Command
 commandSeen s =
     let os = walk (contents s) .objects in
     let d = detailsIn (valueOf 0x01 os) in
-    commandIn d (sift (rowOf (d .kind)) [] os .counting)
+    commandIn d (sift (rowOf d) [] os .counting)
 
 -- the data of a SEND DATA
 unfoldable pub dataOf : Body → List ℕ

@@ -69,10 +69,10 @@ listing a es ignored =
 unfoldable pub served : List ℕ → Bearer → Bool
 served p b = eqb (b .kind) 0x03 || (eqb (b .kind) 0x02 && allowsBearer02 p)
 
--- a transport level, where it stands, is TCP, 02
-unfoldable pub isTcp : Option Transport → Bool
-isTcp none = true
-isTcp (some t) = eqb (t .protocol) 0x02
+-- the protocol of a channel: that of its transport level, or TCP, 02, where none stands
+unfoldable pub protocolOf : Option Transport → ℕ
+protocolOf none = 0x02
+protocolOf (some t) = t .protocol
 
 -- how many channels, of the first n, stand open before the first that does not; n where none is unused
 unfoldable pub openBefore : ℕ → List Chan → ℕ
@@ -81,15 +81,15 @@ openBefore (suc n) [] = 0
 openBefore (suc n) (c ∷ cs) = let k = openBefore n cs in isOpen c ⇒ suc k else 0
 
 -- 40: the lowest unused number is opened; 07 if it grants less than asked
-unfoldable pub opening : State → ℕ → Bearer → ℕ → Option Transport → Bool → Reply
-opening a q b size t ignored =
+unfoldable pub opening : State → ℕ → Bearer → ℕ → ℕ → Bool → Reply
+opening a q b size protocol ignored =
     let n = channels (a .profile) in
     let k = openBefore n (a .chans) in
     let g = grantFor size (unpromised a) in
     let number : ChannelNumber = record { 0 = k + 1 } in
     let link = bit1 q ⇒ Established else NotYet in
     not (served (a .profile) b) ⇒ reply a (error 0x30) else
-    not (isTcp t) ⇒ reply a (problem 0x06) else
+    not (eqb protocol 0x02) ⇒ reply a (problem 0x06) else
     eqb size 0 ⇒ reply a (problem 0x04) else
     eqb k n ⇒ reply a (problem 0x01) else
     ltb (unpromised a) 2 ⇒ reply a (problem 0x04) else
@@ -133,7 +133,7 @@ statusesFrom n (c ∷ cs) =
 unfoldable pub own : State → Command → Body → Bool → Reply
 own a c moreTime ignored = reply a (done (plain ignored) nothing)
 own a c (eventList es) ignored = listing a es ignored
-own a c (openChannel b size t) ignored = opening a (c .qualifier) b size t ignored
+own a c (openChannel b size t) ignored = opening a (c .qualifier) b size (protocolOf t) ignored
 own a c closeChannel ignored = closing a (channelOf (c .destination)) ignored
 own a c (receiveData n) ignored = receiving a (channelOf (c .destination)) n ignored
 own a c (sendData s) ignored = sending a (c .qualifier) (channelOf (c .destination)) s ignored

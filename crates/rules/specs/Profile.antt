@@ -4,6 +4,7 @@ use mathlib.Core.Bool.{Bool, false}
 use mathlib.Core.List.{List, _++_}
 use lib.ListN.{getD, take, replicate}
 use lib.Dec.{eqb}
+use Rattle.rules.specs.declared.Details.{Details}
 use Rattle.rules.specs.Checks.{_⇒_else_}
 
 -- bytes and bits are numbered from 1; bits past the end are 0
@@ -15,11 +16,11 @@ unfoldable pub kept : List ℕ → List ℕ
 kept p = take 13 (p ++ replicate 13 0)
 
 -- the types: byte 3 bit 4 for 02, byte 5 bit 1 for 05, byte 12 bits 1 to 5 for 40 to 44
-unfoldable pub allowsType : List ℕ → ℕ → Bool
-allowsType p t =
-    eqb t 0x02 ⇒ bit p 3 4 else
-    eqb t 0x05 ⇒ bit p 5 1 else
-    bit p 12 (t - 0x3F)
+unfoldable pub allowsType : List ℕ → Details → Bool
+allowsType p d =
+    eqb (d .kind) 0x02 ⇒ bit p 3 4 else
+    eqb (d .kind) 0x05 ⇒ bit p 5 1 else
+    bit p 12 (d .kind - 0x3F)
 
 -- the events: byte 6 bits 3 and 4 for 09 and 0A
 unfoldable pub allowsEvent : List ℕ → ℕ → Bool

@@ -76,9 +76,10 @@ bearerIn v = record { kind = getD v 0 0; parameters = drop 1 v }
 unfoldable pub transportIn : List ℕ → Transport
 transportIn v = record { protocol = getD v 0 0; port = pairIn (drop 1 v) }
 
--- the values of a type among the objects that count
-unfoldable pub bodyIn : ℕ → List Object → Body
-bodyIn t os =
+-- the values of a command with these details among the objects that count
+unfoldable pub bodyIn : Details → List Object → Body
+bodyIn d os =
+    let t = d .kind in
     eqb t 0x02 ⇒ moreTime else
     eqb t 0x05 ⇒ eventList (valueOf 0x19 os) else
     eqb t 0x40 ⇒
@@ -98,7 +99,7 @@ commandIn d os =
       qualifier = d .qualifier;
       source = record { 0 = getD (valueOf 0x02 os) 0 0 };
       destination = record { 0 = getD (valueOf 0x02 os) 1 0 };
-      body = bodyIn (d .kind) os;
+      body = bodyIn d os;
     }
 
 -- the types that go to the modem itself, 82; the others go to a channel
@@ -134,7 +135,7 @@ unfoldable pub readObjects : List ℕ → List ℕ → Reading
 readObjects p s =
     let w = walk s in
     let d = detailsIn (valueOf 0x01 (w .objects)) in
-    let r = rowOf (d .kind) in
+    let r = rowOf d in
     let o = sift r [] (w .objects) in
     let c = commandIn d (o .counting) in
     -- 3
@@ -145,7 +146,7 @@ readObjects p s =
     isFault (w .ending) ⇒ wrong d 0x32 else
     -- 5
     not (known (d .kind)) ⇒ wrong d 0x31 else
-    not (allowsType p (d .kind)) ⇒ wrong d 0x30 else
+    not (allowsType p d) ⇒ wrong d 0x30 else
     -- 6
     some-of (λ (x : Object). x .flag) (o .unexpected) ⇒ wrong d 0x32 else
     -- 7

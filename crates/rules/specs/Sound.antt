@@ -1,5 +1,5 @@
--- What the start and every call keep: a sound state, and bytes that are bytes.
-use Prim.Native.Nat.{ℕ, _≤_, _<_}
+-- What the start and every call keep: a sound state, and answers of a bounded size.
+use Prim.Native.Nat.{ℕ, _≤_}
 use mathlib.Core.Path.{_≡_}
 use mathlib.Core.List.{List, [], _∷_}
 use lib.ListN.{length}
@@ -26,28 +26,6 @@ pub record Sound (a : State) : Type 0 where
   pub seven : length (a .chans) ≡ 7
   pub each : Each SoundChan (a .chans)
   pub within : promised a ≤ 256
-
--- bytes are below 256
-abbrev pub Bytes : List ℕ → Type 0
-Bytes = Each (λ (b : ℕ). b < 256)
-
--- a state that holds bytes
-pub record Octets (a : State) : Type 0 where
-  pub profile : Bytes (a .profile)
-  pub held : Each (λ (c : Chan). Bytes (c .recv) × Bytes (c .send)) (a .chans)
-
--- a call that is handed bytes
-abbrev pub CallBytes : Call → Type 0
-CallBytes (starting p) = Bytes p
-CallBytes (commanding buffer s) = Bytes s
-CallBytes (arriving buffer n s) = Bytes s
-CallBytes (takingOut buffer n) = Unit {0}
-CallBytes (droppingLink buffer n) = Unit {0}
-
--- an outcome that writes bytes
-abbrev pub OutcomeBytes : Outcome → Type 0
-OutcomeBytes (wrote s) = Bytes s
-OutcomeBytes (refused r) = Unit {0}
 
 -- the most bytes that a call writes: 255 for a response, 16 for an event, as many as are asked for by a take
 abbrev pub most : Call → ℕ

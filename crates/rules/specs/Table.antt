@@ -4,6 +4,7 @@ use mathlib.Core.Bool.{Bool, true, false, not, _||_}
 use mathlib.Core.List.{List, [], _∷_, map}
 use lib.ListN.{length, getD}
 use lib.Dec.{ltb, eqb}
+use Rattle.rules.specs.declared.Details.{Details}
 use Rattle.rules.specs.Checks.{_⇒_else_, isEmpty, every, occurrences, member}
 use Rattle.rules.specs.Frames.{Object}
 
@@ -38,8 +39,9 @@ unfoldable pub rowAmong : ℕ → List Row → Row
 rowAmong t [] = row t [] [] []
 rowAmong t (r ∷ rs) = let s = rowAmong t rs in eqb t (r .kind) ⇒ r else s
 
-unfoldable pub rowOf : ℕ → Row
-rowOf t = rowAmong t table
+-- the row of a command with these details
+unfoldable pub rowOf : Details → Row
+rowOf d = rowAmong (d .kind) table
 
 -- how often an object of this number may stand
 unfoldable pub times : Row → ℕ → ℕ
