@@ -10,7 +10,8 @@ use Rattle.rules.specs.declared.ChannelNumber.{ChannelNumber}
 use Rattle.rules.specs.declared.Refusal.{Refusal}
 use Rattle.rules.specs.declared.Refusal.the-variants.{Overfull}
 use Rattle.rules.specs.Words.{channelOf}
-use Rattle.rules.specs.State.{State, Chan, isOpen, isDropped, chan, withChan, room, arrived, handed}
+use Rattle.rules.specs.declared.Way.the-variants.{Receive, Send}
+use Rattle.rules.specs.State.{State, Chan, isOpen, isDropped, chan, withChan, room, held, appended, removed}
 use Rattle.rules.specs.Reading.{Reading, wrong, asked, reading, Command, Body, moreTime, eventList, openChannel, closeChannel, receiveData, sendData, channelStatus, other}
 use Rattle.rules.specs.Own.{Reply, reply, Result, Further, nothing, opened, received, sent, statuses, error, problem, done, capped, sending, own, protocolOf}
 use Rattle.rules.specs.Command.{Answer, Meant, answered, refusal, Outcome, wrote, refused, command, meantBy}
@@ -27,8 +28,8 @@ use Rattle.rules.proofs.Told.{open-changed}
 -- an arrival on an established link, and a SEND DATA on a link that was not dropped: only the room is left to test
 pub arrival-last :
     (Q : Answer → Type 0) (a : State) (buffer : ℕ) (n : ChannelNumber) (s : List ℕ) → 16 ≤ buffer → Linked a n →
-    (room (chan a n .grant) (chan a n .recv) < length s → Q (refusal a Overfull)) →
-    (length s ≤ room (chan a n .grant) (chan a n .recv) → Q (answered (withChan a n (arrived (chan a n) s)) (arrivalEvent a n s))) →
+    (room (chan a n) Receive < length s → Q (refusal a Overfull)) →
+    (length s ≤ room (chan a n) Receive → Q (answered (withChan a n (appended (chan a n) Receive s)) (arrivalEvent a n s))) →
     Q (arrival a buffer n s)
 unfolding arrival
 arrival-last Q a buffer n s b l f g =
@@ -39,8 +40,8 @@ arrival-last Q a buffer n s b l f g =
 
 pub sending-last :
     (Q : Result → Type 0) (a : State) (q : ℕ) (n : ChannelNumber) (s : List ℕ) (i : Bool) → isOpen (chan a n) ≡ true → isDropped (chan a n .link) ≡ false →
-    (room (chan a n .grant) (chan a n .send) < length s → Q (problem 0x04)) →
-    (length s ≤ room (chan a n .grant) (chan a n .send) → (x : ℕ) (f : Further) → Q (done x f)) →
+    (room (chan a n) Send < length s → Q (problem 0x04)) →
+    (length s ≤ room (chan a n) Send → (x : ℕ) (f : Further) → Q (done x f)) →
     Q (sending a q n s i .result)
 unfolding sending
 sending-last Q a q n s i o d f g =
@@ -108,8 +109,8 @@ Counts c (error e) = Unit {0}
 Counts c (problem cause) = Unit {0}
 Counts c (done x nothing) = Unit {0}
 Counts c (done x (opened s b g)) = Unit {0}
-Counts c (done x (received d left)) = left ≡ capped (length (c .recv))
-Counts c (done x (sent space)) = space ≡ capped (room (c .grant) (c .send))
+Counts c (done x (received d left)) = left ≡ capped (length (held c Receive))
+Counts c (done x (sent space)) = space ≡ capped (room c Send)
 Counts c (done x (statuses ss)) = Unit {0}
 
 abbrev Counted : ChannelNumber → Reply → Type 0
@@ -125,11 +126,11 @@ own-counts a c closeChannel i = closing-cases (Counted (channelOf (c .destinatio
 own-counts a c (receiveData r) i =
     let n = channelOf (c .destination) in
     receiving-cases (Counted n) a (λ _ _. tt) n r i
-    (λ k _ o. ap (λ (x : Chan). capped (length (x .recv))) (sym (open-changed a n (handed (chan a n) k) o)))
+    (λ k _ o. ap (λ (x : Chan). capped (length (held x Receive))) (sym (open-changed a n (removed (chan a n) Receive k) o)))
 own-counts a c (sendData s) i =
     let n = channelOf (c .destination) in
     sending-cases (Counted n) a (λ _ _. tt) (c .qualifier) n s i
-    (λ x _ o _ _. ap (λ (y : Chan). capped (room (y .grant) (y .send))) (sym (open-changed a n x o)))
+    (λ x _ o _ _. ap (λ (y : Chan). capped (room y Send)) (sym (open-changed a n x o)))
 own-counts a c channelStatus i = tt
 own-counts a c (other t) i = tt
 

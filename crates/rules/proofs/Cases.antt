@@ -15,7 +15,8 @@ use Rattle.rules.specs.declared.Refusal.{Refusal}
 use Rattle.rules.specs.declared.Refusal.the-variants.{ShortBuffer, NoChannel, Unopened, Unlinked, Overfull, CommandSize}
 use Rattle.rules.specs.Checks.{_⇒_else_, isEmpty, every, some-of, member}
 use Rattle.rules.specs.Profile.{allowsEvent, channels}
-use Rattle.rules.specs.State.{State, Chan, chan, withChan, isOpen, isEstablished, isDropped, room, closed, fresh, arrived, handed, stored, readied, taken, dropped}
+use Rattle.rules.specs.declared.Way.the-variants.{Receive, Send}
+use Rattle.rules.specs.State.{State, Chan, chan, withChan, isOpen, isEstablished, isDropped, room, closed, fresh, readied, dropped, held, appended, removed}
 use Rattle.rules.specs.Pool.{unpromised, grantFor}
 use Rattle.rules.specs.Reading.{Reading, Bearer, reading}
 use Rattle.rules.specs.Own.{Reply, Result, Status, reply, error, problem, done, nothing, opened, received, sent, bit1, plain, capped, served, openBefore, listing, listed, opening, closing, receiving, sending}
@@ -37,8 +38,8 @@ pub record Linked (a : State) (n : ChannelNumber) : Type 0 where
 module _ (Q : Answer → Type 0) (a : State) (refuse : (r : Refusal) → Q (refusal a r)) where
   pub arrival-cases :
       (buffer : ℕ) (n : ChannelNumber) (s : List ℕ) →
-      (16 ≤ buffer → Linked a n → length s ≤ room (chan a n .grant) (chan a n .recv) →
-      Q (answered (withChan a n (arrived (chan a n) s)) (arrivalEvent a n s))) →
+      (16 ≤ buffer → Linked a n → length s ≤ room (chan a n) Receive →
+      Q (answered (withChan a n (appended (chan a n) Receive s)) (arrivalEvent a n s))) →
       Q (arrival a buffer n s)
   unfolding arrival
   arrival-cases buffer n s f =
@@ -52,7 +53,7 @@ module _ (Q : Answer → Type 0) (a : State) (refuse : (r : Refusal) → Q (refu
   pub taking-cases :
       (buffer : ℕ) (n : ChannelNumber) →
       (Linked a n →
-      Q (answered (withChan a n (taken (chan a n) (min buffer (chan a n .ready)))) (take (min buffer (chan a n .ready)) (chan a n .send)))) →
+      Q (answered (withChan a n (removed (chan a n) Send (min buffer (chan a n .ready)))) (take (min buffer (chan a n .ready)) (held (chan a n) Send)))) →
       Q (taking a buffer n)
   unfolding taking
   taking-cases buffer n f =
@@ -159,9 +160,9 @@ module _ (Q : Reply → Type 0) (a : State) where
   pub receiving-cases :
       Why 0x42 →
       (n : ChannelNumber) (request : ℕ) (i : Bool) →
-      ((k : ℕ) → k ≡ min request (min (length (chan a n .recv)) 237) → isOpen (chan a n) ≡ true →
-      Q (reply (withChan a n (handed (chan a n) k))
-      (done (ltb k request ⇒ 0x02 else plain i) (received (take k (chan a n .recv)) (capped (length (handed (chan a n) k .recv))))))) →
+      ((k : ℕ) → k ≡ min request (min (length (held (chan a n) Receive)) 237) → isOpen (chan a n) ≡ true →
+      Q (reply (withChan a n (removed (chan a n) Receive k))
+      (done (ltb k request ⇒ 0x02 else plain i) (received (take k (held (chan a n) Receive)) (capped (length (held (removed (chan a n) Receive k) Receive))))))) →
       Q (receiving a n request i)
   unfolding receiving
   receiving-cases why n request i f = branch Q _ _ _ (λ _. why 0x03 (causes .at-42-03)) (λ e. f _ refl (not-not _ e))
@@ -169,9 +170,9 @@ module _ (Q : Reply → Type 0) (a : State) where
   pub sending-cases :
       Why 0x43 →
       (q : ℕ) (n : ChannelNumber) (s : List ℕ) (i : Bool) →
-      ((c : Chan) → c ≡ (bit1 q ⇒ readied (stored (chan a n) s) else stored (chan a n) s) →
-      isOpen (chan a n) ≡ true → isDropped (chan a n .link) ≡ false → length s ≤ room (chan a n .grant) (chan a n .send) →
-      Q (reply (withChan a n c) (done (plain i) (sent (capped (room (c .grant) (c .send))))))) →
+      ((c : Chan) → c ≡ (bit1 q ⇒ readied (appended (chan a n) Send s) else appended (chan a n) Send s) →
+      isOpen (chan a n) ≡ true → isDropped (chan a n .link) ≡ false → length s ≤ room (chan a n) Send →
+      Q (reply (withChan a n c) (done (plain i) (sent (capped (room c Send)))))) →
       Q (sending a q n s i)
   unfolding sending
   sending-cases why q n s i f =

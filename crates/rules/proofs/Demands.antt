@@ -12,14 +12,16 @@ use borrow.Author.Tests.{le-leb, lt-leb, eq-eqb}
 use Rattle.rules.specs.declared.ChannelNumber.{ChannelNumber}
 use Rattle.rules.specs.declared.Link.{Link}
 use Rattle.rules.specs.Words.{channelOf}
-use Rattle.rules.specs.State.{State, closed, isOpen, isEstablished, isDropped, chan, withChan, room, arrived, handed}
+use Rattle.rules.specs.declared.Way.{Way}
+use Rattle.rules.specs.declared.Way.the-variants.{Receive, Send}
+use Rattle.rules.specs.State.{State, closed, isOpen, isEstablished, isDropped, chan, withChan, room, Chan, queue, held}
 use Rattle.rules.specs.Reading.{asked, reading, kindOf, Command, Bearer, closeChannel, receiveData, sendData}
 use Rattle.rules.specs.Own.{Reply, reply, Result, nothing, opened, received, sent, done, capped, plain, closing, receiving, sending, own}
 use Rattle.rules.specs.Command.{Answer, Outcome, wrote, meantBy}
 use Rattle.rules.specs.Run.{Call, starting, commanding, arriving, takingOut, step}
-use Rattle.rules.specs.History.{History, ended, openedWith, commandSeen, closes, answerTells, tells, heldToReceive, heldToSend, oldestReady}
-use Rattle.rules.specs.Demands.{Follows, reached, told-of, accepted, isDone}
-use Rattle.rules.proofs.Laws.{stop, skip}
+use Rattle.rules.specs.History.{History, ended, openedWith, commandSeen, closes, answerTells, tells, oldestReady, untouched, side, heldBy}
+use Rattle.rules.specs.Demands.{Tells, Follows, reached, told-of, accepted, isDone}
+use Rattle.rules.proofs.Laws.{by-way, stop, skip}
 use Rattle.rules.proofs.Cases.{taking-cases, receiving-cases}
 use Rattle.rules.proofs.Soundness.{chan-sound, reached-sound}
 use Rattle.rules.proofs.Told.{open-changed}
@@ -27,13 +29,12 @@ use Rattle.rules.proofs.Matching.{numbered-of}
 use Rattle.rules.proofs.Answers.{arrival-last, sending-last, replied, meant-own, seen-read, commanded-state, Counts, meant-counts}
 use Rattle.rules.proofs.Histories.{command-tells, step-follows, follows}
 
--- what a history leaves held is what the channel holds
-held-by : (n : ChannelNumber) (a : State) (h : History) → Follows n a h → (heldToReceive h ≡ length (chan a n .recv)) × (heldToSend h ≡ length (chan a n .send))
-unfolding heldToReceive heldToSend
-held-by n a h f =
-    let r = sym (ap (λ (l : List ℕ). length l) (f .receive)) ∙ length-append (h .handed) (chan a n .recv) in
-    let s = sym (ap (λ (l : List ℕ). length l) (f .send)) ∙ length-append (h .taken) (chan a n .send) in
-    (omega (arith, r), omega (arith, s))
+-- what a history leaves held for a way is what the channel holds
+held-told : (c : Chan) (h : History) → Tells c h → (w : Way) → heldBy h w ≡ length (held c w)
+unfolding heldBy
+held-told c h f w =
+    let e = sym (ap (λ (l : List ℕ). length l) (f .order w)) ∙ length-append (side h w .out) (held c w) in
+    omega (arith, e)
 
 -- what follows the bytes handed out is what is held
 rest-is : (x y z : List ℕ) → x ++ y ≡ z → drop (length x) z ≡ y
@@ -51,68 +52,65 @@ module _ (n : ChannelNumber) (from : 1 ≤ n .0) (upto : n .0 ≤ 7) (p : List �
   seen = follows n p cs from
 
   -- the bytes handed out, followed by those held, are the bytes accepted since the opening, each way
-  pub order : (h .handed ++ chan a n .recv ≡ h .arrived) × (h .taken ++ chan a n .send ≡ h .stored)
-  order = (seen .receive, seen .send)
+  pub order : (w : Way) → side h w .out ++ held (chan a n) w ≡ side h w .accepted
+  order = seen .order
 
   -- accepted less handed out is held, each way
-  pub held-is : (heldToReceive h ≡ length (chan a n .recv)) × (heldToSend h ≡ length (chan a n .send))
-  held-is = held-by n a h seen
+  pub held-is : (w : Way) → heldBy h w ≡ length (held (chan a n) w)
+  held-is = held-told (chan a n) h seen
 
   -- never more is held than the grant, each way, in the channel and in the history
-  pub bounds :
-      (length (chan a n .recv) ≤ h .grant) × (length (chan a n .send) ≤ h .grant) × (heldToReceive h ≤ h .grant) × (heldToSend h ≤ h .grant)
-  bounds =
+  pub bounds : (w : Way) → (length (held (chan a n) w) ≤ h .grant) × (heldBy h w ≤ h .grant)
+  bounds w =
       let o = chan-sound a n (reached-sound p cs) in
-      let g = seen .grant in
-      let e = held-is in
-      omega (arith, o .recv-fits, o .send-fits, g, e .0, e .1)
+      omega (arith, o .fits w, seen .grant, held-is w)
 
   -- an arrival on an established link is accepted exactly when it fits the grant less what is held
   pub arrival-accepted :
       (buffer : ℕ) (s : List ℕ) → 16 ≤ buffer → h .stands ≡ true → isEstablished (h .link) ≡ true →
-      accepted (step a (arriving buffer n s) .outcome) ≡ leb (length s) (h .grant - heldToReceive h)
+      accepted (step a (arriving buffer n s) .outcome) ≡ leb (length s) (h .grant - heldBy h Receive)
   unfolding step accepted room
   arrival-accepted buffer s b o l =
-      let space = h .grant - heldToReceive h in
+      let space = h .grant - heldBy h Receive in
       arrival-last (λ (r : Answer). accepted (r .outcome) ≡ leb (length s) space) a buffer n s b
       (record { number = numbered-of n from upto; stands = sym (seen .stands) ∙ o; link = ap isEstablished (sym (seen .link)) ∙ l })
-      (λ f. sym (lt-leb (length s) space (omega (arith, f, seen .grant, held-is .0))))
-      (λ f. sym (le-leb (length s) space (omega (arith, f, seen .grant, held-is .0))))
+      (λ f. sym (lt-leb (length s) space (omega (arith, f, seen .grant, held-is Receive))))
+      (λ f. sym (le-leb (length s) space (omega (arith, f, seen .grant, held-is Receive))))
 
   -- a SEND DATA on a link that was not dropped is done exactly when its data fits the grant less what is held
   pub send-accepted :
       (s : List ℕ) (c : Command) (i : Bool) (d : List ℕ) → reading (a .profile) s ≡ asked c i → c .body ≡ sendData d →
       channelOf (c .destination) ≡ n → h .stands ≡ true → isDropped (h .link) ≡ false →
-      isDone (meantBy a (reading (a .profile) s) .response .result) ≡ leb (length d) (h .grant - heldToSend h)
+      isDone (meantBy a (reading (a .profile) s) .response .result) ≡ leb (length d) (h .grant - heldBy h Send)
   unfolding own isDone room
   send-accepted s c i d eʳ eᵇ eⁿ o l =
-      let space = h .grant - heldToSend h in
+      let space = h .grant - heldBy h Send in
       ap (λ (r : Reply). isDone (r .result)) (meant-own a (reading (a .profile) s) c i (sendData d) eʳ eᵇ) ∙
       ap (λ (m : ChannelNumber). isDone (sending a (c .qualifier) m d i .result)) eⁿ ∙
       sending-last (λ (r : Result). isDone r ≡ leb (length d) space) a (c .qualifier) n d i (sym (seen .stands) ∙ o) (ap isDropped (sym (seen .link)) ∙ l)
-      (λ f. sym (lt-leb (length d) space (omega (arith, f, seen .grant, held-is .1))))
-      (λ f _ _. sym (le-leb (length d) space (omega (arith, f, seen .grant, held-is .1))))
+      (λ f. sym (lt-leb (length d) space (omega (arith, f, seen .grant, held-is Send))))
+      (λ f _ _. sym (le-leb (length d) space (omega (arith, f, seen .grant, held-is Send))))
 
   -- what a take hands out is the oldest bytes that are ready, as many as fit
   pub ready : (buffer : ℕ) (t : List ℕ) → step a (takingOut buffer n) .outcome ≡ wrote t → t ≡ oldestReady h buffer
-  unfolding step oldestReady
+  unfolding step oldestReady side
   ready buffer t =
-      let many : h .readied - length (h .taken) ≡ chan a n .ready = omega (arith, seen .ready) in
+      let many : h .readied - length (h .send .out) ≡ chan a n .ready = omega (arith, seen .ready) in
       taking-cases (λ (r : Answer). r .outcome ≡ wrote t → t ≡ oldestReady h buffer) a (λ _ e. cc) buffer n
-      (λ _ e. rw (rest-is (h .taken) (chan a n .send) (h .stored) (seen .send)) (rw many (cc)))
+      (λ _ e. rw (rest-is (h .send .out) (held (chan a n) Send) (h .send .accepted) (seen .order Send)) (rw many (cc)))
 
   -- what a RECEIVE DATA hands out is the oldest bytes held: the least of the request, those held and 237
   pub oldest :
       (s : List ℕ) (c : Command) (i : Bool) (request x : ℕ) (d : List ℕ) (left : ℕ) → reading (a .profile) s ≡ asked c i →
       c .body ≡ receiveData request → channelOf (c .destination) ≡ n →
       meantBy a (reading (a .profile) s) .response .result ≡ done x (received d left) →
-      d ≡ take (min request (min (heldToReceive h) 237)) (drop (length (h .handed)) (h .arrived))
-  unfolding own
+      d ≡ take (min request (min (heldBy h Receive) 237)) (drop (length (h .receive .out)) (h .receive .accepted))
+  unfolding own side
   oldest s c i request x d left eʳ eᵇ eⁿ e =
-      let some = take (min request (min (heldToReceive h) 237)) (drop (length (h .handed)) (h .arrived)) in
+      let some = take (min request (min (heldBy h Receive) 237)) (drop (length (h .receive .out)) (h .receive .accepted)) in
       let meant = meant-own a (reading (a .profile) s) c i (receiveData request) eʳ eᵇ ∙ ap (λ (k : ChannelNumber). receiving a k request i) eⁿ in
       receiving-cases (λ (r : Reply). r .result ≡ done x (received d left) → d ≡ some) a (λ _ _ q. cc) n request i
-      (λ k eᵏ _ q. rw (rest-is (h .handed) (chan a n .recv) (h .arrived) (seen .receive)) (rw (held-is .0) (cc)))
+      (λ k eᵏ _ q. rw (rest-is (h .receive .out) (held (chan a n) Receive) (h .receive .accepted) (seen .order Receive)) (rw (held-is Receive) (cc)))
       (sym (ap (λ (r : Reply). r .result) meant) ∙ e)
 
   -- what is seen of one more call, by how it ended
@@ -124,19 +122,19 @@ module _ (n : ChannelNumber) (from : 1 ≤ n .0) (upto : n .0 ≤ 7) (p : List �
       (buffer : ℕ) (s t : List ℕ) (c : Command) (i : Bool) (x : ℕ) → step a (commanding buffer s) .outcome ≡ wrote t →
       reading (a .profile) s ≡ asked c i → channelOf (c .destination) ≡ n →
       ((d : List ℕ) (left : ℕ) → meantBy a (reading (a .profile) s) .response .result ≡ done x (received d left) →
-      left ≡ capped (heldToReceive (tells n h (commanding buffer s) (wrote t)))) ×
+      left ≡ capped (heldBy (tells n h (commanding buffer s) (wrote t)) Receive)) ×
       ((space : ℕ) → meantBy a (reading (a .profile) s) .response .result ≡ done x (sent space) →
-      space ≡ capped (tells n h (commanding buffer s) (wrote t) .grant - heldToSend (tells n h (commanding buffer s) (wrote t))))
+      space ≡ capped (tells n h (commanding buffer s) (wrote t) .grant - heldBy (tells n h (commanding buffer s) (wrote t)) Send))
   unfolding step room
   counts buffer s t c i x eᵗ eʳ eⁿ =
       let m = meantBy a (reading (a .profile) s) in
       let h′ = tells n h (commanding buffer s) (wrote t) in
       let next : Follows n (m .state) h′ = subst (λ (b : State). Follows n b h′) (commanded-state a buffer s t eᵗ) (seen-next (commanding buffer s) (wrote t) eᵗ) in
-      let held = held-by n (m .state) h′ next in
+      let left = held-told (chan (m .state) n) h′ next in
       let told = meant-counts a (reading (a .profile) s) c i n eʳ eⁿ in (
-        λ d left e. subst (Counts (chan (m .state) n)) e told ∙ ap capped (sym (held .0)),
+        λ d k e. subst (Counts (chan (m .state) n)) e told ∙ ap capped (sym (left Receive)),
         λ space e.
-            let roomy : room (chan (m .state) n .grant) (chan (m .state) n .send) ≡ h′ .grant - heldToSend h′ = omega (arith, next .grant, held .1) in
+            let roomy : room (chan (m .state) n) Send ≡ h′ .grant - heldBy h′ Send = omega (arith, next .grant, left Send) in
             subst (Counts (chan (m .state) n)) e told ∙ ap capped roomy,
       )
 
@@ -175,6 +173,6 @@ module _ (n : ChannelNumber) (from : 1 ≤ n .0) (upto : n .0 ≤ 7) (p : List �
 -- an opening begins with nothing
 pub begins-empty :
     (g : ℕ) (l : Link) →
-    (openedWith g l .arrived ≡ []) × (openedWith g l .handed ≡ []) × (openedWith g l .stored ≡ []) × (openedWith g l .taken ≡ []) × (openedWith g l .readied ≡ 0)
-unfolding openedWith
-begins-empty g l = (refl, refl, refl, refl, refl)
+    ((w : Way) → side (openedWith g l) w ≡ untouched) × (openedWith g l .readied ≡ 0)
+unfolding openedWith side
+begins-empty g l = (by-way _ refl refl, refl)

@@ -10,31 +10,31 @@ use Rattle.rules.specs.declared.ChannelNumber.{ChannelNumber}
 use Rattle.rules.specs.Checks.{_⇒_else_, some-of, member}
 use Rattle.rules.specs.Words.{channelOf}
 use Rattle.rules.specs.Frames.{contents}
-use Rattle.rules.specs.State.{State, Chan, start, closed, chan, withChan, fresh, arrived, handed, stored, taken, dropped}
+use Rattle.rules.specs.declared.Way.the-variants.{Receive, Send}
+use Rattle.rules.specs.State.{State, Chan, start, closed, chan, withChan, fresh, dropped, held, appended, removed}
 use Rattle.rules.specs.Pool.{unpromised}
 use Rattle.rules.specs.Reading.{Reading, reading, Command, Body, moreTime, eventList, openChannel, closeChannel, receiveData, sendData, channelStatus, other, kindOf, commandIn, toModem}
 use Rattle.rules.specs.Own.{Reply, bit1, listed, own, protocolOf}
 use Rattle.rules.specs.Command.{Answer, Meant, wrote, command, meantBy}
 use Rattle.rules.specs.Run.{Call, starting, commanding, arriving, takingOut, droppingLink, step, after}
 use Rattle.rules.specs.Sound.{Sound}
-use Rattle.rules.specs.History.{History, ended, openedWith, arrivedIn, handedIn, storedIn, readiedIn, takenIn, droppedIn, commandSeen, dataOf, closes, answerTells, heardTells, tells, historyFrom, history, seenFrom}
-use Rattle.rules.specs.Demands.{Follows, reached, told-of}
+use Rattle.rules.specs.History.{History, ended, openedWith, readiedIn, droppedIn, commandSeen, dataOf, closes, answerTells, heardTells, tells, historyFrom, history, seenFrom, acceptedIn, outIn}
+use Rattle.rules.specs.Demands.{Tells, Follows, reached, told-of}
 use Rattle.rules.proofs.Laws.{stop, skip, each-get, each-replicate}
 use Rattle.rules.proofs.Cases.{arrival-cases, taking-cases, dropping-cases, command-cases, listing-cases, opening-cases, closing-cases, receiving-cases, sending-cases}
 use Rattle.rules.proofs.Readings.{detailsRead, counted, reading-cases}
 use Rattle.rules.proofs.Grants.{Granted, grant-law}
-use Rattle.rules.proofs.Soundness.{chan-sound, opened-place, start-sound, step-sound}
+use Rattle.rules.proofs.Soundness.{not-send, chan-sound, opened-place, start-sound, step-sound}
 use Rattle.rules.proofs.Heard.{modem-heard}
-use Rattle.rules.proofs.Matching.{Matches, matches-of, follows-of, closed-matches, fresh-matches, arrived-matches, handed-matches, stored-matches, readied-matches, taken-matches, dropped-matches, Aimed, read-aimed, changed, numbered-of, either-matches}
+use Rattle.rules.proofs.Matching.{closed-told, fresh-told, appended-told, removed-told, readied-told, dropped-told, Aimed, read-aimed, changed, numbered-of, either-told}
 
 -- a fresh session has no channel, and nothing was seen of one
 start-follows : (n : ChannelNumber) (p : List ℕ) → Follows n (start p) ended
 unfolding start chan
 start-follows n p =
-    follows-of n (start p) ended
-    (subst (λ (c : Chan). Matches c ended)
+    subst (λ (c : Chan). Tells c ended)
     (sym (each-get (λ (c : Chan). c ≡ closed) (replicate 7 closed) (n .0 - 1) closed refl (each-replicate (λ (c : Chan). c ≡ closed) 7 closed refl)))
-    closed-matches)
+    closed-told
 
 -- the answer to a command tells what was meant
 pub command-tells :
@@ -45,14 +45,14 @@ command-tells n a h o buffer s t e = ap (heardTells n h (commandSeen s)) (modem-
 
 module _ (n : ChannelNumber) (from : 1 ≤ n .0) (a : State) (h : History) (o : Sound a) (f : Follows n a h) where
   -- the channel that a call names, where it is this one
-  named : (m : ChannelNumber) → n ≡ m → Matches (chan a m) h
-  named m e = subst (λ (x : ChannelNumber). Matches (chan a x) h) e (matches-of n a h f)
+  named : (m : ChannelNumber) → n ≡ m → Tells (chan a m) h
+  named m e = subst (λ (x : ChannelNumber). Tells (chan a x) h) e f
 
   storing :
-      (c : Command) (m : ChannelNumber) (s : List ℕ) → c .body ≡ sendData s → n ≡ m → Matches (stored (chan a m) s) (storedIn h (dataOf (c .body)))
+      (c : Command) (m : ChannelNumber) (s : List ℕ) → c .body ≡ sendData s → n ≡ m → Tells (appended (chan a m) Send s) (acceptedIn h Send (dataOf (c .body)))
   unfolding dataOf
   storing c m s e q =
-      subst (λ (t : List ℕ). Matches (stored (chan a m) s) (storedIn h t)) (sym (ap dataOf e)) (stored-matches (chan a m) h (named m q) s)
+      subst (λ (t : List ℕ). Tells (appended (chan a m) Send s) (acceptedIn h Send t)) (sym (ap dataOf e)) (appended-told (chan a m) h (named m q) Send s)
 
   abbrev Told-by : Command → Reply → Type 0
   Told-by c r = Follows n (r .state) (answerTells n h c (r .result))
@@ -62,37 +62,37 @@ module _ (n : ChannelNumber) (from : 1 ≤ n .0) (a : State) (h : History) (o : 
   own-follows c moreTime i e u = subst (Follows n a) (sym (skip _ _ _ (ap closes e))) f
   own-follows c (eventList es) i e u =
       listing-cases (Told-by c) a es i f
-      (λ _. subst (Follows n (listed a es)) (sym (skip _ _ _ (ap closes e))) (follows-of n (listed a es) h (matches-of n a h f)))
+      (λ _. subst (Follows n (listed a es)) (sym (skip _ _ _ (ap closes e))) f)
   own-follows c (openChannel b size t) i e u =
       opening-cases (Told-by c) a (λ _ _. f) (c .qualifier) b size (protocolOf t) i f
       (λ m l g eₘ eₗ eᵍ x.
       let at = opened-place a (m .0) o eₘ (x .unused) in
       let law = subst (Granted size (unpromised a)) (sym eᵍ) (grant-law size (unpromised a)) in
       changed n m a (fresh g l) h (openedWith g l) from o (numbered-of m (at .0) (at .1)) f
-      (λ _. fresh-matches g l (law .some (x .free) (x .asks))))
+      (λ _. fresh-told g l (law .some (x .free) (x .asks))))
   own-follows c closeChannel i e u =
       let m = channelOf (c .destination) in
       closing-cases (Told-by c) a (λ _ _. f) m i
       (λ _.
       subst (Follows n (withChan a m closed)) (sym (stop _ _ _ (ap closes e)))
-      (changed n m a closed h ended from o (u refl) f (λ _. closed-matches)))
+      (changed n m a closed h ended from o (u refl) f (λ _. closed-told)))
   own-follows c (receiveData r) i e u =
       let m = channelOf (c .destination) in
       receiving-cases (Told-by c) a (λ _ _. f) m r i
       (λ k _ _.
-      changed n m a (handed (chan a m) k) h (handedIn h (take k (chan a m .recv))) from o (u refl) f
-      (λ q. handed-matches (chan a m) h (named m q) k))
+      changed n m a (removed (chan a m) Receive k) h (outIn h Receive (take k (held (chan a m) Receive))) from o (u refl) f
+      (λ q. removed-told (chan a m) h (named m q) Receive k (λ x. absurd (not-send x)) (chan-sound a m o)))
   own-follows c (sendData s) i e u =
       let m = channelOf (c .destination) in
       let b = bit1 (c .qualifier) in
-      let k = storedIn h (dataOf (c .body)) in
+      let k = acceptedIn h Send (dataOf (c .body)) in
       sending-cases (Told-by c) a (λ _ _. f) (c .qualifier) m s i
       (λ x eˣ _ _ _.
       changed n m a x h (b ⇒ readiedIn k else k) from o (u refl) f
       (λ q.
-      let held = storing c m s e q in
-      subst (λ (y : Chan). Matches y (b ⇒ readiedIn k else k)) (sym eˣ)
-      (either-matches b _ _ _ _ (readied-matches (stored (chan a m) s) k held) held)))
+      let joins = storing c m s e q in
+      subst (λ (y : Chan). Tells y (b ⇒ readiedIn k else k)) (sym eˣ)
+      (either-told b _ _ _ _ (readied-told (appended (chan a m) Send s) k joins) joins)))
   own-follows c channelStatus i e u = f
   own-follows c (other t) i e u = f
 
@@ -121,17 +121,18 @@ module _ (n : ChannelNumber) (from : 1 ≤ n .0) (a : State) (h : History) (o : 
   step-follows (arriving buffer m s) =
       arrival-cases (Tells-of (arriving buffer m s)) a (λ _. f) buffer m s
       (λ _ l _.
-      changed n m a (arrived (chan a m) s) h (arrivedIn h s) from o (l .number) f (λ q. arrived-matches (chan a m) h (named m q) s))
+      changed n m a (appended (chan a m) Receive s) h (acceptedIn h Receive s) from o (l .number) f
+      (λ q. appended-told (chan a m) h (named m q) Receive s))
   step-follows (takingOut buffer m) =
       let k = min buffer (chan a m .ready) in
       taking-cases (Tells-of (takingOut buffer m)) a (λ _. f) buffer m
       (λ l.
-      changed n m a (taken (chan a m) k) h (takenIn h (take k (chan a m .send))) from o (l .number) f
-      (λ q. taken-matches (chan a m) h (named m q) k (omega arith) (chan-sound a m o)))
+      changed n m a (removed (chan a m) Send k) h (outIn h Send (take k (held (chan a m) Send))) from o (l .number) f
+      (λ q. removed-told (chan a m) h (named m q) Send k (λ _. omega arith) (chan-sound a m o)))
   step-follows (droppingLink buffer m) =
       dropping-cases (Tells-of (droppingLink buffer m)) a (λ _. f) buffer m
       (λ _ l.
-      changed n m a (dropped (chan a m)) h (droppedIn h) from o (l .number) f (λ q. dropped-matches (chan a m) h (named m q)))
+      changed n m a (dropped (chan a m)) h (droppedIn h) from o (l .number) f (λ q. dropped-told (chan a m) h (named m q)))
 
 follows-from :
     (n : ChannelNumber) (a : State) (h : History) (cs : List Call) → 1 ≤ n .0 → Sound a → Follows n a h →

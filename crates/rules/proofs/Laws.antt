@@ -9,6 +9,8 @@ use native.Mathlib.Omega.{arith}
 use lib.ListN.{length, getD, take, drop, set, replicate}
 use borrow.Author.Tests.{lt-ltb, le-ltb, le-leb, lt-leb, eq-eqb, ne-eqb, eqb-true}
 use lib.Dec.{eqb}
+use Rattle.rules.specs.declared.Way.{Way}
+use Rattle.rules.specs.declared.Way.the-variants.{Receive, Send}
 use Rattle.rules.specs.Checks.{_⇒_else_, some-of, member}
 use Rattle.rules.specs.Sound.{Each}
 
@@ -102,3 +104,8 @@ unfolding member some-of
 each-member P n [] h e = absurd (mathlib.Core.Bool.false≢true e)
 each-member P n (x ∷ s) h e =
     ⊎-elim (λ e₁. by-equal P n x e₁ (h .0)) (λ e₂. each-member P n s (h .1) e₂) (either (eqb n x) (member n s) e)
+
+-- what holds of each of the two ways
+pub by-way : (P : Way → Type 0) → P Receive → P Send → (w : Way) → P w
+by-way P x y Receive = x
+by-way P x y Send = y

@@ -14,110 +14,72 @@ use Rattle.rules.specs.declared.DeviceIdentity.{DeviceIdentity}
 use Rattle.rules.specs.declared.Link.{Link}
 use Rattle.rules.specs.Checks.{_⇒_else_}
 use Rattle.rules.specs.Words.{channelOf}
-use Rattle.rules.specs.State.{State, Chan, closed, isOpen, chan, withChan, establish, fresh, arrived, handed, stored, readied, taken, dropped}
+use Rattle.rules.specs.declared.Way.{Way}
+use Rattle.rules.specs.declared.Way.the-variants.{Receive, Send}
+use Rattle.rules.specs.State.{State, Chan, closed, isOpen, chan, withChan, establish, fresh, readied, dropped, queue, withQueue, held, joined, without, marked, appended, removed}
 use Rattle.rules.specs.Reading.{Command, Body, other, kindOf, detailsOf, commandIn, toModem, addressed}
 use Rattle.rules.specs.Radio.{numbered}
 use Rattle.rules.specs.Sound.{SoundChan, Sound}
-use Rattle.rules.specs.History.{History, ended, openedWith, arrivedIn, handedIn, storedIn, readiedIn, takenIn, droppedIn, sameNumber}
-use Rattle.rules.specs.Demands.{Follows}
-use Rattle.rules.proofs.Laws.{branch, skip, both-left, both-right}
+use Rattle.rules.specs.History.{History, ended, openedWith, readiedIn, droppedIn, sameNumber, side, withSide, acceptedIn, outIn}
+use Rattle.rules.specs.Demands.{Tells, Follows}
+use Rattle.rules.proofs.Laws.{branch, by-way, skip, both-left, both-right}
 use Rattle.rules.proofs.Readings.{Read, detailsRead, counted, details-told}
 use Rattle.rules.proofs.Told.{chan-changed, chan-other}
 
--- the history tells this channel
-pub record Matches (c : Chan) (h : History) : Type 0 where
-  pub stands : h .stands ≡ isOpen c
-  pub grant : h .grant ≡ c .grant
-  pub link : h .link ≡ c .link
-  pub receive : h .handed ++ c .recv ≡ h .arrived
-  pub send : h .taken ++ c .send ≡ h .stored
-  pub ready : h .readied ≡ length (h .taken) + c .ready
-
-pub matches-of : (n : ChannelNumber) (a : State) (h : History) → Follows n a h → Matches (chan a n) h
-matches-of n a h f =
-    record { stands = f .stands; grant = f .grant; link = f .link; receive = f .receive; send = f .send; ready = f .ready }
-
-pub follows-of : (n : ChannelNumber) (a : State) (h : History) → Matches (chan a n) h → Follows n a h
-follows-of n a h m =
-    record { stands = m .stands; grant = m .grant; link = m .link; receive = m .receive; send = m .send; ready = m .ready }
-
 -- each change of a channel, beside what is seen of it
-pub closed-matches : Matches closed ended
-unfolding closed ended isOpen
-closed-matches = record { stands = refl; grant = refl; link = refl; receive = refl; send = refl; ready = omega arith }
+pub closed-told : Tells closed ended
+unfolding closed ended isOpen queue side
+closed-told = record { stands = refl; grant = refl; link = refl; order = by-way _ refl refl; ready = omega arith }
 
-pub fresh-matches : (g : ℕ) (l : Link) → 1 ≤ g → Matches (fresh g l) (openedWith g l)
-unfolding fresh openedWith isOpen
-fresh-matches g l h =
-    record { stands = sym (le-leb 1 g h); grant = refl; link = refl; receive = refl; send = refl; ready = omega arith }
+pub fresh-told : (g : ℕ) (l : Link) → 1 ≤ g → Tells (fresh g l) (openedWith g l)
+unfolding fresh openedWith isOpen queue side
+fresh-told g l h = record { stands = sym (le-leb 1 g h); grant = refl; link = refl; order = by-way _ refl refl; ready = omega arith }
 
-module _ (c : Chan) (h : History) (m : Matches c h) where
-  pub arrived-matches : (s : List ℕ) → Matches (arrived c s) (arrivedIn h s)
-  unfolding arrived arrivedIn isOpen
-  arrived-matches s =
+-- bytes behind those held, and bytes from the front of those held
+more : (out held accepted s : List ℕ) → out ++ held ≡ accepted → out ++ (held ++ s) ≡ accepted ++ s
+more out held accepted s e = sym (append-assoc out held s) ∙ ap (λ (t : List ℕ). t ++ s) e
+
+less : (out held accepted : List ℕ) (k : ℕ) → out ++ held ≡ accepted → (out ++ take k held) ++ drop k held ≡ accepted
+less out held accepted k e = append-assoc out (take k held) (drop k held) ∙ ap (λ (t : List ℕ). out ++ t) (take-append-drop k held) ∙ e
+
+module _ (c : Chan) (h : History) (m : Tells c h) where
+  pub appended-told : (w : Way) (s : List ℕ) → Tells (appended c w s) (acceptedIn h w s)
+  unfolding appended withQueue joined queue acceptedIn withSide side isOpen
+  appended-told Receive s =
+      record { stands = m .stands; grant = m .grant; link = m .link; order = by-way _ (more (h .receive .out) (c .receive .bytes) (h .receive .accepted) s (m .order Receive)) (m .order Send); ready = m .ready }
+  appended-told Send s =
+      record { stands = m .stands; grant = m .grant; link = m .link; order = by-way _ (m .order Receive) (more (h .send .out) (c .send .bytes) (h .send .accepted) s (m .order Send)); ready = m .ready }
+
+  pub removed-told : (w : Way) (k : ℕ) → (w ≡ Send → k ≤ c .ready) → SoundChan c → Tells (removed c w k) (outIn h w (take k (held c w)))
+  unfolding removed withQueue without marked queue outIn withSide side isOpen
+  removed-told Receive k f o =
+      record { stands = m .stands; grant = m .grant; link = m .link; order = by-way _ (less (h .receive .out) (c .receive .bytes) (h .receive .accepted) k (m .order Receive)) (m .order Send); ready = m .ready }
+  removed-told Send k f o =
+      let e = length-append (h .send .out) (take k (c .send .bytes)) in
+      let w = length-take k (c .send .bytes) in
       record {
         stands = m .stands;
         grant = m .grant;
         link = m .link;
-        receive = sym (append-assoc (h .handed) (c .recv) s) ∙ ap (λ (t : List ℕ). t ++ s) (m .receive);
-        send = m .send;
-        ready = m .ready;
+        order = by-way _ (m .order Receive) (less (h .send .out) (c .send .bytes) (h .send .accepted) k (m .order Send));
+        ready = omega (arith, m .ready, o .ready-held, f refl);
       }
 
-  pub handed-matches : (k : ℕ) → Matches (handed c k) (handedIn h (take k (c .recv)))
-  unfolding handed handedIn isOpen
-  handed-matches k =
-      record {
-        stands = m .stands;
-        grant = m .grant;
-        link = m .link;
-        receive = append-assoc (h .handed) (take k (c .recv)) (drop k (c .recv)) ∙ ap (λ (t : List ℕ). h .handed ++ t) (take-append-drop k (c .recv)) ∙ m .receive;
-        send = m .send;
-        ready = m .ready;
-      }
-
-  pub stored-matches : (s : List ℕ) → Matches (stored c s) (storedIn h s)
-  unfolding stored storedIn isOpen
-  stored-matches s =
-      record {
-        stands = m .stands;
-        grant = m .grant;
-        link = m .link;
-        receive = m .receive;
-        send = sym (append-assoc (h .taken) (c .send) s) ∙ ap (λ (t : List ℕ). t ++ s) (m .send);
-        ready = m .ready;
-      }
-
-  pub readied-matches : Matches (readied c) (readiedIn h)
-  unfolding readied readiedIn isOpen
-  readied-matches =
+  pub readied-told : Tells (readied c) (readiedIn h)
+  unfolding readied marked readiedIn isOpen queue side
+  readied-told =
       record {
         stands = m .stands;
         grant = m .grant;
         link = ap establish (m .link);
-        receive = m .receive;
-        send = m .send;
-        ready = sym (ap (λ (t : List ℕ). length t) (m .send)) ∙ length-append (h .taken) (c .send);
+        order = by-way _ (m .order Receive) (m .order Send);
+        ready = sym (ap (λ (t : List ℕ). length t) (m .order Send)) ∙ length-append (h .send .out) (c .send .bytes);
       }
 
-  pub taken-matches : (k : ℕ) → k ≤ c .ready → SoundChan c → Matches (taken c k) (takenIn h (take k (c .send)))
-  unfolding taken takenIn isOpen
-  taken-matches k f o =
-      let e = length-append (h .taken) (take k (c .send)) in
-      let w = length-take k (c .send) in
-      record {
-        stands = m .stands;
-        grant = m .grant;
-        link = m .link;
-        receive = m .receive;
-        send = append-assoc (h .taken) (take k (c .send)) (drop k (c .send)) ∙ ap (λ (t : List ℕ). h .taken ++ t) (take-append-drop k (c .send)) ∙ m .send;
-        ready = omega (arith, m .ready, o .ready-held);
-      }
-
-  pub dropped-matches : Matches (dropped c) (droppedIn h)
-  unfolding dropped droppedIn isOpen
-  dropped-matches =
-      record { stands = m .stands; grant = m .grant; link = refl; receive = m .receive; send = m .send; ready = m .ready }
+  pub dropped-told : Tells (dropped c) (droppedIn h)
+  unfolding dropped marked droppedIn isOpen queue side
+  dropped-told =
+      record { stands = m .stands; grant = m .grant; link = refl; order = by-way _ (m .order Receive) (m .order Send); ready = m .ready }
 
 -- the channels 1 to 7, as a call tests them
 numbered-from : (n : ChannelNumber) → numbered n ≡ true → (1 ≤ n .0) × (n .0 ≤ 7)
@@ -150,22 +112,20 @@ read-aimed p s r e =
 -- one channel changes, and what is seen is told of that channel
 pub changed :
     (n m : ChannelNumber) (a : State) (c : Chan) (h k : History) → 1 ≤ n .0 → Sound a → numbered m ≡ true → Follows n a h →
-    (n ≡ m → Matches c k) → Follows n (withChan a m c) (sameNumber n m ⇒ k else h)
+    (n ≡ m → Tells c k) → Follows n (withChan a m c) (sameNumber n m ⇒ k else h)
 changed n m a c h k from o e f g =
     let at = numbered-from m e in
     branch (Follows n (withChan a m c)) (sameNumber n m) k h
     (λ t.
     let same : n ≡ m = λ i. record { 0 = eqb-true (n .0) (m .0) t i } in
-    follows-of n (withChan a m c) k
-    (subst (λ (x : Chan). Matches x k)
-    (sym (ap (λ (x : ChannelNumber). chan (withChan a m c) x) same ∙ chan-changed a m c (omega (arith, at, o .seven)))) (g same)))
+    subst (λ (x : Chan). Tells x k)
+    (sym (ap (λ (x : ChannelNumber). chan (withChan a m c) x) same ∙ chan-changed a m c (omega (arith, at, o .seven)))) (g same))
     (λ t.
     let other = eqb-false (n .0) (m .0) t in
-    follows-of n (withChan a m c) h
-    (subst (λ (x : Chan). Matches x h) (sym (chan-other a m n c (λ q. other (omega (arith, at, from, q))))) (matches-of n a h f)))
+    subst (λ (x : Chan). Tells x h) (sym (chan-other a m n c (λ q. other (omega (arith, at, from, q))))) f)
 
-pub either-matches :
-    (b : Bool) (c d : Chan) (h k : History) → Matches c h → Matches d k → Matches (b ⇒ c else d) (b ⇒ h else k)
+pub either-told :
+    (b : Bool) (c d : Chan) (h k : History) → Tells c h → Tells d k → Tells (b ⇒ c else d) (b ⇒ h else k)
 unfolding _⇒_else_
-either-matches true c d h k x y = x
-either-matches false c d h k x y = y
+either-told true c d h k x y = x
+either-told false c d h k x y = y

@@ -16,7 +16,8 @@ use Rattle.rules.specs.Checks.{_⇒_else_, isEmpty, some-of, member}
 use Rattle.rules.specs.Words.{channelOf}
 use Rattle.rules.specs.Frames.{Object, contents}
 use Rattle.rules.specs.Table.{table, known, bearerFits}
-use Rattle.rules.specs.State.{State, Chan, chan, isDropped}
+use Rattle.rules.specs.declared.Way.the-variants.{Receive, Send}
+use Rattle.rules.specs.State.{State, Chan, chan, isDropped, held}
 use Rattle.rules.specs.Pool.{unpromised}
 use Rattle.rules.specs.Reading.{Reading, reading, Command, Body, Bearer, moreTime, eventList, openChannel, closeChannel, receiveData, sendData, channelStatus, other, bodyIn, commandIn, kindOf, detailsOf}
 use Rattle.rules.specs.Own.{Reply, Status, bit1, plain, served, opened, statusesFrom, own, protocolOf}
@@ -117,7 +118,7 @@ own-proper a c closeChannel i h m u =
     closing-cases (Listed (detailsWith c closeChannel)) a (λ _ e. e) (channelOf (c .destination)) i (λ _. both _ _ (plain-proper 0x41 i refl) refl)
 own-proper a c (receiveData r) i h m u =
     receiving-cases (Listed (detailsWith c (receiveData r))) a (λ _ e. e) (channelOf (c .destination)) r i
-    (λ k e _. both _ _ (or-plain-proper 0x42 0x02 (ltb k r) i refl refl) (few-handed k (chan a (channelOf (c .destination)) .recv) (omega arith)))
+    (λ k e _. both _ _ (or-plain-proper 0x42 0x02 (ltb k r) i refl refl) (few-handed k (held (chan a (channelOf (c .destination))) Receive) (omega arith)))
 own-proper a c (sendData s) i h m u =
     sending-cases (Listed (detailsWith c (sendData s))) a (λ _ e. e) (c .qualifier) (channelOf (c .destination)) s i
     (λ _ _ _ _ _. both _ _ (plain-proper 0x43 i refl) refl)

@@ -17,7 +17,8 @@ use Rattle.rules.specs.Words.{channelOf}
 use Rattle.rules.specs.Frames.{Object, contents, lengthBytes, objectBytes, written}
 use Rattle.rules.specs.Table.{table, rowAmong, rowOf, complete, present, valueOf, bearerFits, lengthFits}
 use Rattle.rules.specs.Profile.{allowsBearer02}
-use Rattle.rules.specs.State.{State, Chan, chan}
+use Rattle.rules.specs.declared.Way.the-variants.{Receive, Send}
+use Rattle.rules.specs.State.{State, Chan, chan, held}
 use Rattle.rules.specs.Reading.{Reading, wrong, asked, reading, Command, Body, Bearer, moreTime, eventList, openChannel, closeChannel, receiveData, sendData, channelStatus, other, bodyIn, bearerIn, commandIn}
 use Rattle.rules.specs.Own.{Reply, Result, Further, Status, error, problem, done, nothing, opened, received, sent, statuses, capped, served, statusesFrom, own, protocolOf}
 use Rattle.rules.specs.Written.{flagged, unflagged, detailsBytes, bearerBytes, pairBytes, statusBytes, statusObject, statusObjects, furtherObjects, resultBytes, resultObjects, responseObjects, responseBytes, eventBytes}
@@ -183,7 +184,7 @@ own-short a c (openChannel b size t) i h m =
 own-short a c closeChannel i h m = closing-cases After a (λ _ _. tt) (channelOf (c .destination)) i (λ _. nothing-short)
 own-short a c (receiveData r) i h m =
     receiving-cases After a (λ _ _. tt) (channelOf (c .destination)) r i
-    (λ k e _. received-short _ _ (let x = length-take k (chan a (channelOf (c .destination)) .recv) in omega arith))
+    (λ k e _. received-short _ _ (let x = length-take k (held (chan a (channelOf (c .destination))) Receive) in omega arith))
 own-short a c (sendData s) i h m =
     sending-cases After a (λ _ _. tt) (c .qualifier) (channelOf (c .destination)) s i (λ x _ _ _ _. sent-short _)
 own-short a c channelStatus i h m =
@@ -232,5 +233,5 @@ written-within a (commanding buffer s) h = command-cases (Fits 255) a (λ _. tt)
 written-within a (arriving buffer n s) h = arrival-cases (Fits 16) a (λ _. tt) buffer n s (λ _ _ _. arrival-short a n s)
 written-within a (takingOut buffer n) h =
     taking-cases (Fits buffer) a (λ _. tt) buffer n
-    (λ _. let x = length-take (min buffer (chan a n .ready)) (chan a n .send) in omega arith)
+    (λ _. let x = length-take (min buffer (chan a n .ready)) (held (chan a n) Send) in omega arith)
 written-within a (droppingLink buffer n) h = dropping-cases (Fits 16) a (λ _. tt) buffer n (λ _ _. drop-short a n)

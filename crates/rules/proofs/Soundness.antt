@@ -2,7 +2,7 @@
 -- Assumes nothing.
 use Prim.Native.Nat.{ℕ, zero, suc, _+_, _-_, _*_, _≤_, _<_, min}
 use mathlib.Core.Path.{_≡_, refl, sym, ap, subst, _∙_}
-use mathlib.Core.Bool.{Bool, true, false}
+use mathlib.Core.Bool.{Bool, true, false, false≢true}
 use mathlib.Core.List.{List, [], _∷_, _++_}
 use native.Mathlib.Omega.{arith}
 use native.Mathlib.Nat.{le-of-suc-le-suc, not-suc-le-zero}
@@ -11,10 +11,13 @@ use lib.Dec.{leb}
 use borrow.Author.Tests.{leb-true}
 use Rattle.rules.specs.declared.ChannelNumber.{ChannelNumber}
 use Rattle.rules.specs.declared.Link.{Link}
+use Rattle.rules.specs.declared.Link.the-variants.{Dropped}
 use Rattle.rules.specs.declared.Refusal.{Refusal}
 use Rattle.rules.specs.Checks.{_⇒_else_}
 use Rattle.rules.specs.Profile.{kept, channels}
-use Rattle.rules.specs.State.{State, Chan, closed, isOpen, start, chan, withChan, room, fresh, arrived, handed, stored, readied, taken, dropped}
+use Rattle.rules.specs.declared.Way.{Way}
+use Rattle.rules.specs.declared.Way.the-variants.{Receive, Send}
+use Rattle.rules.specs.State.{State, Chan, closed, isOpen, start, chan, withChan, room, fresh, readied, dropped, establish, queue, withQueue, held, joined, without, marked, appended, removed}
 use Rattle.rules.specs.Pool.{cells, promisedTo, promised, unpromised, grantFor}
 use Rattle.rules.specs.Words.{channelOf}
 use Rattle.rules.specs.Reading.{Reading, wrong, asked, reading, Command, Body, moreTime, eventList, openChannel, closeChannel, receiveData, sendData, channelStatus, other}
@@ -22,63 +25,68 @@ use Rattle.rules.specs.Own.{Reply, bit1, openBefore, listed, own, protoc
 use Rattle.rules.specs.Command.{Answer, refused, answered, meantBy}
 use Rattle.rules.specs.Run.{Call, starting, commanding, arriving, takingOut, droppingLink, step, after}
 use Rattle.rules.specs.Sound.{Each, SoundChan, Sound}
-use Rattle.rules.proofs.Laws.{branch, each-get, each-set, each-replicate}
+use Rattle.rules.proofs.Laws.{branch, by-way, each-get, each-set, each-replicate}
 use Rattle.rules.proofs.Cases.{Opens, Linked, arrival-cases, taking-cases, dropping-cases, command-cases, listing-cases, opening-cases, closing-cases, receiving-cases, sending-cases}
 use Rattle.rules.proofs.Grants.{Granted, grant-law, promised-set}
 
 -- the changes of one channel
 
 pub closed-sound : SoundChan closed
-unfolding closed
-closed-sound = record { capped = omega arith; recv-fits = omega arith; send-fits = omega arith; ready-held = omega arith }
+unfolding closed queue
+closed-sound = record { capped = omega arith; fits = by-way _ (omega arith) (omega arith); ready-held = omega arith }
 
 pub fresh-sound : (g : ℕ) (l : Link) → g ≤ 1500 → SoundChan (fresh g l)
-unfolding fresh
-fresh-sound g l h = record { capped = h; recv-fits = omega arith; send-fits = omega arith; ready-held = omega arith }
+unfolding fresh queue
+fresh-sound g l h = record { capped = h; fits = by-way _ (omega arith) (omega arith); ready-held = omega arith }
+
+-- the two ways are two
+pub not-send : Receive ≡ Send → ⊥
+not-send e = false≢true (ap is-send e)
+  where
+    is-send : Way → Bool
+    is-send Receive = false
+    is-send Send = true
 
 module _ (c : Chan) (h : SoundChan c) where
-  pub arrived-sound : (s : List ℕ) → length s ≤ room (c .grant) (c .recv) → SoundChan (arrived c s)
-  unfolding arrived room
-  arrived-sound s f =
-      record { capped = h .capped; recv-fits = simp length-append (omega arith); send-fits = h .send-fits; ready-held = h .ready-held }
-
-  pub handed-sound : (k : ℕ) → SoundChan (handed c k)
-  unfolding handed
-  handed-sound k =
-      record { capped = h .capped; recv-fits = simp length-drop (omega arith); send-fits = h .send-fits; ready-held = h .ready-held }
-
-  pub stored-sound : (s : List ℕ) → length s ≤ room (c .grant) (c .send) → SoundChan (stored c s)
-  unfolding stored room
-  stored-sound s f =
+  pub appended-sound : (w : Way) (s : List ℕ) → length s ≤ room c w → SoundChan (appended c w s)
+  unfolding appended withQueue joined queue room
+  appended-sound Receive s f =
+      record { capped = h .capped; fits = by-way _ (simp length-append (omega (arith, f, h .fits Receive))) (h .fits Send); ready-held = h .ready-held }
+  appended-sound Send s f =
       record {
         capped = h .capped;
-        recv-fits = h .recv-fits;
-        send-fits = simp length-append (omega arith);
-        ready-held = simp length-append (omega arith);
+        fits = by-way _ (h .fits Receive) (simp length-append (omega (arith, f, h .fits Send)));
+        ready-held = simp length-append (omega (arith, h .ready-held));
       }
+
+  -- of the bytes to send those removed were ready
+  pub removed-sound : (w : Way) (k : ℕ) → (w ≡ Send → k ≤ c .ready) → SoundChan (removed c w k)
+  unfolding removed withQueue without marked queue
+  removed-sound Receive k f =
+      record { capped = h .capped; fits = by-way _ (simp length-drop (omega (arith, h .fits Receive))) (h .fits Send); ready-held = h .ready-held }
+  removed-sound Send k f =
+      record {
+        capped = h .capped;
+        fits = by-way _ (h .fits Receive) (simp length-drop (omega (arith, h .fits Send)));
+        ready-held = simp length-drop (omega (arith, h .ready-held, f refl));
+      }
+
+  pub marked-sound : (l : Link) (k : ℕ) → k ≤ length (held c Send) → SoundChan (marked c l k)
+  unfolding marked queue
+  marked-sound l k f = record { capped = h .capped; fits = by-way _ (h .fits Receive) (h .fits Send); ready-held = f }
 
   pub readied-sound : SoundChan (readied c)
   unfolding readied
-  readied-sound = record { capped = h .capped; recv-fits = h .recv-fits; send-fits = h .send-fits; ready-held = omega arith }
-
-  pub taken-sound : (k : ℕ) → k ≤ c .ready → SoundChan (taken c k)
-  unfolding taken
-  taken-sound k f =
-      record {
-        capped = h .capped;
-        recv-fits = h .recv-fits;
-        send-fits = simp length-drop (omega arith);
-        ready-held = simp length-drop (omega arith);
-      }
+  readied-sound = marked-sound (establish (c .link)) (length (held c Send)) (omega arith)
 
   pub dropped-sound : SoundChan (dropped c)
   unfolding dropped
-  dropped-sound = record { capped = h .capped; recv-fits = h .recv-fits; send-fits = h .send-fits; ready-held = h .ready-held }
+  dropped-sound = marked-sound Dropped (c .ready) (h .ready-held)
 
 -- a channel that stands open has a place
 pub open-place : (cs : List Chan) (k : ℕ) → isOpen (getD cs k closed) ≡ true → k < length cs
 unfolding isOpen closed
-open-place [] k e = absurd (mathlib.Core.Bool.false≢true e)
+open-place [] k e = absurd (false≢true e)
 open-place (c ∷ cs) zero e = omega arith
 open-place (c ∷ cs) (suc k) e = let ih = open-place cs k e in omega arith
 
@@ -154,7 +162,7 @@ closed-cells a n = omega arith
 
 -- every command leaves a sound state
 own-sound : (a : State) (c : Command) (b : Body) (i : Bool) → Sound a → Sound (own a c b i .state)
-unfolding own listed promised chan handed readied stored
+unfolding own listed promised chan removed withQueue without marked readied appended
 own-sound a c moreTime i h = h
 own-sound a c (eventList es) i h =
     listing-cases After a es i h (λ _. record { thirteen = h .thirteen; seven = h .seven; each = h .each; within = h .within })
@@ -169,16 +177,17 @@ own-sound a c closeChannel i h =
     (λ e. with-sound a (channelOf (c .destination)) closed h (open-place (a .chans) _ e) closed-sound (closed-cells a (channelOf (c .destination))))
 own-sound a c (receiveData r) i h =
     let n = channelOf (c .destination) in
-    receiving-cases After a (λ _ _. h) n r i (λ k _ e. same-sound a n (handed (chan a n) k) h e (handed-sound (chan a n) (chan-sound a n h) k) refl)
+    receiving-cases After a (λ _ _. h) n r i (λ k _ e. same-sound a n (removed (chan a n) Receive k) h e (removed-sound (chan a n) (chan-sound a n h) Receive k (λ q. absurd (not-send q))) refl)
 own-sound a c (sendData s) i h =
     let n = channelOf (c .destination) in
     sending-cases After a (λ _ _. h) (c .qualifier) n s i
-    (λ x e o _ f.
-    let held = stored-sound (chan a n) (chan-sound a n h) s f in
-    subst (λ (y : Chan). Sound (withChan a n y)) (sym e)
-    (branch (λ (y : Chan). Sound (withChan a n y)) (bit1 (c .qualifier)) _ _
-    (λ _. same-sound a n (readied (stored (chan a n) s)) h o (readied-sound (stored (chan a n) s) held) refl)
-    (λ _. same-sound a n (stored (chan a n) s) h o held refl)))
+    (λ y e o _ f.
+    let x = appended (chan a n) Send s in
+    let fit = appended-sound (chan a n) (chan-sound a n h) Send s f in
+    subst (λ (z : Chan). Sound (withChan a n z)) (sym e)
+    (branch (λ (z : Chan). Sound (withChan a n z)) (bit1 (c .qualifier)) _ _
+    (λ _. same-sound a n (readied x) h o (readied-sound x fit) refl)
+    (λ _. same-sound a n x h o fit refl)))
 own-sound a c channelStatus i h = h
 own-sound a c (other t) i h = h
 
@@ -192,18 +201,18 @@ Left r = Sound (r .state)
 
 -- every call leaves a sound state
 pub step-sound : (a : State) (c : Call) → Sound a → Sound (step a c .state)
-unfolding step arrived taken dropped
+unfolding step appended removed withQueue marked dropped
 step-sound a (starting p) h = start-sound p
 step-sound a (commanding buffer s) h =
     command-cases Left a (λ _. h) buffer s (λ _ _. meant-sound a (reading (a .profile) s) h)
 step-sound a (arriving buffer n s) h =
     arrival-cases Left a (λ _. h) buffer n s
-    (λ _ l f. same-sound a n (arrived (chan a n) s) h (l .stands) (arrived-sound (chan a n) (chan-sound a n h) s f) refl)
+    (λ _ l f. same-sound a n (appended (chan a n) Receive s) h (l .stands) (appended-sound (chan a n) (chan-sound a n h) Receive s f) refl)
 step-sound a (takingOut buffer n) h =
     taking-cases Left a (λ _. h) buffer n
     (λ l.
-    same-sound a n (taken (chan a n) (min buffer (chan a n .ready))) h (l .stands)
-    (taken-sound (chan a n) (chan-sound a n h) (min buffer (chan a n .ready)) (omega arith)) refl)
+    same-sound a n (removed (chan a n) Send (min buffer (chan a n .ready))) h (l .stands)
+    (removed-sound (chan a n) (chan-sound a n h) Send (min buffer (chan a n .ready)) (λ _. omega arith)) refl)
 step-sound a (droppingLink buffer n) h =
     dropping-cases Left a (λ _. h) buffer n
     (λ _ l. same-sound a n (dropped (chan a n)) h (l .stands) (dropped-sound (chan a n) (chan-sound a n h)) refl)

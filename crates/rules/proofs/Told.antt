@@ -16,7 +16,8 @@ use Rattle.rules.specs.Checks.{_⇒_else_, isEmpty}
 use Rattle.rules.specs.Words.{identityOf, channelOf}
 use Rattle.rules.specs.Frames.{Object, ObjectRead, faulty, objectAt, onward, walkUpTo, walk}
 use Rattle.rules.specs.Profile.{bit, kept}
-use Rattle.rules.specs.State.{State, Chan, closed, isOpen, chan, withChan, room, arrived, stored, readied}
+use Rattle.rules.specs.declared.Way.the-variants.{Receive, Send}
+use Rattle.rules.specs.State.{State, Chan, closed, isOpen, chan, withChan, queue, withQueue, held, joined, appended}
 use Rattle.rules.specs.Reading.{readObjects, wrong, zeros}
 use Rattle.rules.specs.Own.{Reply, Result, done, problem, sent, capped, sending}
 use Rattle.rules.specs.Command.{Answer, wrote, answered, refusal}
@@ -71,20 +72,11 @@ open-changed a n c e = chan-changed a n c (open-place (a .chans) (n .0 - 1) e)
 -- an arrival that is not refused is stored whole, behind what was held
 pub arrival-whole :
     (a : State) (buffer : ℕ) (n : ChannelNumber) (s t : List ℕ) → arrival a buffer n s .outcome ≡ wrote t →
-    chan (arrival a buffer n s .state) n .recv ≡ chan a n .recv ++ s
-unfolding arrived
+    held (chan (arrival a buffer n s .state) n) Receive ≡ held (chan a n) Receive ++ s
+unfolding appended withQueue joined queue
 arrival-whole a buffer n s t =
-    arrival-cases (λ (r : Answer). r .outcome ≡ wrote t → chan (r .state) n .recv ≡ chan a n .recv ++ s) a (λ r e. cc) buffer n s
-    (λ _ l _ _. ap (λ (c : Chan). c .recv) (open-changed a n (arrived (chan a n) s) (l .stands)))
-
--- the room that an answer to SEND DATA tells is the room after the data was stored
-pub room-told :
-    (a : State) (q : ℕ) (n : ChannelNumber) (s : List ℕ) (i : Bool) (x r : ℕ) → sending a q n s i .result ≡ done x (sent r) →
-    r ≡ capped (room (chan (sending a q n s i .state) n .grant) (chan (sending a q n s i .state) n .send))
-room-told a q n s i x r =
-    sending-cases (λ (y : Reply). y .result ≡ done x (sent r) → r ≡ capped (room (chan (y .state) n .grant) (chan (y .state) n .send))) a
-    (λ _ _ e. cc) q n s i
-    (λ c _ o _ _ e. rw (open-changed a n c o) (cc))
+    arrival-cases (λ (r : Answer). r .outcome ≡ wrote t → held (chan (r .state) n) Receive ≡ held (chan a n) Receive ++ s) a (λ r e. cc) buffer n s
+    (λ _ l _ _. ap (λ (c : Chan). held c Receive) (open-changed a n (appended (chan a n) Receive s) (l .stands)))
 
 faulty-walk : (b : ℕ) (r : List ℕ) (e : Ending) → objectAt (b ∷ r) ≡ faulty e → isEmpty (walk (b ∷ r) .objects) ≡ true
 unfolding walk walkUpTo onward isEmpty

@@ -6,13 +6,14 @@ use mathlib.Core.List.{List, _++_}
 use lib.ListN.{length}
 use lib.Dec.{leb}
 use Rattle.rules.specs.declared.ChannelNumber.{ChannelNumber}
-use Rattle.rules.specs.State.{State, chan, isOpen}
+use Rattle.rules.specs.declared.Way.{Way}
+use Rattle.rules.specs.State.{State, Chan, chan, isOpen, held}
 use Rattle.rules.specs.Profile.{channels}
 use Rattle.rules.specs.Own.{Result, error, problem, done}
 use Rattle.rules.specs.Command.{Outcome, wrote, refused}
 use Rattle.rules.specs.Run.{Call, after}
 use Rattle.rules.specs.State as state
-use Rattle.rules.specs.History.{History, history, seenFrom}
+use Rattle.rules.specs.History.{History, side, history, seenFrom}
 
 -- the state after a list of calls from the start, and the history of a channel that was seen on the way
 abbrev pub reached : List ℕ → List Call → State
@@ -22,13 +23,16 @@ abbrev pub told-of : ChannelNumber → List ℕ → List Call → History
 told-of n p cs = history n (seenFrom (state.start p) cs)
 
 -- the history tells the channel: the grant, the link, and each way accepted is handed out followed by held
-pub record Follows (n : ChannelNumber) (a : State) (h : History) : Type 0 where
-  pub stands : h .stands ≡ isOpen (chan a n)
-  pub grant : h .grant ≡ chan a n .grant
-  pub link : h .link ≡ chan a n .link
-  pub receive : h .handed ++ chan a n .recv ≡ h .arrived
-  pub send : h .taken ++ chan a n .send ≡ h .stored
-  pub ready : h .readied ≡ length (h .taken) + chan a n .ready
+pub record Tells (c : Chan) (h : History) : Type 0 where
+  pub stands : h .stands ≡ isOpen c
+  pub grant : h .grant ≡ c .grant
+  pub link : h .link ≡ c .link
+  pub order : (w : Way) → side h w .out ++ held c w ≡ side h w .accepted
+  pub ready : h .readied ≡ length (h .send .out) + c .ready
+
+-- it tells the channel of a number
+abbrev pub Follows : ChannelNumber → State → History → Type 0
+Follows n a h = Tells (chan a n) h
 
 -- a call was not refused
 unfoldable pub accepted : Outcome → Bool

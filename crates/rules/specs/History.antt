@@ -7,6 +7,8 @@ use lib.Dec.{eqb}
 use Rattle.rules.specs.declared.ChannelNumber.{ChannelNumber}
 use Rattle.rules.specs.declared.Link.{Link}
 use Rattle.rules.specs.declared.Link.the-variants.{NotYet, Dropped}
+use Rattle.rules.specs.declared.Way.{Way}
+use Rattle.rules.specs.declared.Way.the-variants.{Receive, Send}
 use Rattle.rules.specs.Checks.{_⇒_else_}
 use Rattle.rules.specs.Words.{channelOf}
 use Rattle.rules.specs.Frames.{walk, contents}
@@ -23,54 +25,60 @@ pub record Exchange : Type 0 where
   pub call : Call
   pub outcome : Outcome
 
--- a channel since its latest opening: whether it is open, the grant and the link told,
--- the bytes accepted and handed out each way, and how many of those to send were readied
+-- one way since the latest opening: the bytes accepted, and those handed out
+pub record Side : Type 0 where
+  pub accepted : List ℕ
+  pub out : List ℕ
+
+-- a channel since its latest opening: whether it is open, the grant and the link told, each way, and how many of the bytes to send were readied
 pub record History : Type 0 where
   pub stands : Bool
   pub grant : ℕ
   pub link : Link
-  pub arrived : List ℕ
-  pub handed : List ℕ
-  pub stored : List ℕ
-  pub taken : List ℕ
+  pub receive : Side
+  pub send : Side
   pub readied : ℕ
+
+-- nothing was accepted
+abbrev pub untouched : Side
+untouched = record { accepted = []; out = [] }
 
 -- nothing is open, and nothing was accepted
 unfoldable pub ended : History
-ended =
-    record { stands = false; grant = 0; link = NotYet; arrived = []; handed = []; stored = []; taken = []; readied = 0 }
+ended = record { stands = false; grant = 0; link = NotYet; receive = untouched; send = untouched; readied = 0 }
 
 -- an opening was told
 unfoldable pub openedWith : ℕ → Link → History
-openedWith g l =
-    record { stands = true; grant = g; link = l; arrived = []; handed = []; stored = []; taken = []; readied = 0 }
+openedWith g l = record { stands = true; grant = g; link = l; receive = untouched; send = untouched; readied = 0 }
 
--- bytes arrived; bytes were handed out to the card
-unfoldable pub arrivedIn : History → List ℕ → History
-arrivedIn h s =
-    record { stands = h .stands; grant = h .grant; link = h .link; arrived = h .arrived ++ s; handed = h .handed; stored = h .stored; taken = h .taken; readied = h .readied }
+-- the side of a way, and the history with another one there
+unfoldable pub side : History → Way → Side
+side h Receive = h .receive
+side h Send = h .send
 
-unfoldable pub handedIn : History → List ℕ → History
-handedIn h s =
-    record { stands = h .stands; grant = h .grant; link = h .link; arrived = h .arrived; handed = h .handed ++ s; stored = h .stored; taken = h .taken; readied = h .readied }
+unfoldable pub withSide : History → Way → Side → History
+withSide h Receive x =
+    record { stands = h .stands; grant = h .grant; link = h .link; receive = x; send = h .send; readied = h .readied }
+withSide h Send x =
+    record { stands = h .stands; grant = h .grant; link = h .link; receive = h .receive; send = x; readied = h .readied }
 
--- the card stored bytes; if at once, all bytes stored are readied and a link not yet established is established
-unfoldable pub storedIn : History → List ℕ → History
-storedIn h s =
-    record { stands = h .stands; grant = h .grant; link = h .link; arrived = h .arrived; handed = h .handed; stored = h .stored ++ s; taken = h .taken; readied = h .readied }
+-- bytes were accepted: from the radio to be received, from the card to be sent
+unfoldable pub acceptedIn : History → Way → List ℕ → History
+acceptedIn h w s = withSide h w (record { accepted = side h w .accepted ++ s; out = side h w .out })
 
+-- bytes were handed out: to the card, or to the radio
+unfoldable pub outIn : History → Way → List ℕ → History
+outIn h w s = withSide h w (record { accepted = side h w .accepted; out = side h w .out ++ s })
+
+-- all bytes accepted to be sent are readied, and a link not yet established is established
 unfoldable pub readiedIn : History → History
 readiedIn h =
-    record { stands = h .stands; grant = h .grant; link = establish (h .link); arrived = h .arrived; handed = h .handed; stored = h .stored; taken = h .taken; readied = length (h .stored) }
+    record { stands = h .stands; grant = h .grant; link = establish (h .link); receive = h .receive; send = h .send; readied = length (h .send .accepted) }
 
--- the radio took bytes; the radio dropped the link
-unfoldable pub takenIn : History → List ℕ → History
-takenIn h s =
-    record { stands = h .stands; grant = h .grant; link = h .link; arrived = h .arrived; handed = h .handed; stored = h .stored; taken = h .taken ++ s; readied = h .readied }
-
+-- the radio dropped the link
 unfoldable pub droppedIn : History → History
 droppedIn h =
-    record { stands = h .stands; grant = h .grant; link = Dropped; arrived = h .arrived; handed = h .handed; stored = h .stored; taken = h .taken; readied = h .readied }
+    record { stands = h .stands; grant = h .grant; link = Dropped; receive = h .receive; send = h .send; readied = h .readied }
 
 -- the command that bytes say, whatever the profile allows
 unfoldable pub commandSeen : List ℕ → Command
@@ -101,9 +109,9 @@ sameNumber n m = eqb (n .0) (m .0)
 -- what an answer to a command tells of the channel n
 unfoldable pub answerTells : ChannelNumber → History → Command → Result → History
 answerTells n h c (done x (opened s b g)) = sameNumber n (s .number) ⇒ openedWith g (s .link) else h
-answerTells n h c (done x (received s left)) = sameNumber n (channelOf (c .destination)) ⇒ handedIn h s else h
+answerTells n h c (done x (received s left)) = sameNumber n (channelOf (c .destination)) ⇒ outIn h Receive s else h
 answerTells n h c (done x (sent room)) =
-    let k = storedIn h (dataOf (c .body)) in
+    let k = acceptedIn h Send (dataOf (c .body)) in
     sameNumber n (channelOf (c .destination)) ⇒ (bit1 (c .qualifier) ⇒ readiedIn k else k) else h
 answerTells n h c (done x nothing) = closes (c .body) ⇒ (sameNumber n (channelOf (c .destination)) ⇒ ended else h) else h
 answerTells n h c (done x (statuses ss)) = h
@@ -119,8 +127,8 @@ heardTells n h c (untold r) = h
 unfoldable pub tells : ChannelNumber → History → Call → Outcome → History
 tells n h (starting p) o = ended
 tells n h (commanding buffer s) (wrote t) = heardTells n h (commandSeen s) (benchRead t)
-tells n h (arriving buffer m s) (wrote t) = sameNumber n m ⇒ arrivedIn h s else h
-tells n h (takingOut buffer m) (wrote t) = sameNumber n m ⇒ takenIn h t else h
+tells n h (arriving buffer m s) (wrote t) = sameNumber n m ⇒ acceptedIn h Receive s else h
+tells n h (takingOut buffer m) (wrote t) = sameNumber n m ⇒ outIn h Send t else h
 tells n h (droppingLink buffer m) (wrote t) = sameNumber n m ⇒ droppedIn h else h
 tells n h (commanding buffer s) (refused r) = h
 tells n h (arriving buffer m s) (refused r) = h
@@ -140,13 +148,12 @@ unfoldable pub seenFrom : State → List Call → List Exchange
 seenFrom a [] = []
 seenFrom a (c ∷ cs) = let r = step a c in record { call = c; outcome = r .outcome } ∷ seenFrom (r .state) cs
 
--- how many bytes a history leaves held each way, and how many of those to send are ready
-unfoldable pub heldToReceive : History → ℕ
-heldToReceive h = length (h .arrived) - length (h .handed)
-
-unfoldable pub heldToSend : History → ℕ
-heldToSend h = length (h .stored) - length (h .taken)
+-- how many bytes a history leaves held for a way
+unfoldable pub heldBy : History → Way → ℕ
+heldBy h w = length (side h w .accepted) - length (side h w .out)
 
 -- the oldest bytes that are ready, as many as fit
 unfoldable pub oldestReady : History → ℕ → List ℕ
-oldestReady h buffer = take (min buffer (h .readied - length (h .taken))) (drop (length (h .taken)) (h .stored))
+oldestReady h buffer =
+    let out = length (h .send .out) in
+    take (min buffer (h .readied - out)) (drop out (h .send .accepted))

@@ -8,10 +8,11 @@ use lib.Dec.{ltb, eqb}
 use Rattle.rules.specs.declared.ChannelNumber.{ChannelNumber}
 use Rattle.rules.specs.declared.Link.{Link}
 use Rattle.rules.specs.declared.Link.the-variants.{NotYet, Established}
+use Rattle.rules.specs.declared.Way.the-variants.{Receive, Send}
 use Rattle.rules.specs.Checks.{_⇒_else_, every, member}
 use Rattle.rules.specs.Words.{channelOf}
 use Rattle.rules.specs.Profile.{allowsEvent, allowsBearer02, channels}
-use Rattle.rules.specs.State.{State, Chan, closed, isDropped, isOpen, chan, withChan, room, fresh, handed, stored, readied}
+use Rattle.rules.specs.State.{State, Chan, closed, isDropped, isOpen, chan, withChan, held, room, fresh, appended, removed, readied}
 use Rattle.rules.specs.Pool.{unpromised, grantFor}
 use Rattle.rules.specs.Reading.{Bearer, Transport, Body, Command, moreTime, eventList, openChannel, closeChannel, receiveData, sendData, channelStatus, other}
 
@@ -106,21 +107,22 @@ closing a n ignored =
 unfoldable pub receiving : State → ChannelNumber → ℕ → Bool → Reply
 receiving a n request ignored =
     let c = chan a n in
-    let k = min request (min (length (c .recv)) 237) in
-    let after = handed c k in
+    let k = min request (min (length (held c Receive)) 237) in
+    let after = removed c Receive k in
     not (isOpen c) ⇒ reply a (problem 0x03) else
     reply (withChan a n after)
-    (done (ltb k request ⇒ 0x02 else plain ignored) (received (take k (c .recv)) (capped (length (after .recv)))))
+    (done (ltb k request ⇒ 0x02 else plain ignored) (received (take k (held c Receive)) (capped (length (held after Receive)))))
 
 -- 43: stores; with qualifier bit 1 set all bytes held are ready and the link is established
 unfoldable pub sending : State → ℕ → ChannelNumber → List ℕ → Bool → Reply
 sending a q n s ignored =
     let c = chan a n in
-    let after = bit1 q ⇒ readied (stored c s) else stored c s in
+    let joins = appended c Send s in
+    let after = bit1 q ⇒ readied joins else joins in
     not (isOpen c) ⇒ reply a (problem 0x03) else
     isDropped (c .link) ⇒ reply a (problem 0x02) else
-    ltb (room (c .grant) (c .send)) (length s) ⇒ reply a (problem 0x04) else
-    reply (withChan a n after) (done (plain ignored) (sent (capped (room (after .grant) (after .send)))))
+    ltb (room c Send) (length s) ⇒ reply a (problem 0x04) else
+    reply (withChan a n after) (done (plain ignored) (sent (capped (room after Send))))
 
 -- a status for each open channel, rising; numbers are counted from n
 unfoldable pub statusesFrom : ℕ → List Chan → List Status

@@ -6,8 +6,9 @@ use lib.ListN.{length, take}
 use lib.Dec.{ltb, leb}
 use Rattle.rules.specs.declared.ChannelNumber.{ChannelNumber}
 use Rattle.rules.specs.declared.Refusal.the-variants.{ShortBuffer, NoChannel, Unopened, Unlinked, Overfull}
+use Rattle.rules.specs.declared.Way.the-variants.{Receive, Send}
 use Rattle.rules.specs.Checks.{_⇒_else_, isEmpty}
-use Rattle.rules.specs.State.{State, isEstablished, isOpen, chan, withChan, room, arrived, taken, dropped}
+use Rattle.rules.specs.State.{State, isEstablished, isOpen, chan, withChan, held, room, appended, removed, dropped}
 use Rattle.rules.specs.Own.{capped}
 use Rattle.rules.specs.Written.{unflagged, statusObject, eventBytes}
 use Rattle.rules.specs.Command.{Answer, answered, refusal}
@@ -19,8 +20,8 @@ numbered n = leb 1 (n .0) && leb (n .0) 7
 -- where 09 is listed it tells of the bytes that came, if any, with all that is held now
 unfoldable pub arrivalEvent : State → ChannelNumber → List ℕ → List ℕ
 arrivalEvent a n s =
-    let c = arrived (chan a n) s in
-    let told = statusObject n (c .link) ∷ unflagged 0x37 (capped (length (c .recv)) ∷ []) ∷ [] in
+    let c = appended (chan a n) Receive s in
+    let told = statusObject n (c .link) ∷ unflagged 0x37 (capped (length (held c Receive)) ∷ []) ∷ [] in
     not (isEmpty s) && a .events .available ⇒ eventBytes 0x09 told else []
 
 -- the bytes are stored whole
@@ -31,8 +32,8 @@ arrival a buffer n s =
     not (numbered n) ⇒ refusal a NoChannel else
     not (isOpen c) ⇒ refusal a Unopened else
     not (isEstablished (c .link)) ⇒ refusal a Unlinked else
-    ltb (room (c .grant) (c .recv)) (length s) ⇒ refusal a Overfull else
-    answered (withChan a n (arrived c s)) (arrivalEvent a n s)
+    ltb (room c Receive) (length s) ⇒ refusal a Overfull else
+    answered (withChan a n (appended c Receive s)) (arrivalEvent a n s)
 
 -- as many ready bytes as fit the buffer are handed out
 unfoldable pub taking : State → ℕ → ChannelNumber → Answer
@@ -42,7 +43,7 @@ taking a buffer n =
     not (numbered n) ⇒ refusal a NoChannel else
     not (isOpen c) ⇒ refusal a Unopened else
     not (isEstablished (c .link)) ⇒ refusal a Unlinked else
-    answered (withChan a n (taken c k)) (take k (c .send))
+    answered (withChan a n (removed c Send k)) (take k (held c Send))
 
 -- where 0A is listed it tells of the dropped link
 unfoldable pub dropEvent : State → ChannelNumber → List ℕ

@@ -3,7 +3,9 @@ use Prim.Native.Nat.{ℕ, _≤_}
 use mathlib.Core.Path.{_≡_}
 use mathlib.Core.List.{List, [], _∷_}
 use lib.ListN.{length}
-use Rattle.rules.specs.State.{State, Chan}
+use Rattle.rules.specs.declared.Way.{Way}
+use Rattle.rules.specs.declared.Way.the-variants.{Send}
+use Rattle.rules.specs.State.{State, Chan, held}
 use Rattle.rules.specs.Pool.{promised}
 use Rattle.rules.specs.Command.{Outcome, wrote, refused}
 use Rattle.rules.specs.Run.{Call, starting, commanding, arriving, takingOut, droppingLink}
@@ -16,9 +18,8 @@ Each P (x ∷ xs) = P x × Each P xs
 -- a channel: held at most the grant each way, the grant within the cap, ready bytes among those held
 pub record SoundChan (c : Chan) : Type 0 where
   pub capped : c .grant ≤ 1500
-  pub recv-fits : length (c .recv) ≤ c .grant
-  pub send-fits : length (c .send) ≤ c .grant
-  pub ready-held : c .ready ≤ length (c .send)
+  pub fits : (w : Way) → length (held c w) ≤ c .grant
+  pub ready-held : c .ready ≤ length (held c Send)
 
 -- a state: thirteen bytes of profile, seven sound channels, at most 256 cells promised
 pub record Sound (a : State) : Type 0 where

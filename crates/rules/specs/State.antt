@@ -8,6 +8,8 @@ use Rattle.rules.specs.declared.ChannelNumber.{ChannelNumber}
 use Rattle.rules.specs.declared.Events.{Events}
 use Rattle.rules.specs.declared.Link.{Link}
 use Rattle.rules.specs.declared.Link.the-variants.{NotYet, Established, Dropped}
+use Rattle.rules.specs.declared.Way.{Way}
+use Rattle.rules.specs.declared.Way.the-variants.{Receive, Send}
 use Rattle.rules.specs.Profile.{kept}
 
 unfoldable pub isEstablished : Link → Bool
@@ -26,12 +28,16 @@ establish NotYet = Established
 establish Established = Established
 establish Dropped = Dropped
 
--- a channel: its grant (0 where it is not open), its link, the bytes held each way, and how many of those to send are ready
+-- what a way holds, oldest first
+pub record Queue : Type 0 where
+  pub bytes : List ℕ
+
+-- a channel: its grant (0 where it is not open), its link, what each way holds, and how many of the bytes to send are ready
 pub record Chan : Type 0 where
   pub grant : ℕ
   pub link : Link
-  pub recv : List ℕ
-  pub send : List ℕ
+  pub receive : Queue
+  pub send : Queue
   pub ready : ℕ
 
 pub record State : Type 0 where
@@ -39,9 +45,13 @@ pub record State : Type 0 where
   pub events : Events
   pub chans : List Chan
 
+-- nothing is held
+abbrev pub nothingHeld : Queue
+nothingHeld = record { bytes = [] }
+
 -- a channel that is not open
 unfoldable pub closed : Chan
-closed = record { grant = 0; link = NotYet; recv = []; send = []; ready = 0 }
+closed = record { grant = 0; link = NotYet; receive = nothingHeld; send = nothingHeld; ready = 0 }
 
 unfoldable pub isOpen : Chan → Bool
 isOpen c = leb 1 (c .grant)
@@ -59,35 +69,51 @@ chan a n = getD (a .chans) (n .0 - 1) closed
 unfoldable pub withChan : State → ChannelNumber → Chan → State
 withChan a n c = record { profile = a .profile; events = a .events; chans = set (a .chans) (n .0 - 1) c }
 
+-- the queue of a way, and the channel with another one there
+unfoldable pub queue : Chan → Way → Queue
+queue c Receive = c .receive
+queue c Send = c .send
+
+unfoldable pub withQueue : Chan → Way → Queue → Chan
+withQueue c Receive q = record { grant = c .grant; link = c .link; receive = q; send = c .send; ready = c .ready }
+withQueue c Send q = record { grant = c .grant; link = c .link; receive = c .receive; send = q; ready = c .ready }
+
+-- the bytes held for a way
+abbrev pub held : Chan → Way → List ℕ
+held c w = queue c w .bytes
+
 -- how many more bytes a way can take: the grant less what is held
-unfoldable pub room : ℕ → List ℕ → ℕ
-room grant held = grant - length held
+unfoldable pub room : Chan → Way → ℕ
+room c w = c .grant - length (held c w)
+
+-- bytes come behind those of a queue; the first k bytes go
+unfoldable pub joined : Queue → List ℕ → Queue
+joined q s = record { bytes = q .bytes ++ s }
+
+unfoldable pub without : Queue → ℕ → Queue
+without q k = record { bytes = drop k (q .bytes) }
+
+-- the channel with another link and another count of ready bytes
+unfoldable pub marked : Chan → Link → ℕ → Chan
+marked c l k = record { grant = c .grant; link = l; receive = c .receive; send = c .send; ready = k }
 
 -- what happens to one channel: it is opened with a grant
 unfoldable pub fresh : ℕ → Link → Chan
-fresh g l = record { grant = g; link = l; recv = []; send = []; ready = 0 }
+fresh g l = record { grant = g; link = l; receive = nothingHeld; send = nothingHeld; ready = 0 }
 
--- bytes arrive
-unfoldable pub arrived : Chan → List ℕ → Chan
-arrived c s = record { grant = c .grant; link = c .link; recv = c .recv ++ s; send = c .send; ready = c .ready }
+-- bytes come to a way
+unfoldable pub appended : Chan → Way → List ℕ → Chan
+appended c w s = withQueue c w (joined (queue c w) s)
 
--- the first k bytes received are handed out
-unfoldable pub handed : Chan → ℕ → Chan
-handed c k = record { grant = c .grant; link = c .link; recv = drop k (c .recv); send = c .send; ready = c .ready }
+-- the first k bytes of a way go; of those to send they were ready
+unfoldable pub removed : Chan → Way → ℕ → Chan
+removed c Receive k = withQueue c Receive (without (c .receive) k)
+removed c Send k = withQueue (marked c (c .link) (c .ready - k)) Send (without (c .send) k)
 
--- bytes to send are stored
-unfoldable pub stored : Chan → List ℕ → Chan
-stored c s = record { grant = c .grant; link = c .link; recv = c .recv; send = c .send ++ s; ready = c .ready }
-
--- all bytes held are ready, and a link not yet established is established
+-- all bytes held to send are ready, and a link not yet established is established
 unfoldable pub readied : Chan → Chan
-readied c =
-    record { grant = c .grant; link = establish (c .link); recv = c .recv; send = c .send; ready = length (c .send) }
-
--- the first k ready bytes are taken
-unfoldable pub taken : Chan → ℕ → Chan
-taken c k = record { grant = c .grant; link = c .link; recv = c .recv; send = drop k (c .send); ready = c .ready - k }
+readied c = marked c (establish (c .link)) (length (held c Send))
 
 -- the link is dropped; what is held stays
 unfoldable pub dropped : Chan → Chan
-dropped c = record { grant = c .grant; link = Dropped; recv = c .recv; send = c .send; ready = c .ready }
+dropped c = marked c Dropped (c .ready)

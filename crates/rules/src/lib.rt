@@ -48,6 +48,12 @@ pub enum Link {
     Dropped,
 }
 
+// The two ways of a channel: bytes from the radio for the card, and bytes from the card for the radio.
+pub enum Way {
+    Receive,
+    Send,
+}
+
 // The event list: whether 09, data available, and 0A, channel status, are listed.
 #[repr(C)]
 pub struct Events {
