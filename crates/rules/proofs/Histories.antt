@@ -11,7 +11,7 @@ use Rattle.rules.specs.Checks.{_⇒_else_, some-of, member}
 use Rattle.rules.specs.Words.{channelOf}
 use Rattle.rules.specs.Frames.{contents}
 use Rattle.rules.specs.declared.Way.the-variants.{Receive, Send}
-use Rattle.rules.specs.State.{State, Chan, start, closed, chan, withChan, fresh, dropped, held, appended, removed}
+use Rattle.rules.specs.State.{State, Chan, due, start, closed, chan, withChan, fresh, dropped, held, appended, removed}
 use Rattle.rules.specs.Pool.{unpromised}
 use Rattle.rules.specs.Reading.{Reading, reading, Command, Body, moreTime, eventList, openChannel, closeChannel, receiveData, sendData, channelStatus, other, kindOf, commandIn, toModem}
 use Rattle.rules.specs.Own.{Reply, bit1, listed, own, protocolOf}
@@ -24,7 +24,7 @@ use Rattle.rules.proofs.Laws.{stop, skip, each-get, each-replicate}
 use Rattle.rules.proofs.Cases.{arrival-cases, taking-cases, dropping-cases, command-cases, listing-cases, opening-cases, closing-cases, receiving-cases, sending-cases}
 use Rattle.rules.proofs.Readings.{detailsRead, counted, reading-cases}
 use Rattle.rules.proofs.Grants.{Granted, grant-law}
-use Rattle.rules.proofs.Soundness.{not-send, chan-sound, opened-place, start-sound, step-sound}
+use Rattle.rules.proofs.Soundness.{chan-sound, opened-place, start-sound, step-sound}
 use Rattle.rules.proofs.Heard.{modem-heard}
 use Rattle.rules.proofs.Matching.{closed-told, fresh-told, appended-told, removed-told, readied-told, dropped-told, Aimed, read-aimed, changed, numbered-of, either-told}
 
@@ -58,7 +58,7 @@ module _ (n : ChannelNumber) (from : 1 ≤ n .0) (a : State) (h : History) (o : 
   Told-by c r = Follows n (r .state) (answerTells n h c (r .result))
 
   own-follows : (c : Command) (b : Body) (i : Bool) → c .body ≡ b → Aimed c b → Told-by c (own a c b i)
-  unfolding own answerTells closes kindOf dataOf toModem member some-of chan listed
+  unfolding own answerTells closes kindOf dataOf toModem member some-of chan listed due
   own-follows c moreTime i e u = subst (Follows n a) (sym (skip _ _ _ (ap closes e))) f
   own-follows c (eventList es) i e u =
       listing-cases (Told-by c) a es i f
@@ -79,9 +79,9 @@ module _ (n : ChannelNumber) (from : 1 ≤ n .0) (a : State) (h : History) (o : 
   own-follows c (receiveData r) i e u =
       let m = channelOf (c .destination) in
       receiving-cases (Told-by c) a (λ _ _. f) m r i
-      (λ k _ _.
+      (λ k eᵏ _.
       changed n m a (removed (chan a m) Receive k) h (outIn h Receive (take k (held (chan a m) Receive))) from o (u refl) f
-      (λ q. removed-told (chan a m) h (named m q) Receive k (λ x. absurd (not-send x)) (chan-sound a m o)))
+      (λ q. removed-told (chan a m) h (named m q) Receive k (omega arith) (chan-sound a m o)))
   own-follows c (sendData s) i e u =
       let m = channelOf (c .destination) in
       let b = bit1 (c .qualifier) in
@@ -110,7 +110,7 @@ module _ (n : ChannelNumber) (from : 1 ≤ n .0) (a : State) (h : History) (o : 
 
   -- what is seen of any call tells the channel after it
   pub step-follows : (c : Call) → Tells-of c (step a c)
-  unfolding step tells
+  unfolding step tells due
   step-follows (starting p) = start-follows n p
   step-follows (commanding buffer s) =
       let m = meantBy a (reading (a .profile) s) in
@@ -128,7 +128,7 @@ module _ (n : ChannelNumber) (from : 1 ≤ n .0) (a : State) (h : History) (o : 
       taking-cases (Tells-of (takingOut buffer m)) a (λ _. f) buffer m
       (λ l.
       changed n m a (removed (chan a m) Send k) h (outIn h Send (take k (held (chan a m) Send))) from o (l .number) f
-      (λ q. removed-told (chan a m) h (named m q) Send k (λ _. omega arith) (chan-sound a m o)))
+      (λ q. removed-told (chan a m) h (named m q) Send k (omega arith) (chan-sound a m o)))
   step-follows (droppingLink buffer m) =
       dropping-cases (Tells-of (droppingLink buffer m)) a (λ _. f) buffer m
       (λ _ l.

@@ -16,7 +16,7 @@ use Rattle.rules.specs.Checks.{_⇒_else_}
 use Rattle.rules.specs.Words.{channelOf}
 use Rattle.rules.specs.declared.Way.{Way}
 use Rattle.rules.specs.declared.Way.the-variants.{Receive, Send}
-use Rattle.rules.specs.State.{State, Chan, closed, isOpen, chan, withChan, establish, fresh, readied, dropped, queue, withQueue, held, joined, without, marked, appended, removed}
+use Rattle.rules.specs.State.{State, Chan, closed, isOpen, chan, withChan, establish, fresh, readied, dropped, queue, withQueue, held, joined, without, due, marked, appended, removed}
 use Rattle.rules.specs.Reading.{Command, Body, other, kindOf, detailsOf, commandIn, toModem, addressed}
 use Rattle.rules.specs.Radio.{numbered}
 use Rattle.rules.specs.Sound.{SoundChan, Sound}
@@ -50,8 +50,8 @@ module _ (c : Chan) (h : History) (m : Tells c h) where
   appended-told Send s =
       record { stands = m .stands; grant = m .grant; link = m .link; order = by-way _ (m .order Receive) (more (h .send .out) (c .send .bytes) (h .send .accepted) s (m .order Send)); ready = m .ready }
 
-  pub removed-told : (w : Way) (k : ℕ) → (w ≡ Send → k ≤ c .ready) → SoundChan c → Tells (removed c w k) (outIn h w (take k (held c w)))
-  unfolding removed withQueue without marked queue outIn withSide side isOpen
+  pub removed-told : (w : Way) (k : ℕ) → k ≤ due c w → SoundChan c → Tells (removed c w k) (outIn h w (take k (held c w)))
+  unfolding due removed withQueue without marked queue outIn withSide side isOpen
   removed-told Receive k f o =
       record { stands = m .stands; grant = m .grant; link = m .link; order = by-way _ (less (h .receive .out) (c .receive .bytes) (h .receive .accepted) k (m .order Receive)) (m .order Send); ready = m .ready }
   removed-told Send k f o =
@@ -62,7 +62,7 @@ module _ (c : Chan) (h : History) (m : Tells c h) where
         grant = m .grant;
         link = m .link;
         order = by-way _ (m .order Receive) (less (h .send .out) (c .send .bytes) (h .send .accepted) k (m .order Send));
-        ready = omega (arith, m .ready, o .ready-held, f refl);
+        ready = omega (arith, m .ready, o .ready-held, f);
       }
 
   pub readied-told : Tells (readied c) (readiedIn h)

@@ -17,7 +17,7 @@ use Rattle.rules.specs.Checks.{_⇒_else_}
 use Rattle.rules.specs.Profile.{kept, channels}
 use Rattle.rules.specs.declared.Way.{Way}
 use Rattle.rules.specs.declared.Way.the-variants.{Receive, Send}
-use Rattle.rules.specs.State.{State, Chan, closed, isOpen, start, chan, withChan, room, fresh, readied, dropped, establish, queue, withQueue, held, joined, without, marked, appended, removed}
+use Rattle.rules.specs.State.{State, Chan, closed, isOpen, start, chan, withChan, room, fresh, readied, dropped, establish, queue, withQueue, held, joined, without, due, marked, appended, removed}
 use Rattle.rules.specs.Pool.{cells, promisedTo, promised, unpromised, grantFor}
 use Rattle.rules.specs.Words.{channelOf}
 use Rattle.rules.specs.Reading.{Reading, wrong, asked, reading, Command, Body, moreTime, eventList, openChannel, closeChannel, receiveData, sendData, channelStatus, other}
@@ -39,14 +39,6 @@ pub fresh-sound : (g : ℕ) (l : Link) → g ≤ 1500 → SoundChan (fresh g l)
 unfolding fresh queue
 fresh-sound g l h = record { capped = h; fits = by-way _ (omega arith) (omega arith); ready-held = omega arith }
 
--- the two ways are two
-pub not-send : Receive ≡ Send → ⊥
-not-send e = false≢true (ap is-send e)
-  where
-    is-send : Way → Bool
-    is-send Receive = false
-    is-send Send = true
-
 module _ (c : Chan) (h : SoundChan c) where
   pub appended-sound : (w : Way) (s : List ℕ) → length s ≤ room c w → SoundChan (appended c w s)
   unfolding appended withQueue joined queue room
@@ -59,16 +51,15 @@ module _ (c : Chan) (h : SoundChan c) where
         ready-held = simp length-append (omega (arith, h .ready-held));
       }
 
-  -- of the bytes to send those removed were ready
-  pub removed-sound : (w : Way) (k : ℕ) → (w ≡ Send → k ≤ c .ready) → SoundChan (removed c w k)
-  unfolding removed withQueue without marked queue
+  pub removed-sound : (w : Way) (k : ℕ) → k ≤ due c w → SoundChan (removed c w k)
+  unfolding due removed withQueue without marked queue
   removed-sound Receive k f =
       record { capped = h .capped; fits = by-way _ (simp length-drop (omega (arith, h .fits Receive))) (h .fits Send); ready-held = h .ready-held }
   removed-sound Send k f =
       record {
         capped = h .capped;
         fits = by-way _ (h .fits Receive) (simp length-drop (omega (arith, h .fits Send)));
-        ready-held = simp length-drop (omega (arith, h .ready-held, f refl));
+        ready-held = simp length-drop (omega (arith, h .ready-held, f));
       }
 
   pub marked-sound : (l : Link) (k : ℕ) → k ≤ length (held c Send) → SoundChan (marked c l k)
@@ -162,7 +153,7 @@ closed-cells a n = omega arith
 
 -- every command leaves a sound state
 own-sound : (a : State) (c : Command) (b : Body) (i : Bool) → Sound a → Sound (own a c b i .state)
-unfolding own listed promised chan removed withQueue without marked readied appended
+unfolding own listed promised chan due removed withQueue without marked readied appended
 own-sound a c moreTime i h = h
 own-sound a c (eventList es) i h =
     listing-cases After a es i h (λ _. record { thirteen = h .thirteen; seven = h .seven; each = h .each; within = h .within })
@@ -177,7 +168,7 @@ own-sound a c closeChannel i h =
     (λ e. with-sound a (channelOf (c .destination)) closed h (open-place (a .chans) _ e) closed-sound (closed-cells a (channelOf (c .destination))))
 own-sound a c (receiveData r) i h =
     let n = channelOf (c .destination) in
-    receiving-cases After a (λ _ _. h) n r i (λ k _ e. same-sound a n (removed (chan a n) Receive k) h e (removed-sound (chan a n) (chan-sound a n h) Receive k (λ q. absurd (not-send q))) refl)
+    receiving-cases After a (λ _ _. h) n r i (λ k m e. same-sound a n (removed (chan a n) Receive k) h e (removed-sound (chan a n) (chan-sound a n h) Receive k (omega arith)) refl)
 own-sound a c (sendData s) i h =
     let n = channelOf (c .destination) in
     sending-cases After a (λ _ _. h) (c .qualifier) n s i
@@ -201,7 +192,7 @@ Left r = Sound (r .state)
 
 -- every call leaves a sound state
 pub step-sound : (a : State) (c : Call) → Sound a → Sound (step a c .state)
-unfolding step appended removed withQueue marked dropped
+unfolding step due appended removed withQueue marked dropped
 step-sound a (starting p) h = start-sound p
 step-sound a (commanding buffer s) h =
     command-cases Left a (λ _. h) buffer s (λ _ _. meant-sound a (reading (a .profile) s) h)
@@ -212,7 +203,7 @@ step-sound a (takingOut buffer n) h =
     taking-cases Left a (λ _. h) buffer n
     (λ l.
     same-sound a n (removed (chan a n) Send (min buffer (chan a n .ready))) h (l .stands)
-    (removed-sound (chan a n) (chan-sound a n h) Send (min buffer (chan a n .ready)) (λ _. omega arith)) refl)
+    (removed-sound (chan a n) (chan-sound a n h) Send (min buffer (chan a n .ready)) (omega arith)) refl)
 step-sound a (droppingLink buffer n) h =
     dropping-cases Left a (λ _. h) buffer n
     (λ _ l. same-sound a n (dropped (chan a n)) h (l .stands) (dropped-sound (chan a n) (chan-sound a n h)) refl)

@@ -12,8 +12,11 @@ unfoldable pub bit : List ℕ → ℕ → ℕ → Bool
 bit p byte n = eqb (getD p (byte - 1) 0 / 2 ^ (n - 1) % 2) 1
 
 -- what a session keeps: the 13 bytes in which every place lies
+abbrev pub profileSize : ℕ
+profileSize = 13
+
 unfoldable pub kept : List ℕ → List ℕ
-kept p = take 13 (p ++ replicate 13 0)
+kept p = take profileSize (p ++ replicate profileSize 0)
 
 -- the types: byte 3 bit 4 for 02, byte 5 bit 1 for 05, byte 12 bits 1 to 5 for 40 to 44
 unfoldable pub allowsType : List ℕ → Details → Bool

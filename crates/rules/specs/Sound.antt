@@ -6,7 +6,8 @@ use lib.ListN.{length}
 use Rattle.rules.specs.declared.Way.{Way}
 use Rattle.rules.specs.declared.Way.the-variants.{Send}
 use Rattle.rules.specs.State.{State, Chan, held}
-use Rattle.rules.specs.Pool.{promised}
+use Rattle.rules.specs.Profile.{profileSize}
+use Rattle.rules.specs.Pool.{cellCount, grantCap, promised}
 use Rattle.rules.specs.Command.{Outcome, wrote, refused}
 use Rattle.rules.specs.Run.{Call, starting, commanding, arriving, takingOut, droppingLink}
 
@@ -17,16 +18,16 @@ Each P (x ∷ xs) = P x × Each P xs
 
 -- a channel: held at most the grant each way, the grant within the cap, ready bytes among those held
 pub record SoundChan (c : Chan) : Type 0 where
-  pub capped : c .grant ≤ 1500
+  pub capped : c .grant ≤ grantCap
   pub fits : (w : Way) → length (held c w) ≤ c .grant
   pub ready-held : c .ready ≤ length (held c Send)
 
 -- a state: thirteen bytes of profile, seven sound channels, at most 256 cells promised
 pub record Sound (a : State) : Type 0 where
-  pub thirteen : length (a .profile) ≡ 13
+  pub thirteen : length (a .profile) ≡ profileSize
   pub seven : length (a .chans) ≡ 7
   pub each : Each SoundChan (a .chans)
-  pub within : promised a ≤ 256
+  pub within : promised a ≤ cellCount
 
 -- the most bytes that a call writes: 255 for a response, 16 for an event, as many as are asked for by a take
 abbrev pub most : Call → ℕ

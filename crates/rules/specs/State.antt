@@ -86,6 +86,11 @@ held c w = queue c w .bytes
 unfoldable pub room : Chan → Way → ℕ
 room c w = c .grant - length (held c w)
 
+-- how many bytes of a way are due to be handed out: all that are held to be received, and of those to send the ready ones
+unfoldable pub due : Chan → Way → ℕ
+due c Receive = length (held c Receive)
+due c Send = c .ready
+
 -- bytes come behind those of a queue; the first k bytes go
 unfoldable pub joined : Queue → List ℕ → Queue
 joined q s = record { bytes = q .bytes ++ s }

@@ -1,48 +1,43 @@
 -- Two outcomes that meet one contract are the same, part by part.
 -- Assumes nothing.
-use Prim.Native.Nat.{ℕ}
-use mathlib.Core.Path.{_≡_, sym, ap, _∙_}
+use mathlib.Core.Path.{_≡_, sym, _∙_}
 use mathlib.Core.List.{List}
+use Prim.Native.Nat.{ℕ}
 use Rattle.rules.specs.State.{State}
 use Rattle.rules.specs.Command.{Answer}
-use Rattle.session.specs.Book.{Ledger, tableOf}
 use Rattle.session.specs.declared.Session.{Session}
 use Rattle.session.specs.declared.Ended.{Ended}
 use Rattle.session.specs.declared.Answered.{Answered}
-use Rattle.session.specs.Picture.{Shows, ShowsAt}
-use Rattle.session.specs.Calls.{AnswersAt}
+use Rattle.session.specs.Picture.{Shows}
+use Rattle.session.specs.Calls.{Answers}
 
 -- two pictures of one state
-pub ledger-alike : {a : State} {l m : Ledger} {p q : List ℕ} → Shows a l p → Shows a m q → l ≡ m
-ledger-alike s t = s .ledger ∙ sym (t .ledger)
+pub ledger-alike : {a : State} {t u p q : List ℕ} → Shows a t p → Shows a u q → t ≡ u
+ledger-alike s r = s .ledger ∙ sym (r .ledger)
 
-pub pool-alike : {a : State} {l m : Ledger} {p q : List ℕ} → Shows a l p → Shows a m q → p ≡ q
-pool-alike s t = s .pool ∙ sym (t .pool)
+pub pool-alike : {a : State} {t u p q : List ℕ} → Shows a t p → Shows a u q → p ≡ q
+pool-alike s r = s .pool ∙ sym (r .pool)
 
--- kept numbers that say one ledger
-pub numbers-alike : {a : State} {t u p q : List ℕ} → ShowsAt a t p → ShowsAt a u q → t ≡ u
-numbers-alike s r = s .kept .is ∙ ap tableOf (ledger-alike (s .shows) (r .shows)) ∙ sym (r .kept .is)
-
-pub session-alike : {a : State} (x y : Session) → ShowsAt a (x .ledger) (x .pool) → ShowsAt a (y .ledger) (y .pool) → x ≡ y
-session-alike x y s t = λ i. record { ledger = numbers-alike s t i; pool = pool-alike (s .shows) (t .shows) i }
+pub session-alike : {a : State} (x y : Session) → Shows a (x .ledger) (x .pool) → Shows a (y .ledger) (y .pool) → x ≡ y
+session-alike x y s r = λ i. record { ledger = ledger-alike s r i; pool = pool-alike s r i }
 
 -- two that hand back one answer
 module _ {r : Answer} {t u : List ℕ} {p q : List ℕ} {e f : Ended} {before after after′ : List ℕ} where
-  pub ended-alike : AnswersAt r t p e before after → AnswersAt r u q f before after′ → e ≡ f
-  ended-alike s t = s .answers .ended ∙ sym (t .answers .ended)
+  pub ended-alike : Answers r t p e before after → Answers r u q f before after′ → e ≡ f
+  ended-alike s o = s .ended ∙ sym (o .ended)
 
-  pub lent-alike : AnswersAt r t p e before after → AnswersAt r u q f before after′ → after ≡ after′
-  lent-alike s t = s .answers .lent ∙ sym (t .answers .lent)
+  pub lent-alike : Answers r t p e before after → Answers r u q f before after′ → after ≡ after′
+  lent-alike s o = s .lent ∙ sym (o .lent)
 
-  pub pool-told : AnswersAt r t p e before after → AnswersAt r u q f before after′ → p ≡ q
-  pool-told s t = pool-alike (s .answers .shows) (t .answers .shows)
+  pub pool-told : Answers r t p e before after → Answers r u q f before after′ → p ≡ q
+  pool-told s o = pool-alike (s .shows) (o .shows)
 
-  pub ledger-told : AnswersAt r t p e before after → AnswersAt r u q f before after′ → t ≡ u
-  ledger-told s t = s .kept .is ∙ ap tableOf (ledger-alike (s .answers .shows) (t .answers .shows)) ∙ sym (t .kept .is)
+  pub ledger-told : Answers r t p e before after → Answers r u q f before after′ → t ≡ u
+  ledger-told s o = ledger-alike (s .shows) (o .shows)
 
 pub answered-alike :
     {r : Answer} {before after after′ : List ℕ} (x y : Answered) →
-    AnswersAt r (x .session .ledger) (x .session .pool) (x .ended) before after →
-    AnswersAt r (y .session .ledger) (y .session .pool) (y .ended) before after′ → x ≡ y
-answered-alike x y s t =
-    λ i. record { session = record { ledger = ledger-told s t i; pool = pool-told s t i }; ended = ended-alike s t i }
+    Answers r (x .session .ledger) (x .session .pool) (x .ended) before after →
+    Answers r (y .session .ledger) (y .session .pool) (y .ended) before after′ → x ≡ y
+answered-alike x y s o =
+    λ i. record { session = record { ledger = ledger-told s o i; pool = pool-told s o i }; ended = ended-alike s o i }

@@ -11,25 +11,24 @@ use Rattle.rules.specs.Command.{Answer, answered, refusal}
 use Rattle.rules.specs.Sound.{Sound}
 use Rattle.octets.specs.Parts.{pasted}
 use Rattle.session.specs.declared.Ended.the-variants.{Wrote, Refused}
-use Rattle.session.specs.Book.{Ledger}
 use Rattle.session.specs.Picture.{shown, Shows, GoodIn}
 use Rattle.session.specs.Calls.{endedOf, writtenBy, overlaid, Answers}
 use Rattle.session.proofs.Views.{shows-good}
 
 -- a refusal leaves the session and the lent bytes
-pub refuse-answers : (x : Answer) (l : Ledger) (p out : List ℕ) (r : Refusal) → GoodIn l p → x ≡ refusal (shown l p) r → Answers x l p (Refused r) out out
+pub refuse-answers : (x : Answer) (t p out : List ℕ) (r : Refusal) → GoodIn t p → x ≡ refusal (shown t p) r → Answers x t p (Refused r) out out
 unfolding endedOf writtenBy overlaid
-refuse-answers x l p out r g e =
-    subst (λ (y : Answer). Answers y l p (Refused r) out out) (sym e) (record { shows = g .shows; good = g; ended = refl; lent = refl })
+refuse-answers x t p out r g e =
+    subst (λ (y : Answer). Answers y t p (Refused r) out out) (sym e) (record { shows = g .shows; good = g; ended = refl; lent = refl })
 
 -- an answer hands back the picture of its state, and its bytes
 pub wrote-answers :
-    (x : Answer) (b : State) (t : List ℕ) (l : Ledger) (p before after : List ℕ) → Sound (x .state) → x ≡ answered b t → Shows b l p →
-    after ≡ overlaid t before → Answers x l p (Wrote (length t)) before after
+    (x : Answer) (b : State) (s t p before after : List ℕ) → Sound (x .state) → x ≡ answered b s → Shows b t p →
+    after ≡ overlaid s before → Answers x t p (Wrote (length s)) before after
 unfolding endedOf writtenBy
-wrote-answers x b t l p before after h e s o =
-    subst (λ (y : Answer). Answers y l p (Wrote (length t)) before after) (sym e)
-    (record { shows = s; good = shows-good b l p (subst (λ (y : Answer). Sound (y .state)) e h) s; ended = refl; lent = o })
+wrote-answers x b s t p before after h e w o =
+    subst (λ (y : Answer). Answers y t p (Wrote (length s)) before after) (sym e)
+    (record { shows = w; good = shows-good b t p (subst (λ (y : Answer). Sound (y .state)) e h) w; ended = refl; lent = o })
 
 nothing-lent : (d : List ℕ) → d ≡ overlaid [] d
 unfolding overlaid
@@ -37,9 +36,9 @@ nothing-lent d = refl
 
 -- one that writes nothing
 pub quiet-answers :
-    (x : Answer) (b : State) (t : List ℕ) (l : Ledger) (p out : List ℕ) → Sound (x .state) → x ≡ answered b t → t ≡ [] → Shows b l p →
-    Answers x l p (Wrote 0) out out
-quiet-answers x b t l p out h e n s = wrote-answers x b [] l p out out h (e ∙ ap (answered b) n) s (nothing-lent out)
+    (x : Answer) (b : State) (s t p out : List ℕ) → Sound (x .state) → x ≡ answered b s → s ≡ [] → Shows b t p →
+    Answers x t p (Wrote 0) out out
+quiet-answers x b s t p out h e n w = wrote-answers x b [] t p out out h (e ∙ ap (answered b) n) w (nothing-lent out)
 
 -- a paste at the front of a buffer lies over it
 pub front-over : (d s : List ℕ) → pasted d 0 s ≡ overlaid s d

@@ -1,271 +1,288 @@
 -- What is known of a good session at the number of a channel, and the law of each change, over plain variables.
 -- Assumes nothing.
-use Prim.Native.Nat.{ℕ, zero, suc, _+_, _-_, _*_, _≤_, _<_}
+use Prim.Native.Nat.{ℕ, zero, suc, _+_, _-_, _*_, _/_, _≤_, _<_}
 use mathlib.Core.Path.{_≡_, refl, sym, ap, subst, _∙_}
-use mathlib.Core.List.{List, [], _∷_, _++_, map}
+use mathlib.Core.List.{List}
 use native.Mathlib.Omega.{arith}
-use lib.ListN.{length, take, drop, getD, set, length-append, length-take, length-drop, length-map, List·getD-map}
+use lib.ListN.{length, take, length-append, length-drop}
 use lib.Seq.{take-all}
 use Rattle.rules.specs.declared.ChannelNumber.{ChannelNumber}
+use Rattle.rules.specs.declared.Events.{Events}
 use Rattle.rules.specs.declared.Link.{Link}
-use Rattle.rules.specs.State.{State, Chan, closed, chan, withChan, room, fresh, arrived, handed, stored, readied, taken, dropped, establish}
-use Rattle.rules.specs.Pool.{cells, promisedTo, promised, unpromised}
+use Rattle.rules.specs.declared.Link.the-variants.{NotYet, Established, Dropped}
+use Rattle.rules.specs.declared.Way.{Way}
+use Rattle.rules.specs.declared.Way.the-variants.{Receive, Send}
+use Rattle.rules.specs.State.{State, Chan, closed, chan, withChan, queue, withQueue, held, room, due, joined, without, marked, fresh, appended, removed}
+use Rattle.rules.specs.Pool.{cellCount, cellSize, poolSize, grantCap, cells, promisedTo, promised, unpromised}
 use Rattle.rules.specs.Sound.{SoundChan, Sound}
-use Rattle.rules.proofs.Soundness.{chan-sound, closed-sound, fresh-sound, handed-sound, stored-sound, readied-sound, dropped-sound, with-sound}
+use Rattle.rules.proofs.Laws.{each-take}
+use Rattle.rules.proofs.Soundness.{chan-sound}
 use Rattle.octets.specs.Parts.{part, pasted, cutOut, spread}
 use Rattle.session.specs.declared.Channel.{Channel}
-use Rattle.session.specs.Book.{Ledger}
-use Rattle.session.specs.Picture.{space, pad, regions, region, poolOf, linkNumber, linkOf, entry, ledgerOf, baseOf, shown, Shows, GoodIn}
-use Rattle.session.specs.Changed.{Numbered, chanIn, entryIn, withEntry, Changed}
-use Rattle.session.proofs.Regions.{length-regions, front, rest, used, used-fits, used-parts, length-pad, length-region, base-length, held-space}
-use Rattle.session.proofs.Views.{link-back, shows-good}
-use Rattle.session.proofs.Changes.{arrived-pool, handed-pool, stored-pool, taken-pool, closed-pool, opened-pool, still-pool, recv-part, send-part}
+use Rattle.session.specs.Book.{ledgerSize, entryIn, withEntry, withList}
+use Rattle.session.specs.Picture.{space, pad, regions, region, poolOf, linkNumber, linkOf, entry, ledgerOf, baseIn, offset, startIn, shown, Shows, GoodIn}
+use Rattle.session.specs.Changed.{Numbered, chanIn, Changed, heldIn, dueIn, moreIn, lessIn, Marks, withEvents}
+use Rattle.session.proofs.Ledgers.{ledger-size, entry-read, base-read, entry-written, list-written}
+use Rattle.session.proofs.Regions.{length-regions, length-pad, front, used, used-parts, used-fits, length-region, held-space}
+use Rattle.session.proofs.Views.{link-back, number-back}
+use Rattle.session.proofs.Changes.{appended-pool, removed-pool, held-part, closed-pool, opened-pool, marked-pool, due-held}
 
--- an entry of the ledger is the entry of the channel
-map-set : (cs : List Chan) (k : ℕ) (c : Chan) → map entry (set cs k c) ≡ set (map entry cs) k (entry c)
-map-set [] k c = refl
-map-set (x ∷ cs) zero c = refl
-map-set (x ∷ cs) (suc k) c = ap (λ (r : List Channel). entry x ∷ r) (map-set cs k c)
+-- the counts of an entry are those of the channel, for either way
+held-entry : (c : Chan) (w : Way) → heldIn (entry c) w ≡ length (held c w)
+unfolding heldIn entry
+held-entry c Receive = refl
+held-entry c Send = refl
 
-entry-map : (cs : List Chan) (k : ℕ) → getD (map entry cs) k (record { grant = 0; link = 0; rx = 0; tx = 0; ready = 0 }) ≡ entry (getD cs k closed)
-unfolding entry closed
-entry-map cs k = List·getD-map entry cs k closed
+due-entry : (c : Chan) (w : Way) → dueIn (entry c) w ≡ due c w
+unfolding dueIn due entry
+due-entry c Receive = refl
+due-entry c Send = refl
+
+-- the entry of a channel to which bytes came, and of one from which they were removed
+module _ (c : Chan) (l : Link) (k : ℕ) (s : List ℕ) where
+  more-entry : (w : Way) → moreIn (entry (marked c l k)) w (length s) ≡ entry (appended (marked c l k) w s)
+  unfolding moreIn entry appended withQueue marked queue joined
+  more-entry Receive = λ i. record { grant = c .grant; link = linkNumber l; rx = sym (length-append (c .receive .bytes) s) i; tx = length (c .send .bytes); ready = k }
+  more-entry Send = λ i. record { grant = c .grant; link = linkNumber l; rx = length (c .receive .bytes); tx = sym (length-append (c .send .bytes) s) i; ready = k }
+
+less-entry : (c : Chan) (w : Way) (k : ℕ) → lessIn (entry c) w k ≡ entry (removed c w k)
+unfolding lessIn entry removed withQueue marked queue without
+less-entry c Receive k = λ i. record { grant = c .grant; link = linkNumber (c .link); rx = sym (length-drop k (c .receive .bytes)) i; tx = length (c .send .bytes); ready = c .ready }
+less-entry c Send k = λ i. record { grant = c .grant; link = linkNumber (c .link); rx = length (c .receive .bytes); tx = sym (length-drop k (c .send .bytes)) i; ready = c .ready - k }
 
 -- the numbers of a good session
-pub record Bounds (l : Ledger) (p : List ℕ) (n : ChannelNumber) : Type 0 where
-  pub seven : length (l .channels) ≡ 7
-  pub size : length p ≡ 8192
-  pub used-is : baseOf (l .channels) 7 ≡ 32 * promised (shown l p)
-  pub used-fits : baseOf (l .channels) 7 ≤ 8192
-  pub region-fits : baseOf (l .channels) (n .0 - 1) + 2 * space (entryIn l n .grant) ≤ baseOf (l .channels) 7
-  pub grant-is : entryIn l n .grant ≡ chanIn l p n .grant
-  pub link-is : entryIn l n .link ≡ linkNumber (chanIn l p n .link)
-  pub link-was : linkOf (entryIn l n .link) ≡ chanIn l p n .link
-  pub rx-is : entryIn l n .rx ≡ length (chanIn l p n .recv)
-  pub tx-is : entryIn l n .tx ≡ length (chanIn l p n .send)
-  pub ready-is : entryIn l n .ready ≡ chanIn l p n .ready
-  pub capped : entryIn l n .grant ≤ 1500
-  pub rx-fits : entryIn l n .rx ≤ entryIn l n .grant
-  pub tx-fits : entryIn l n .tx ≤ entryIn l n .grant
-  pub ready-held : entryIn l n .ready ≤ entryIn l n .tx
-  pub grant-space : entryIn l n .grant ≤ space (entryIn l n .grant)
+pub record Bounds (t p : List ℕ) (n : ChannelNumber) : Type 0 where
+  pub table : length t ≡ ledgerSize
+  pub size : length p ≡ poolSize
+  pub used-is : baseIn t 7 ≡ cellSize * promised (shown t p)
+  pub used-fits : baseIn t 7 ≤ poolSize
+  pub region-fits : baseIn t (n .0 - 1) + 2 * space (entryIn t n .grant) ≤ baseIn t 7
+  pub is : entryIn t n ≡ entry (chanIn t p n)
+  pub capped : entryIn t n .grant ≤ grantCap
+  pub grant-space : entryIn t n .grant ≤ space (entryIn t n .grant)
+  pub rx-fits : entryIn t n .rx ≤ entryIn t n .grant
+  pub tx-fits : entryIn t n .tx ≤ entryIn t n .grant
+  pub ready-held : entryIn t n .ready ≤ entryIn t n .tx
+  pub link-known : entryIn t n .link ≤ 2
 
-module _ (l : Ledger) (p : List ℕ) (n : ChannelNumber) (h : Numbered l p n) where
+link-number-known : (l : Link) → linkNumber l ≤ 2
+link-number-known l = by-link l
+  where
+    by-link : (k : Link) → linkNumber k ≤ 2
+    by-link NotYet = omega arith
+    by-link Established = omega arith
+    by-link Dropped = omega arith
+
+pub good-table : (t p : List ℕ) → GoodIn t p → length t ≡ ledgerSize
+good-table t p g = ap length (g .shows .ledger) ∙ ledger-size (shown t p) (g .sound .thirteen) (g .sound .seven)
+
+module _ (t p : List ℕ) (n : ChannelNumber) (h : Numbered t p n) where
   abbrev a : State
-  a = shown l p
+  a = shown t p
 
   abbrev c : Chan
   c = chan a n
 
-  place : n .0 - 1 < length (a .chans)
-  place = omega (arith, h .low, h .high, h .good .sound .seven)
+  abbrev x : Channel
+  x = entryIn t n
 
-  channels-is : l .channels ≡ map entry (a .chans)
-  unfolding ledgerOf
-  channels-is = ap (λ (x : Ledger). x .channels) (h .good .shows .ledger)
+  abbrev at : ℕ
+  at = baseIn t (n .0 - 1)
 
-  entry-is : entryIn l n ≡ entry c
-  unfolding chan
-  entry-is =
-      ap (λ (es : List Channel). getD es (n .0 - 1) (record { grant = 0; link = 0; rx = 0; tx = 0; ready = 0 })) channels-is
-      ∙ entry-map (a .chans) (n .0 - 1)
+  sound : Sound a
+  sound = h .good .sound
 
-  front-is : length (front a n (h .good .sound) place) ≡ baseOf (l .channels) (n .0 - 1)
-  front-is = sym (ap (λ (es : List Channel). baseOf es (n .0 - 1)) channels-is ∙ base-length (a .chans) (n .0 - 1) (h .good .sound .each))
-
-  used-is : used a n (h .good .sound) place ≡ baseOf (l .channels) 7
-  used-is =
-      sym
-      (ap (λ (es : List Channel). baseOf es 7) channels-is ∙ base-length (a .chans) 7 (h .good .sound .each)
-      ∙ ap (λ (cs : List Chan). length (regions cs)) (take-all 7 (a .chans) (omega (arith, h .good .sound .seven))))
-
-  pool-size : length p ≡ 8192
-  unfolding poolOf
-  pool-size = ap length (h .good .shows .pool) ∙ length-pad 8192 (regions (a .chans)) (used-fits a n (h .good .sound) place)
-
-  promised-is : 32 * promisedTo (a .chans) ≡ 32 * promised a
-  unfolding promised
-  promised-is = refl
-
-  pub bounds : Bounds l p n
-  unfolding entry
-  bounds =
-      let s = chan-sound a n (h .good .sound) in
-      let e = entry-is in
-      let g : entryIn l n .grant ≡ c .grant = ap (λ (x : Channel). x .grant) e in
-      let r : entryIn l n .rx ≡ length (c .recv) = ap (λ (x : Channel). x .rx) e in
-      let t : entryIn l n .tx ≡ length (c .send) = ap (λ (x : Channel). x .tx) e in
-      let y : entryIn l n .ready ≡ c .ready = ap (λ (x : Channel). x .ready) e in
-      let sg = ap space g in
-      let fr = front-is in
-      let us = used-is in
-      let uf = used-fits a n (h .good .sound) place in
-      let up = used-parts a n (h .good .sound) place in
-      let lr = length-region c s in
-      record {
-        seven = ap length channels-is ∙ length-map (a .chans) entry ∙ h .good .sound .seven;
-        size = pool-size;
-        used-is = sym us ∙ length-regions (a .chans) (h .good .sound .each) ∙ promised-is;
-        used-fits = omega arith;
-        region-fits = omega arith;
-        grant-is = g;
-        link-is = ap (λ (x : Channel). x .link) e;
-        link-was = ap (λ (x : Channel). linkOf (x .link)) e ∙ link-back (c .link);
-        rx-is = r;
-        tx-is = t;
-        ready-is = y;
-        capped = omega (arith, s .capped);
-        rx-fits = omega (arith, s .recv-fits);
-        tx-fits = omega (arith, s .send-fits);
-        ready-held = omega (arith, s .ready-held);
-        grant-space = held-space (entryIn l n .grant) (entryIn l n .grant) (omega arith);
-      }
-
-  -- the ledger with the entry of a channel shows the state with that channel
-  ledger-with : (d : Chan) (e : Channel) → e ≡ entry d → withEntry l n e ≡ ledgerOf (withChan a n d)
-  unfolding ledgerOf withChan
-  ledger-with d e q =
-      let old = h .good .shows .ledger in
-      let cs = ap (λ (es : List Channel). set es (n .0 - 1) e) channels-is ∙ ap (λ (x : Channel). set (map entry (a .chans)) (n .0 - 1) x) q ∙ sym (map-set (a .chans) (n .0 - 1) d) in
-      λ i. record { profile = old i .profile; events = old i .events; channels = cs i }
-
-  changed : (d : Chan) (e : Channel) (q : List ℕ) → e ≡ entry d → q ≡ poolOf (withChan a n d) → Changed l p n d (withEntry l n e) q
-  changed d e q r s = record { ledger = ledger-with d e r; pool = s }
+  table-is : t ≡ ledgerOf a
+  table-is = h .good .shows .ledger
 
   pool-is : p ≡ poolOf a
   pool-is = h .good .shows .pool
 
-  abbrev x : Channel
-  x = entryIn l n
+  pub place : n .0 - 1 < length (a .chans)
+  place = omega (arith, h .low, h .high, sound .seven)
 
-  abbrev at : ℕ
-  at = baseOf (l .channels) (n .0 - 1)
+  pub entry-is : x ≡ entry c
+  entry-is = ap (λ (u : List ℕ). entryIn u n) table-is ∙ entry-read a (sound .thirteen) n
 
-  pub arrive-law :
-      (s : List ℕ) → length s ≤ room (c .grant) (c .recv) →
-      Changed l p n (arrived c s) (withEntry l n (record { grant = x .grant; link = x .link; rx = x .rx + length s; tx = x .tx; ready = x .ready }))
-      (pasted p (at + x .rx) s)
-  unfolding arrived entry
-  arrive-law s f =
+  base-is : (k : ℕ) → k ≤ 7 → baseIn t k ≡ cellSize * promisedTo (take k (a .chans))
+  base-is k f = ap (λ (u : List ℕ). baseIn u k) table-is ∙ base-read a (sound .thirteen) k (omega (arith, sound .seven))
+
+  front-is : length (front a n sound place) ≡ at
+  front-is =
+      length-regions (take (n .0 - 1) (a .chans)) (each-take SoundChan (n .0 - 1) (a .chans) (sound .each))
+      ∙ sym (base-is (n .0 - 1) (omega (arith, h .high)))
+
+  used-is : used a n sound place ≡ baseIn t 7
+  used-is =
+      length-regions (a .chans) (sound .each)
+      ∙ ap (λ (cs : List Chan). cellSize * promisedTo cs) (sym (take-all 7 (a .chans) (omega (arith, sound .seven))))
+      ∙ sym (base-is 7 (omega arith))
+
+  promised-is : baseIn t 7 ≡ cellSize * promised a
+  unfolding promised
+  promised-is = sym used-is ∙ length-regions (a .chans) (sound .each)
+
+  pool-size : length p ≡ poolSize
+  unfolding poolOf
+  pool-size = ap length pool-is ∙ length-pad poolSize (regions (a .chans)) (used-fits a n sound place)
+
+  pub bounds : Bounds t p n
+  unfolding entry
+  bounds =
+      let s = chan-sound a n sound in
+      let e = entry-is in
+      let g : x .grant ≡ c .grant = ap (λ (y : Channel). y .grant) e in
+      let r : x .rx ≡ length (held c Receive) = ap (λ (y : Channel). y .rx) e in
+      let u : x .tx ≡ length (held c Send) = ap (λ (y : Channel). y .tx) e in
+      let y : x .ready ≡ c .ready = ap (λ (z : Channel). z .ready) e in
+      let l : x .link ≡ linkNumber (c .link) = ap (λ (z : Channel). z .link) e in
+      let sg = ap space g in
+      let fr = front-is in
+      let us = used-is in
+      let uf = used-fits a n sound place in
+      let up = used-parts a n sound place in
+      let lr = length-region c (s .fits) in
+      record {
+        table = good-table t p (h .good);
+        size = pool-size;
+        used-is = promised-is;
+        used-fits = omega arith;
+        region-fits = omega arith;
+        is = e;
+        capped = omega (arith, s .capped);
+        grant-space = held-space (x .grant) (x .grant) (omega arith);
+        rx-fits = omega (arith, s .fits Receive);
+        tx-fits = omega (arith, s .fits Send);
+        ready-held = omega (arith, s .ready-held);
+        link-known = let k = link-number-known (c .link) in omega arith;
+      }
+
+  -- the two arrays with the entry of a channel, and its pool, are the session with that channel
+  changed : (d : Chan) (e : Channel) (u q : List ℕ) → u ≡ withEntry t n e → e ≡ entry d → q ≡ poolOf (withChan a n d) → Changed t p n d u q
+  changed d e u q eᵗ r s = record { ledger = eᵗ ∙ (λ i. withEntry (table-is i) n (r i)) ∙ entry-written a (sound .thirteen) n d place; pool = s }
+
+  grant-is : x .grant ≡ c .grant
+  unfolding entry
+  grant-is = ap (λ (y : Channel). y .grant) entry-is
+
+  held-is : (w : Way) → heldIn x w ≡ length (held c w)
+  held-is w = ap (λ (y : Channel). heldIn y w) entry-is ∙ held-entry c w
+
+  -- an entry that differs from the channel's in the link and the ready bytes is that of the channel so marked
+  marks-entry : (e : Channel) → Marks e x → e ≡ entry (marked c (linkOf (e .link)) (e .ready))
+  unfolding entry marked queue
+  marks-entry e m =
+      λ i.
+      record {
+        grant = (m .grant ∙ grant-is) i;
+        link = sym (number-back (e .link) (m .link)) i;
+        rx = (m .rx ∙ ap (λ (y : Channel). y .rx) entry-is) i;
+        tx = (m .tx ∙ ap (λ (y : Channel). y .tx) entry-is) i;
+        ready = e .ready;
+      }
+
+  marked-held : (e : Channel) (w : Way) → Marks e x → heldIn e w ≡ heldIn x w
+  unfolding heldIn
+  marked-held e Receive m = m .rx
+  marked-held e Send m = m .tx
+
+  -- the bytes of a way lie in the pool, within its space
+  way-fits : (w : Way) (k : ℕ) → k ≤ x .grant → startIn t n (x .grant) w + k ≤ poolSize
+  unfolding offset
+  way-fits Receive k f = let b = bounds in omega (arith, b .region-fits, b .used-fits, b .grant-space)
+  way-fits Send k f = let b = bounds in omega (arith, b .region-fits, b .used-fits, b .grant-space)
+
+  held-fits : (w : Way) → heldIn x w ≤ x .grant
+  unfolding heldIn
+  held-fits Receive = bounds .rx-fits
+  held-fits Send = bounds .tx-fits
+
+  -- where bytes that fit come to stand, and what is removed, at an entry that the code has found
+  pub appending :
+      (e : Channel) (w : Way) (m : ℕ) → Marks e x → m ≤ room c w → (startIn t n (e .grant) w + heldIn e w + m ≤ length p) × (heldIn e w + m ≤ grantCap)
+  unfolding room
+  appending e w m k f =
+      let g = k .grant in
       let b = bounds in
-      changed (arrived c s) _ _
-      (λ i. record { grant = b .grant-is i; link = b .link-is i; rx = (ap (λ (k : ℕ). k + length s) (b .rx-is) ∙ sym (length-append (c .recv) s)) i; tx = b .tx-is i; ready = b .ready-is i })
-      (ap (λ (k : ℕ). pasted p (at + k) s) (b .rx-is) ∙ ap (λ (q : List ℕ). pasted q (at + length (c .recv)) s) pool-is
-      ∙ arrived-pool a n (h .good .sound) place at front-is s f)
+      let h = marked-held e w k in
+      let fit : heldIn e w + m ≤ x .grant = let y = held-is w in let z = held-fits w in omega (arith, f, grant-is) in
+      let within = subst (λ (y : ℕ). startIn t n y w + (heldIn e w + m) ≤ poolSize) (sym g) (way-fits w (heldIn e w + m) fit) in
+      (omega (arith, b .size), omega (arith, b .capped))
 
-  pub hand-law :
-      (k : ℕ) → k ≤ length (c .recv) →
-      Changed l p n (handed c k) (withEntry l n (record { grant = x .grant; link = x .link; rx = x .rx - k; tx = x .tx; ready = x .ready }))
-      (cutOut p at k (at + x .rx))
-  unfolding handed entry
-  hand-law k f =
+  pub removing :
+      (e : Channel) (w : Way) (at k : ℕ) → e ≡ x → at ≡ startIn t n (e .grant) w → k ≤ due c w →
+      (at + heldIn e w ≤ length p) × (k ≤ heldIn e w) × (k ≤ dueIn e w)
+  removing e w at k q r f =
       let b = bounds in
-      changed (handed c k) _ _
-      (λ i. record { grant = b .grant-is i; link = b .link-is i; rx = (ap (λ (m : ℕ). m - k) (b .rx-is) ∙ sym (length-drop k (c .recv))) i; tx = b .tx-is i; ready = b .ready-is i })
-      (ap (λ (m : ℕ). cutOut p at k (at + m)) (b .rx-is) ∙ ap (λ (q : List ℕ). cutOut q at k (at + length (c .recv))) pool-is
-      ∙ handed-pool a n (h .good .sound) place at front-is k f)
+      let hs = chan-sound a n sound in
+      let d = due-held c hs w in
+      let y : heldIn e w ≡ length (held c w) = ap (λ (z : Channel). heldIn z w) q ∙ held-is w in
+      let z : dueIn e w ≡ due c w = ap (λ (v : Channel). dueIn v w) (q ∙ entry-is) ∙ due-entry c w in
+      let l : at ≡ startIn t n (x .grant) w = r ∙ ap (λ (v : Channel). startIn t n (v .grant) w) q in
+      let u = way-fits w (heldIn x w) (held-fits w) in
+      let v = held-is w in
+      (omega (arith, b .size), omega arith, omega arith)
 
-  pub store-law :
-      (s : List ℕ) → length s ≤ room (c .grant) (c .send) →
-      Changed l p n (stored c s) (withEntry l n (record { grant = x .grant; link = x .link; rx = x .rx; tx = x .tx + length s; ready = x .ready }))
-      (pasted p (at + space (x .grant) + x .tx) s)
-  unfolding stored entry
-  store-law s f =
-      let b = bounds in
-      changed (stored c s) _ _
-      (λ i. record { grant = b .grant-is i; link = b .link-is i; rx = b .rx-is i; tx = (ap (λ (k : ℕ). k + length s) (b .tx-is) ∙ sym (length-append (c .send) s)) i; ready = b .ready-is i })
-      ((λ i. pasted (pool-is i) (at + space (b .grant-is i) + b .tx-is i) s) ∙ stored-pool a n (h .good .sound) place at front-is s f)
+  -- bytes come to a way: with the count that was found, the entry and the two arrays that were left
+  pub append-law :
+      (e f : Channel) (w : Way) (s u q : List ℕ) (h at : ℕ) → Marks e x → length s ≤ room c w →
+      h ≡ heldIn e w → at ≡ startIn t n (e .grant) w → f ≡ moreIn e w (length s) → q ≡ pasted p (at + h) s → u ≡ withEntry t n f →
+      Changed t p n (appended (marked c (linkOf (e .link)) (e .ready)) w s) u q
+  append-law e f w s u q h from m r eʰ eᵃ eᶠ eᵖ eᵗ =
+      let d = marked c (linkOf (e .link)) (e .ready) in
+      let k = eʰ ∙ marked-held e w m ∙ held-is w in
+      let g = eᵃ ∙ ap (λ (y : ℕ). startIn t n y w) (m .grant ∙ grant-is) in
+      changed (appended d w s) f u q eᵗ
+      (eᶠ ∙ ap (λ (y : Channel). moreIn y w (length s)) (marks-entry e m) ∙ more-entry c (linkOf (e .link)) (e .ready) s w)
+      (eᵖ ∙ (λ i. pasted (pool-is i) (g i + k i) s) ∙ appended-pool a n sound place at front-is (linkOf (e .link)) (e .ready) w s r)
 
-  pub take-law :
-      (k : ℕ) → k ≤ c .ready →
-      Changed l p n (taken c k) (withEntry l n (record { grant = x .grant; link = x .link; rx = x .rx; tx = x .tx - k; ready = x .ready - k }))
-      (cutOut p (at + space (x .grant)) k (at + space (x .grant) + x .tx))
-  unfolding taken entry
-  take-law k f =
-      let b = bounds in
-      changed (taken c k) _ _
-      (λ i. record { grant = b .grant-is i; link = b .link-is i; rx = b .rx-is i; tx = (ap (λ (m : ℕ). m - k) (b .tx-is) ∙ sym (length-drop k (c .send))) i; ready = b .ready-is i - k })
-      ((λ i. cutOut (pool-is i) (at + space (b .grant-is i)) k (at + space (b .grant-is i) + b .tx-is i)) ∙ taken-pool a n (h .good .sound) place at front-is k f)
+  -- the first bytes of a way go
+  pub remove-law :
+      (e f : Channel) (w : Way) (u q : List ℕ) (h from k : ℕ) → e ≡ x → from ≡ startIn t n (e .grant) w → k ≤ due c w →
+      h ≡ heldIn e w → f ≡ lessIn e w k → q ≡ cutOut p from k (from + h) → u ≡ withEntry t n f →
+      Changed t p n (removed c w k) u q
+  remove-law e f w u q h from k eᵉ eᵃ r eʰ eᶠ eᵖ eᵗ =
+      let m = eʰ ∙ ap (λ (y : Channel). heldIn y w) eᵉ ∙ held-is w in
+      let g = eᵃ ∙ ap (λ (y : Channel). startIn t n (y .grant) w) eᵉ ∙ ap (λ (y : ℕ). startIn t n y w) grant-is in
+      changed (removed c w k) f u q eᵗ (eᶠ ∙ ap (λ (y : Channel). lessIn y w k) (eᵉ ∙ entry-is) ∙ less-entry c w k)
+      (eᵖ ∙ (λ i. cutOut (pool-is i) (g i) k (g i + m i)) ∙ removed-pool a n sound place at front-is w k r)
 
+  -- the region goes, or an empty one comes
   pub close-law :
-      Changed l p n closed (withEntry l n (record { grant = 0; link = 0; rx = 0; tx = 0; ready = 0 }))
-      (cutOut p at (2 * space (x .grant)) (baseOf (l .channels) 7))
-  unfolding closed entry
-  close-law =
-      let b = bounds in
-      changed closed _ _ refl
-      ((λ i. cutOut (pool-is i) at (2 * space (b .grant-is i)) (used-is′ i)) ∙ closed-pool a n (h .good .sound) place at front-is)
-    where
-      used-is′ : baseOf (l .channels) 7 ≡ used a n (h .good .sound) place
-      used-is′ = sym used-is
+      (g : ℕ) (u q : List ℕ) (from sp end : ℕ) → g ≡ x .grant → from ≡ at → sp ≡ space g → end ≡ baseIn t 7 → q ≡ cutOut p from (2 * sp) end →
+      u ≡ withEntry t n (record { grant = 0; link = 0; rx = 0; tx = 0; ready = 0 }) → Changed t p n closed u q
+  unfolding closed entry queue
+  close-law g u q from sp end eᵍ eᵃ eˢ eᵉ eᵖ eᵗ =
+      let m = eˢ ∙ ap space (eᵍ ∙ grant-is) in
+      changed closed _ u q eᵗ refl
+      (eᵖ ∙ (λ i. cutOut (pool-is i) (eᵃ i) (2 * m i) ((eᵉ ∙ sym used-is) i)) ∙ closed-pool a n sound place at front-is)
 
   pub open-law :
-      (g : ℕ) (k : Link) → x .grant ≡ 0 → baseOf (l .channels) 7 + 2 * space g ≤ 8192 →
-      Changed l p n (fresh g k) (withEntry l n (record { grant = g; link = linkNumber k; rx = 0; tx = 0; ready = 0 }))
-      (spread p at (2 * space g) (baseOf (l .channels) 7))
-  unfolding fresh entry
-  open-law g k o f =
-      let b = bounds in
-      let u = used-is in
-      changed (fresh g k) _ _ refl
-      ((λ i. spread (pool-is i) at (2 * space g) (sym used-is i))
-      ∙ opened-pool a n (h .good .sound) place at front-is g k (sym (b .grant-is) ∙ o) (omega arith))
+      (g : ℕ) (k : Link) (l : ℕ) (u q : List ℕ) (from sp end : ℕ) → c .grant ≡ 0 → baseIn t 7 + 2 * space g ≤ poolSize →
+      from ≡ at → sp ≡ space g → end ≡ baseIn t 7 → l ≡ linkNumber k → q ≡ spread p from (2 * sp) end →
+      u ≡ withEntry t n (record { grant = g; link = l; rx = 0; tx = 0; ready = 0 }) → Changed t p n (fresh g k) u q
+  unfolding fresh entry queue
+  open-law g k l u q from sp end o f eᵃ eˢ eᵉ eˡ eᵖ eᵗ =
+      let v = used-is in
+      changed (fresh g k) _ u q eᵗ (λ i. record { grant = g; link = eˡ i; rx = 0; tx = 0; ready = 0 })
+      (eᵖ ∙ (λ i. spread (pool-is i) (eᵃ i) (2 * eˢ i) ((eᵉ ∙ sym used-is) i)) ∙ opened-pool a n sound place at front-is g k o (omega arith))
 
-  pub ready-law :
-      Changed l p n (readied c) (withEntry l n (record { grant = x .grant; link = linkNumber (establish (linkOf (x .link))); rx = x .rx; tx = x .tx; ready = x .tx })) p
-  unfolding readied entry
-  ready-law =
-      let b = bounds in
-      let s = chan-sound a n (h .good .sound) in
-      changed (readied c) _ _
-      (λ i. record { grant = b .grant-is i; link = linkNumber (establish (b .link-was i)); rx = b .rx-is i; tx = b .tx-is i; ready = b .tx-is i })
-      (pool-is ∙ sym (still-pool a n (h .good .sound) place (readied c) refl refl refl (readied-sound c s)))
+  -- another link and another count of ready bytes
+  pub mark-law : (e : Channel) (u : List ℕ) → Marks e x → u ≡ withEntry t n e → Changed t p n (marked c (linkOf (e .link)) (e .ready)) u p
+  mark-law e u m eᵗ =
+      changed (marked c (linkOf (e .link)) (e .ready)) e u p eᵗ (marks-entry e m)
+      (pool-is ∙ sym (marked-pool a n sound place (linkOf (e .link)) (e .ready)))
 
-  pub drop-law : Changed l p n (dropped c) (withEntry l n (record { grant = x .grant; link = 2; rx = x .rx; tx = x .tx; ready = x .ready })) p
-  unfolding dropped entry
-  drop-law =
-      let b = bounds in
-      let s = chan-sound a n (h .good .sound) in
-      changed (dropped c) _ _
-      (λ i. record { grant = b .grant-is i; link = 2; rx = b .rx-is i; tx = b .tx-is i; ready = b .ready-is i })
-      (pool-is ∙ sym (still-pool a n (h .good .sound) place (dropped c) refl refl refl (dropped-sound c s)))
+  -- the first bytes held for a way are read from where it begins
+  pub held-read : (w : Way) (k : ℕ) → k ≤ length (held c w) → part (startIn t n (x .grant) w) (startIn t n (x .grant) w + k) p ≡ take k (held c w)
+  held-read w k f =
+      (λ i. part (at + offset (grant-is i) w) (at + offset (grant-is i) w + k) (pool-is i)) ∙ held-part a n sound place at front-is w k f
 
-  -- the bytes at the front of each way are those held
-  pub recv-read : (k : ℕ) → k ≤ length (c .recv) → part at (at + k) p ≡ take k (c .recv)
-  recv-read k f = ap (λ (q : List ℕ). part at (at + k) q) pool-is ∙ recv-part a n (h .good .sound) place at front-is k f
-
-  pub send-read : (k : ℕ) → k ≤ length (c .send) → part (at + space (x .grant)) (at + space (x .grant) + k) p ≡ take k (c .send)
-  send-read k f =
-      let b = bounds in
-      (λ i. part (at + space (b .grant-is i)) (at + space (b .grant-is i) + k) (pool-is i)) ∙ send-part a n (h .good .sound) place at front-is k f
-
-  -- what a change leaves is good again
-  pub opened-good :
-      (g : ℕ) (k : Link) (m : Ledger) (r : List ℕ) → g ≤ 1500 → 2 * cells g ≤ unpromised a → Changed l p n (fresh g k) m r → GoodIn m r
-  unfolding fresh
-  opened-good g k m r cap f s =
-      shows-good (withChan a n (fresh g k)) m r (with-sound a n (fresh g k) (h .good .sound) place (fresh-sound g k cap) (omega arith)) s
-
-  pub closed-state : Sound (withChan a n closed)
-  unfolding closed cells
-  closed-state = with-sound a n closed (h .good .sound) place closed-sound (omega arith)
-
-  pub closed-good : (m : Ledger) (r : List ℕ) → Changed l p n closed m r → GoodIn m r
-  closed-good m r s = shows-good (withChan a n closed) m r closed-state s
-
-  same-good : (d : Chan) (m : Ledger) (r : List ℕ) → SoundChan d → d .grant ≡ c .grant → Changed l p n d m r → GoodIn m r
-  same-good d m r hd e s =
-      let k = ap cells e in
-      shows-good (withChan a n d) m r (with-sound a n d (h .good .sound) place hd (omega arith)) s
-
-  pub handed-good : (k : ℕ) (m : Ledger) (r : List ℕ) → Changed l p n (handed c k) m r → GoodIn m r
-  unfolding handed
-  handed-good k m r s = same-good (handed c k) m r (handed-sound c (chan-sound a n (h .good .sound)) k) refl s
-
-  pub stored-good : (t : List ℕ) (m : Ledger) (r : List ℕ) → length t ≤ room (c .grant) (c .send) → Changed l p n (stored c t) m r → GoodIn m r
-  unfolding stored
-  stored-good t m r f s = same-good (stored c t) m r (stored-sound c (chan-sound a n (h .good .sound)) t f) refl s
-
-  pub readied-good : (m : Ledger) (r : List ℕ) → Changed l p n (readied c) m r → GoodIn m r
-  unfolding readied
-  readied-good m r s = same-good (readied c) m r (readied-sound c (chan-sound a n (h .good .sound))) refl s
+-- another event list
+pub list-law : (t p : List ℕ) (e : Events) → GoodIn t p → Shows (withEvents (shown t p) e) (withList t e) p
+unfolding poolOf
+list-law t p e g =
+    record {
+      ledger = ap (λ (u : List ℕ). withList u e) (g .shows .ledger) ∙ list-written (shown t p) (g .sound .thirteen) e;
+      pool = g .shows .pool;
+    }

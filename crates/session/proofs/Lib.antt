@@ -1,12 +1,10 @@
-pub mod Bases
-pub mod Numbers
+pub mod Ledgers
 pub mod Regions
 pub mod Changes
 pub mod Views
 pub mod Facts
-pub mod Written
-pub mod Answers
 pub mod Starts
+pub mod Answers
 pub mod Owners
 pub mod Alike
 pub mod Settled

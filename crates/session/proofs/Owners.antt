@@ -11,61 +11,47 @@ use lib.Seq.{getD-take, getD-drop}
 use lib.Dec.{ltb, eqb}
 use borrow.Author.Tests.{ltb-true, ltb-false, eqb-true, eqb-false}
 use Rattle.rules.specs.declared.ChannelNumber.{ChannelNumber}
-use Rattle.rules.specs.State.{State, Chan, closed, chan, withChan}
-use Rattle.rules.specs.Pool.{cells, promisedTo, promised, unpromised, grantFor}
+use Rattle.rules.specs.declared.Way.{Way}
+use Rattle.rules.specs.declared.Way.the-variants.{Receive, Send}
+use Rattle.rules.specs.State.{State, Chan, closed, chan, withChan, held}
+use Rattle.rules.specs.Pool.{cellSize, grantCap, cells, promisedTo, promised, unpromised, grantFor}
 use Rattle.rules.specs.Sound.{Each, SoundChan, Sound}
+use Rattle.rules.proofs.Laws.{each-take}
 use Rattle.rules.proofs.Grants.{promised-set, grant-whole}
-use Rattle.rules.proofs.Soundness.{chan-sound, start-sound}
+use Rattle.rules.proofs.Soundness.{chan-sound}
 use Rattle.rules.proofs.Told.{chan-other}
-use Rattle.rules.specs.State.{start}
 use Rattle.octets.specs.Parts.{part}
 use Rattle.octets.proofs.Copies.{part-get}
-use Rattle.session.specs.Picture.{space, regions, poolOf, picture, Good}
-use Rattle.session.specs.Cells.{Way, receive, send, held, firstCell, Promised}
-use Rattle.session.proofs.Regions.{front, length-regions, length-region, held-space}
-use Rattle.session.proofs.Changes.{recv-part, send-part}
-use Rattle.session.proofs.Views.{shows-at, good-at}
-
--- the start is good
-pub start-good : (p : List ℕ) → Good (picture (start p))
-unfolding picture
-start-good p = good-at (start p) _ _ (start-sound p) (shows-at (start p) _ _ (start-sound p) refl refl)
-
-each-front : (cs : List Chan) (k : ℕ) → Each SoundChan cs → Each SoundChan (take k cs)
-each-front cs zero h = tt
-each-front [] (suc k) h = tt
-each-front (c ∷ cs) (suc k) h = (h .0, each-front cs k (h .1))
+use Rattle.session.specs.Picture.{space, poolOf, offset}
+use Rattle.session.specs.Cells.{firstCell, Promised}
+use Rattle.session.proofs.Regions.{front, length-regions, held-space}
+use Rattle.session.proofs.Changes.{held-part}
 
 module _ (a : State) (n : ChannelNumber) (h : Sound a) (low : 1 ≤ n .0) (high : n .0 ≤ 7) where
   place : n .0 - 1 < length (a .chans)
   place = omega (arith, h .seven)
 
-  front-cells : length (front a n h place) ≡ 32 * promisedTo (take (n .0 - 1) (a .chans))
-  front-cells = length-regions (take (n .0 - 1) (a .chans)) (each-front (a .chans) (n .0 - 1) (h .each))
+  front-cells : length (front a n h place) ≡ cellSize * promisedTo (take (n .0 - 1) (a .chans))
+  front-cells = length-regions (take (n .0 - 1) (a .chans)) (each-take SoundChan (n .0 - 1) (a .chans) (h .each))
+
+  first-start : (w : Way) → cellSize * firstCell a n w ≡ cellSize * promisedTo (take (n .0 - 1) (a .chans)) + offset (chan a n .grant) w
+  unfolding firstCell offset space
+  first-start Receive = omega arith
+  first-start Send = omega arith
 
   -- the byte at index i of what is held stands in the pool, i bytes behind the first cell
-  pub held-byte : (w : Way) (i : ℕ) → i < length (held a n w) → getD (poolOf a) (32 * firstCell a n w + i) 0 ≡ getD (held a n w) i 0
-  unfolding held firstCell space
-  held-byte receive i f =
-      let at = 32 * promisedTo (take (n .0 - 1) (a .chans)) in
-      let k = length (chan a n .recv) in
-      sym (part-get at (at + k) i (poolOf a) (omega arith)) ∙ ap (λ (l : List ℕ). getD l i 0) (recv-part a n h place at front-cells k (omega arith)) ∙ getD-take k (chan a n .recv) i 0 f
-  held-byte send i f =
-      let at = 32 * promisedTo (take (n .0 - 1) (a .chans)) in
-      let g = cells (chan a n .grant) in
-      let k = length (chan a n .send) in
-      let e : 32 * (promisedTo (take (n .0 - 1) (a .chans)) + g) + i ≡ at + 32 * g + i = omega arith in
-      ap (λ (j : ℕ). getD (poolOf a) j 0) e ∙ sym (part-get (at + 32 * g) (at + 32 * g + k) i (poolOf a) (omega arith))
-      ∙ ap (λ (l : List ℕ). getD l i 0) (send-part a n h place at front-cells k (omega arith)) ∙ getD-take k (chan a n .send) i 0 f
-
-  held-cells : (w : Way) → length (held a n w) ≤ 32 * cells (chan a n .grant)
-  unfolding held space
-  held-cells receive = held-space (chan a n .grant) (length (chan a n .recv)) (chan-sound a n h .recv-fits)
-  held-cells send = held-space (chan a n .grant) (length (chan a n .send)) (chan-sound a n h .send-fits)
+  pub held-byte : (w : Way) (i : ℕ) → i < length (held (chan a n) w) → getD (poolOf a) (cellSize * firstCell a n w + i) 0 ≡ getD (held (chan a n) w) i 0
+  held-byte w i f =
+      let at = cellSize * promisedTo (take (n .0 - 1) (a .chans)) in
+      let start = at + offset (chan a n .grant) w in
+      let k = length (held (chan a n) w) in
+      ap (λ (j : ℕ). getD (poolOf a) (j + i) 0) (first-start w) ∙ sym (part-get start (start + k) i (poolOf a) (omega arith))
+      ∙ ap (λ (l : List ℕ). getD l i 0) (held-part a n h place at front-cells w k (omega arith)) ∙ getD-take k (held (chan a n) w) i 0 f
 
   -- and the cell in which it stands is promised to its channel and way
-  pub held-promised : (w : Way) (i : ℕ) → i < length (held a n w) → Promised a n w ((32 * firstCell a n w + i) / 32)
-  held-promised w i f = let c = held-cells w in record { from = omega arith; upto = omega arith }
+  pub held-promised : (w : Way) (i : ℕ) → i < length (held (chan a n) w) → Promised a n w ((cellSize * firstCell a n w + i) / cellSize)
+  unfolding space
+  held-promised w i f = let c = held-space (chan a n .grant) (length (held (chan a n) w)) (chan-sound a n h .fits w) in record { from = omega arith; upto = omega arith }
 
 -- a channel's cells end before those of a later channel begin
 later : (cs : List Chan) (j k : ℕ) → j < k → promisedTo (take j cs) + 2 * cells (getD cs j closed .grant) ≤ promisedTo (take k cs)
@@ -86,8 +72,8 @@ ends (c ∷ cs) (suc j) = let ih = ends cs j in omega arith
 -- the cells of a way lie within those of its channel
 within : (a : State) (n : ChannelNumber) (w : Way) (j : ℕ) → Promised a n w j → (promisedTo (take (n .0 - 1) (a .chans)) ≤ j) × (j < promisedTo (take (n .0 - 1) (a .chans)) + 2 * cells (getD (a .chans) (n .0 - 1) closed .grant))
 unfolding firstCell chan
-within a n receive j p = (omega (arith, p .from), omega (arith, p .upto))
-within a n send j p = (omega (arith, p .from), omega (arith, p .upto))
+within a n Receive j p = (omega (arith, p .from), omega (arith, p .upto))
+within a n Send j p = (omega (arith, p .from), omega (arith, p .upto))
 
 -- every promised cell is among the paper's sum, so among the 256
 pub promised-counted : (a : State) (n : ChannelNumber) (w : Way) (j : ℕ) → Promised a n w j → j < promised a
@@ -117,10 +103,10 @@ one-channel a n m v w j p q = by (ltb (n .0 - 1) (m .0 - 1)) (ltb (m .0 - 1) (n 
 -- nor to two ways of one channel
 pub one-way : (a : State) (n : ChannelNumber) (v w : Way) (j : ℕ) → Promised a n v j → Promised a n w j → v ≡ w
 unfolding firstCell
-one-way a n receive receive j p q = refl
-one-way a n send send j p q = refl
-one-way a n receive send j p q = absurd (omega (arith, p .upto, q .from))
-one-way a n send receive j p q = absurd (omega (arith, p .from, q .upto))
+one-way a n Receive Receive j p q = refl
+one-way a n Send Send j p q = refl
+one-way a n Receive Send j p q = absurd (omega (arith, p .upto, q .from))
+one-way a n Send Receive j p q = absurd (omega (arith, p .from, q .upto))
 
 -- closing gives the channel's cells back
 pub closing-frees :
@@ -130,15 +116,13 @@ unfolding unpromised promised withChan chan closed cells
 closing-frees a n h place = let e = promised-set (a .chans) (n .0 - 1) closed place in omega (arith, h .within)
 
 -- and whatever becomes of one channel, the others hold what they held
-pub others-keep : (a : State) (n m : ChannelNumber) (c : Chan) (w : Way) → (m .0 - 1 ≡ n .0 - 1 → ⊥) → held (withChan a n c) m w ≡ held a m w
-unfolding held
-others-keep a n m c receive h = ap (λ (d : Chan). d .recv) (chan-other a n m c h)
-others-keep a n m c send h = ap (λ (d : Chan). d .send) (chan-other a n m c h)
+pub others-keep : (a : State) (n m : ChannelNumber) (c : Chan) (w : Way) → (m .0 - 1 ≡ n .0 - 1 → ⊥) → held (chan (withChan a n c) m) w ≡ held (chan a m) w
+others-keep a n m c w h = ap (λ (d : Chan). held d w) (chan-other a n m c h)
 
 -- so a later opening can have them: it is granted in full what fits the free cells and those of the closed channel together
 pub freed-granted :
     (a : State) (n : ChannelNumber) (size : ℕ) → Sound a → n .0 - 1 < length (a .chans) →
-    2 * cells (min size 1500) ≤ unpromised a + 2 * cells (chan a n .grant) → grantFor size (unpromised (withChan a n closed)) ≡ min size 1500
+    2 * cells (min size grantCap) ≤ unpromised a + 2 * cells (chan a n .grant) → grantFor size (unpromised (withChan a n closed)) ≡ min size grantCap
 freed-granted a n size h place fit =
     let e = closing-frees a n h place in
     grant-whole size (unpromised (withChan a n closed)) (omega arith)

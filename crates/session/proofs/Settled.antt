@@ -1,41 +1,34 @@
--- Each contract of the session settles its outcome. Where the pool is not lent, it is one of those that the ledger belongs to.
+-- Each contract of the session settles its outcome.
 -- Assumes nothing.
-use mathlib.Core.Path.{refl, sym, ap, _∙_}
+use mathlib.Core.Path.{refl, sym, _∙_}
 use Rattle.outcomes.specs.Determined.{Determined}
-use Rattle.session.specs.Book.{tableOf}
-use Rattle.session.proofs.Alike.{numbers-alike, pool-alike, session-alike}
+use Rattle.session.proofs.Alike.{ledger-alike, pool-alike, session-alike}
+use Rattle.session.proofs.entry.Kinds as entry-kinds
+use Rattle.session.proofs.entry.Reads as entry-reads
+use Rattle.session.proofs.put_entry.Kinds as put-entry-kinds
+use Rattle.session.proofs.put_entry.Reads as put-entry-reads
 use Rattle.session.proofs.base.Kinds as base-kinds
 use Rattle.session.proofs.base.Reads as base-reads
+use Rattle.session.proofs.start_of.Kinds as start-of-kinds
+use Rattle.session.proofs.start_of.Reads as start-of-reads
 use Rattle.session.proofs.free_cells.Kinds as free-cells-kinds
 use Rattle.session.proofs.free_cells.Reads as free-cells-reads
-use Rattle.session.proofs.arrive.Kinds as arrive-kinds
-use Rattle.session.proofs.arrive.Reads as arrive-reads
-use Rattle.session.proofs.hand.Kinds as hand-kinds
-use Rattle.session.proofs.hand.Reads as hand-reads
-use Rattle.session.proofs.store.Kinds as store-kinds
-use Rattle.session.proofs.store.Reads as store-reads
-use Rattle.session.proofs.take_ready.Kinds as take-ready-kinds
-use Rattle.session.proofs.take_ready.Reads as take-ready-reads
+use Rattle.session.proofs.append.Kinds as append-kinds
+use Rattle.session.proofs.append.Reads as append-reads
+use Rattle.session.proofs.remove.Kinds as remove-kinds
+use Rattle.session.proofs.remove.Reads as remove-reads
 use Rattle.session.proofs.close_channel.Kinds as close-channel-kinds
 use Rattle.session.proofs.close_channel.Reads as close-channel-reads
 use Rattle.session.proofs.open_channel.Kinds as open-channel-kinds
 use Rattle.session.proofs.open_channel.Reads as open-channel-reads
 use Rattle.session.proofs.link_of.Kinds as link-of-kinds
 use Rattle.session.proofs.link_of.Reads as link-of-reads
-use Rattle.session.proofs.make_ready.Kinds as make-ready-kinds
-use Rattle.session.proofs.make_ready.Reads as make-ready-reads
-use Rattle.session.proofs.drop_link.Kinds as drop-link-kinds
-use Rattle.session.proofs.drop_link.Reads as drop-link-reads
 use Rattle.session.proofs.set_events.Kinds as set-events-kinds
 use Rattle.session.proofs.set_events.Reads as set-events-reads
-use Rattle.session.proofs.told.Kinds as told-kinds
-use Rattle.session.proofs.told.Reads as told-reads
+use Rattle.session.proofs.capped.Kinds as capped-kinds
+use Rattle.session.proofs.capped.Reads as capped-reads
 use Rattle.session.proofs.least.Kinds as least-kinds
 use Rattle.session.proofs.least.Reads as least-reads
-use Rattle.session.proofs.entry.Kinds as entry-kinds
-use Rattle.session.proofs.entry.Reads as entry-reads
-use Rattle.session.proofs.put_entry.Kinds as put-entry-kinds
-use Rattle.session.proofs.put_entry.Reads as put-entry-reads
 use Rattle.session.proofs.start_ledger.Kinds as start-ledger-kinds
 use Rattle.session.proofs.start_ledger.Reads as start-ledger-reads
 use Rattle.session.proofs.start.Kinds as start-kinds
@@ -45,46 +38,37 @@ pub entry-settled : Determined 1 entry-kinds.ps entry-kinds.r entry-reads.Pre en
 entry-settled κs a _ x y v w p q = (p ∙ sym q, refl)
 
 pub put-entry-settled : Determined 1 put-entry-kinds.ps put-entry-kinds.r put-entry-reads.Pre put-entry-reads.Post
-put-entry-settled κs a _ x y v w p q = (refl, λ i. ((p .kept .is ∙ ap tableOf (p .ledger ∙ sym (q .ledger)) ∙ sym (q .kept .is)) i, v .1))
+put-entry-settled κs a _ x y v w p q = (refl, λ i. ((p ∙ sym q) i, v .1))
 
 pub base-settled : Determined 1 base-kinds.ps base-kinds.r base-reads.Pre base-reads.Post
-base-settled κs a _ x y v w p q = (p ∙ sym q, refl)
+base-settled κs a _ x y v w p q = (p .0 ∙ sym (q .0), refl)
+
+pub start-of-settled : Determined 1 start-of-kinds.ps start-of-kinds.r start-of-reads.Pre start-of-reads.Post
+start-of-settled κs a _ x y v w p q = (p ∙ sym q, refl)
 
 pub free-cells-settled : Determined 1 free-cells-kinds.ps free-cells-kinds.r free-cells-reads.Pre free-cells-reads.Post
 free-cells-settled κs a _ x y v w p q = (p ∙ sym q, refl)
 
-pub arrive-settled : Determined 3 arrive-kinds.ps arrive-kinds.r arrive-reads.Pre arrive-reads.Post
-arrive-settled κs a _ x y v w p q = (refl, λ i. (numbers-alike p q i, (pool-alike (p .shows) (q .shows) i, v .1 .1)))
+pub append-settled : Determined 3 append-kinds.ps append-kinds.r append-reads.Pre append-reads.Post
+append-settled κs a _ x y v w p q = (refl, λ i. (ledger-alike p q i, (pool-alike p q i, v .1 .1)))
 
-pub hand-settled : Determined 2 hand-kinds.ps hand-kinds.r hand-reads.Pre hand-reads.Post
-hand-settled κs a _ x y v w p q = (refl, λ i. (numbers-alike p q i, (pool-alike (p .shows) (q .shows) i, v .1 .1)))
-
-pub store-settled : Determined 3 store-kinds.ps store-kinds.r store-reads.Pre store-reads.Post
-store-settled κs a _ x y v w p q = (refl, λ i. (numbers-alike p q i, (pool-alike (p .shows) (q .shows) i, v .1 .1)))
-
-pub take-ready-settled : Determined 2 take-ready-kinds.ps take-ready-kinds.r take-ready-reads.Pre take-ready-reads.Post
-take-ready-settled κs a _ x y v w p q = (refl, λ i. (numbers-alike p q i, (pool-alike (p .shows) (q .shows) i, v .1 .1)))
+pub remove-settled : Determined 2 remove-kinds.ps remove-kinds.r remove-reads.Pre remove-reads.Post
+remove-settled κs a _ x y v w p q = (refl, λ i. (ledger-alike p q i, (pool-alike p q i, v .1 .1)))
 
 pub close-channel-settled : Determined 2 close-channel-kinds.ps close-channel-kinds.r close-channel-reads.Pre close-channel-reads.Post
-close-channel-settled κs a _ x y v w p q = (refl, λ i. (numbers-alike p q i, (pool-alike (p .shows) (q .shows) i, v .1 .1)))
+close-channel-settled κs a _ x y v w p q = (refl, λ i. (ledger-alike p q i, (pool-alike p q i, v .1 .1)))
 
 pub open-channel-settled : Determined 2 open-channel-kinds.ps open-channel-kinds.r open-channel-reads.Pre open-channel-reads.Post
-open-channel-settled κs a _ x y v w p q = (refl, λ i. (numbers-alike p q i, (pool-alike (p .shows) (q .shows) i, v .1 .1)))
+open-channel-settled κs a _ x y v w p q = (refl, λ i. (ledger-alike p q i, (pool-alike p q i, v .1 .1)))
 
 pub link-of-settled : Determined 0 link-of-kinds.ps link-of-kinds.r link-of-reads.Pre link-of-reads.Post
 link-of-settled κs a _ x y v w p q = (p ∙ sym q, refl)
 
-pub make-ready-settled : Determined 1 make-ready-kinds.ps make-ready-kinds.r make-ready-reads.Pre make-ready-reads.Post
-make-ready-settled κs a b x y v w p q = (refl, λ i. (numbers-alike (p (b .0 .pool) (b .0 .good)) (q (b .0 .pool) (b .0 .good)) i, v .1))
-
-pub drop-link-settled : Determined 1 drop-link-kinds.ps drop-link-kinds.r drop-link-reads.Pre drop-link-reads.Post
-drop-link-settled κs a b x y v w p q = (refl, λ i. (numbers-alike (p (b .0 .pool) (b .0 .good)) (q (b .0 .pool) (b .0 .good)) i, v .1))
-
 pub set-events-settled : Determined 1 set-events-kinds.ps set-events-kinds.r set-events-reads.Pre set-events-reads.Post
-set-events-settled κs a b x y v w p q = (refl, λ i. (numbers-alike (p (b .pool) (b .good)) (q (b .pool) (b .good)) i, v .1))
+set-events-settled κs a _ x y v w p q = (refl, λ i. ((p ∙ sym q) i, v .1))
 
-pub told-settled : Determined 0 told-kinds.ps told-kinds.r told-reads.Pre told-reads.Post
-told-settled κs a _ x y v w p q = (p ∙ sym q, refl)
+pub capped-settled : Determined 0 capped-kinds.ps capped-kinds.r capped-reads.Pre capped-reads.Post
+capped-settled κs a _ x y v w p q = (p ∙ sym q, refl)
 
 pub least-settled : Determined 0 least-kinds.ps least-kinds.r least-reads.Pre least-reads.Post
 least-settled κs a _ x y v w p q = (p ∙ sym q, refl)

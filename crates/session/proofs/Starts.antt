@@ -10,13 +10,13 @@ use lib.Dec.{leb}
 use borrow.Author.Tests.{leb-true, leb-false}
 use lib.ListN.{length, take, drop, replicate, length-take, drop-of-length-le}
 use lib.Seq.{take-all, take-append-le, take-append-add, drop-append-le}
-use Rattle.rules.specs.Profile.{kept}
-use Rattle.rules.specs.Pool.{cells}
-use Rattle.rules.specs.State.{start, closed}
+use Rattle.rules.specs.Profile.{profileSize, kept}
+use Rattle.rules.specs.Pool.{poolSize, cells}
+use Rattle.rules.specs.State.{start, closed, queue}
 use Rattle.octets.specs.Parts.{part, pasted}
 use Rattle.octets.proofs.Copies.{length-part}
-use Rattle.session.specs.Book.{numbersOf, tableOf}
-use Rattle.session.specs.Picture.{space, pad, region, regions, poolOf, entry, ledgerOf}
+use Rattle.session.specs.Book.{ledgerSize}
+use Rattle.session.specs.Picture.{space, pad, region, regions, poolOf, entry, entriesOf, ledgerOf}
 
 zeros-drop : (a n : ℕ) → a ≤ n → drop a (replicate {A = ℕ} n 0) ≡ replicate (n - a) 0
 zeros-drop zero n h = ap (λ (k : ℕ). replicate k 0) (let e : n ≡ n - 0 = omega arith in e)
@@ -29,39 +29,39 @@ zeros-take zero n h = refl
 zeros-take (suc a) zero h = absurd (not-suc-le-zero h)
 zeros-take (suc a) (suc n) h = ap (λ (l : List ℕ). 0 ∷ l) (zeros-take a n (le-of-suc-le-suc h))
 
-short-kept : (p : List ℕ) → length p ≤ 13 → p ++ drop (length p) (replicate 13 0) ≡ kept p
+short-kept : (p : List ℕ) → length p ≤ profileSize → p ++ drop (length p) (replicate profileSize 0) ≡ kept p
 unfolding kept
 short-kept p h =
-    let e : length p + (13 - length p) ≡ 13 = omega arith in
-    ap (λ (l : List ℕ). p ++ l) (zeros-drop (length p) 13 h ∙ sym (zeros-take (13 - length p) 13 (omega arith)))
-    ∙ sym (take-append-add p (replicate 13 0) (13 - length p)) ∙ ap (λ (k : ℕ). take k (p ++ replicate 13 0)) e
+    let e : length p + (profileSize - length p) ≡ profileSize = omega arith in
+    ap (λ (l : List ℕ). p ++ l) (zeros-drop (length p) profileSize h ∙ sym (zeros-take (profileSize - length p) profileSize (omega arith)))
+    ∙ sym (take-append-add p (replicate profileSize 0) (profileSize - length p)) ∙ ap (λ (k : ℕ). take k (p ++ replicate profileSize 0)) e
 
-long-kept : (p : List ℕ) → 13 ≤ length p → take 13 p ≡ kept p
+long-kept : (p : List ℕ) → profileSize ≤ length p → take profileSize p ≡ kept p
 unfolding kept
-long-kept p h = sym (take-append-le 13 p (replicate 13 0) h)
+long-kept p h = sym (take-append-le profileSize p (replicate profileSize 0) h)
 
--- the front of a profile, put over 13 zeros
-pub kept-is : (p : List ℕ) (m : ℕ) → m ≡ min (length p) 13 → pasted (replicate 13 0) 0 (part 0 m p) ≡ kept p
+-- the front of a profile, put over as many zeros
+pub kept-is : (p : List ℕ) (m : ℕ) → m ≡ min (length p) profileSize → pasted (replicate profileSize 0) 0 (part 0 m p) ≡ kept p
 unfolding pasted
-kept-is p m e = by (leb (length p) 13) refl
+kept-is p m e = by (leb (length p) profileSize) refl
   where
-    short : length p ≤ 13 → pasted (replicate 13 0) 0 (part 0 m p) ≡ kept p
+    short : length p ≤ profileSize → pasted (replicate profileSize 0) 0 (part 0 m p) ≡ kept p
     short h =
         let k : m - 0 ≡ length p = omega arith in
         let whole : part 0 m p ≡ p = ap (λ (j : ℕ). take j p) k ∙ take-all (length p) p (omega arith) in
         let n : 0 + length p ≡ length p = omega arith in
-        ap (λ (s : List ℕ). pasted (replicate 13 0) 0 s) whole ∙ ap (λ (j : ℕ). p ++ drop j (replicate 13 0)) n ∙ short-kept p h
+        ap (λ (s : List ℕ). pasted (replicate profileSize 0) 0 s) whole ∙ ap (λ (j : ℕ). p ++ drop j (replicate profileSize 0)) n ∙ short-kept p h
 
-    long : 13 ≤ length p → pasted (replicate 13 0) 0 (part 0 m p) ≡ kept p
+    long : profileSize ≤ length p → pasted (replicate profileSize 0) 0 (part 0 m p) ≡ kept p
     long h =
-        let k : m - 0 ≡ 13 = omega arith in
-        let cut : part 0 m p ≡ take 13 p = ap (λ (j : ℕ). take j p) k in
-        let n : 0 + length (take 13 p) ≡ 13 = simp length-take (omega arith) in
-        ap (λ (s : List ℕ). pasted (replicate 13 0) 0 s) cut ∙ ap (λ (j : ℕ). take 13 p ++ drop j (replicate 13 0)) n ∙ append-nil (take 13 p) ∙ long-kept p h
+        let k : m - 0 ≡ profileSize = omega arith in
+        let cut : part 0 m p ≡ take profileSize p = ap (λ (j : ℕ). take j p) k in
+        let n : 0 + length (take profileSize p) ≡ profileSize = simp length-take (omega arith) in
+        ap (λ (s : List ℕ). pasted (replicate profileSize 0) 0 s) cut ∙ ap (λ (j : ℕ). take profileSize p ++ drop j (replicate profileSize 0)) n ∙ append-nil (take profileSize p) ∙ long-kept p h
 
-    by : (b : Bool) → leb (length p) 13 ≡ b → pasted (replicate 13 0) 0 (part 0 m p) ≡ kept p
-    by true q = short (leb-true (length p) 13 q)
-    by false q = long (let h = leb-false (length p) 13 q in omega arith)
+    by : (b : Bool) → leb (length p) profileSize ≡ b → pasted (replicate profileSize 0) 0 (part 0 m p) ≡ kept p
+    by true q = short (leb-true (length p) profileSize q)
+    by false q = long (let h = leb-false (length p) profileSize q in omega arith)
 
 -- as many bytes put over all of them
 pub over-all : (d s : List ℕ) → length d ≡ length s → pasted d 0 s ≡ s
@@ -70,17 +70,17 @@ over-all d s e =
     let h : length d ≤ 0 + length s = omega arith in
     ap (λ (l : List ℕ). s ++ l) (drop-of-length-le d h) ∙ append-nil s
 
--- the front of a profile, put over 50 zeros, is the ledger of a fresh session
-pub start-table : (p : List ℕ) (m : ℕ) → m ≡ min (length p) 13 → pasted (replicate 50 0) 0 (part 0 m p) ≡ tableOf (ledgerOf (start p))
-unfolding pasted tableOf ledgerOf start numbersOf entry closed
+-- the front of a profile, put over as many zeros as the ledger has numbers, is the ledger of a fresh session
+pub start-table : (p : List ℕ) (m : ℕ) → m ≡ min (length p) profileSize → pasted (replicate ledgerSize 0) 0 (part 0 m p) ≡ ledgerOf (start p)
+unfolding pasted ledgerOf start entriesOf entry closed queue
 start-table p m e =
     let s = part 0 m p in
-    let n : 0 + length s ≤ 13 = let k = length-part 0 m p (omega arith) in omega arith in
-    ap (λ (l : List ℕ). s ++ l) (drop-append-le (0 + length s) (replicate 13 0) (replicate 37 0) n)
-    ∙ sym (append-assoc s (drop (0 + length s) (replicate 13 0)) (replicate 37 0))
-    ∙ ap (λ (l : List ℕ). l ++ replicate 37 0) (kept-is p m e)
+    let n : 0 + length s ≤ profileSize = let k = length-part 0 m p (omega arith) in omega arith in
+    ap (λ (l : List ℕ). s ++ l) (drop-append-le (0 + length s) (replicate profileSize 0) (replicate (ledgerSize - profileSize) 0) n)
+    ∙ sym (append-assoc s (drop (0 + length s) (replicate profileSize 0)) (replicate (ledgerSize - profileSize) 0))
+    ∙ ap (λ (l : List ℕ). l ++ replicate (ledgerSize - profileSize) 0) (kept-is p m e)
 
 -- nothing is held, so the pool is empty
-pub empty-pool : (p : List ℕ) → replicate 8192 0 ≡ poolOf (start p)
-unfolding poolOf start pad regions region closed space cells
+pub empty-pool : (p : List ℕ) → replicate poolSize 0 ≡ poolOf (start p)
+unfolding poolOf start pad regions region closed space cells queue
 empty-pool p = refl

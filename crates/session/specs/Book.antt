@@ -1,19 +1,51 @@
--- The ledger, and the numbers by which the record keeps it.
-use Prim.Native.Nat.{ℕ, zero, suc}
-use mathlib.Core.Path.{_≡_}
+-- The ledger's numbers: where they stand, and the entry of a channel among them.
+use Prim.Native.Nat.{ℕ, zero, suc, _+_, _-_, _*_}
 use mathlib.Core.Bool.{Bool, true, false}
-use mathlib.Core.List.{List, [], _∷_, _++_}
-use lib.ListN.{take, drop, getD}
+use mathlib.Core.List.{List, [], _∷_}
+use lib.ListN.{getD, set}
+use Rattle.rules.specs.declared.ChannelNumber.{ChannelNumber}
 use Rattle.rules.specs.declared.Events.{Events}
+use Rattle.octets.specs.Parts.{pasted}
 use Rattle.session.specs.declared.Channel.{Channel}
 
--- the small part of a session: the profile, the event list, and an entry for each channel
-pub record Ledger : Type 0 where
-  pub profile : List ℕ
-  pub events : Events
-  pub channels : List Channel
+-- behind the profile stand two numbers that tell whether 09 and 0A are listed, then an entry for each channel; and the size of all
+abbrev pub availableAt : ℕ
+availableAt = 13
 
--- whether an event is listed, by its number: 0 where it is not
+abbrev pub statusAt : ℕ
+statusAt = 14
+
+abbrev pub channelsAt : ℕ
+channelsAt = 15
+
+abbrev pub entrySize : ℕ
+entrySize = 5
+
+abbrev pub ledgerSize : ℕ
+ledgerSize = 50
+
+-- where the entry of a channel begins; k counts the channels before it
+abbrev pub entryAt : ℕ → ℕ
+entryAt k = entrySize * k + channelsAt
+
+-- the entry whose numbers begin at a place
+abbrev pub entryFrom : List ℕ → ℕ → Channel
+entryFrom t at =
+    record { grant = getD t at 0; link = getD t (at + 1) 0; rx = getD t (at + 2) 0; tx = getD t (at + 3) 0; ready = getD t (at + 4) 0 }
+
+-- the numbers of an entry
+abbrev pub numbersOf : Channel → List ℕ
+numbersOf e = e .grant ∷ e .link ∷ e .rx ∷ e .tx ∷ e .ready ∷ []
+
+-- the entry of a channel
+abbrev pub entryIn : List ℕ → ChannelNumber → Channel
+entryIn t n = entryFrom t (entryAt (n .0 - 1))
+
+-- the numbers with another entry for a channel
+unfoldable pub withEntry : List ℕ → ChannelNumber → Channel → List ℕ
+withEntry t n e = pasted t (entryAt (n .0 - 1)) (numbersOf e)
+
+-- whether an event is listed, by its number, and the number
 abbrev pub listed : ℕ → Bool
 listed zero = false
 listed (suc n) = true
@@ -22,28 +54,6 @@ abbrev pub listedNumber : Bool → ℕ
 listedNumber true = 1
 listedNumber false = 0
 
--- the entries of so many channels, five numbers each
-unfoldable pub entriesIn : ℕ → List ℕ → List Channel
-entriesIn zero t = []
-entriesIn (suc k) t =
-    record { grant = getD t 0 0; link = getD t 1 0; rx = getD t 2 0; tx = getD t 3 0; ready = getD t 4 0 } ∷ entriesIn k (drop 5 t)
-
-unfoldable pub numbersOf : List Channel → List ℕ
-numbersOf [] = []
-numbersOf (e ∷ es) = e .grant ∷ e .link ∷ e .rx ∷ e .tx ∷ e .ready ∷ numbersOf es
-
--- the ledger that numbers say: 13 of the profile, two of the event list, five for each channel
-unfoldable pub ledgerIn : List ℕ → Ledger
-ledgerIn t =
-    record {
-      profile = take 13 t;
-      events = record { available = listed (getD t 13 0); status = listed (getD t 14 0) };
-      channels = entriesIn 7 (drop 15 t);
-    }
-
-unfoldable pub tableOf : Ledger → List ℕ
-tableOf l = l .profile ++ (listedNumber (l .events .available) ∷ listedNumber (l .events .status) ∷ numbersOf (l .channels))
-
--- the numbers are those of the ledger that they say
-pub record Kept (t : List ℕ) : Type 0 where
-  pub is : t ≡ tableOf (ledgerIn t)
+-- the numbers with another event list
+unfoldable pub withList : List ℕ → Events → List ℕ
+withList t e = set (set t availableAt (listedNumber (e .available))) statusAt (listedNumber (e .status))

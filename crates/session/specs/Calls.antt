@@ -1,13 +1,11 @@
 -- What a call hands back: the session, how it ended, and the lent buffer.
 use Prim.Native.Nat.{ℕ}
 use mathlib.Core.Path.{_≡_}
-use mathlib.Core.List.{List, [], _∷_, _++_}
+use mathlib.Core.List.{List, [], _++_}
 use lib.ListN.{length, drop}
-use Rattle.rules.specs.declared.Refusal.{Refusal}
 use Rattle.rules.specs.Command.{Outcome, wrote, refused, Answer}
 use Rattle.session.specs.declared.Ended.{Ended}
 use Rattle.session.specs.declared.Ended.the-variants.{Wrote, Refused}
-use Rattle.session.specs.Book.{Ledger, ledgerIn, Kept}
 use Rattle.session.specs.Picture.{Shows, GoodIn}
 
 -- how a call ended, as the code tells it: the count of bytes written, or the refusal
@@ -24,14 +22,9 @@ writtenBy (refused r) = []
 unfoldable pub overlaid : List ℕ → List ℕ → List ℕ
 overlaid s d = s ++ drop (length s) d
 
--- the call is the answer r: the session is its picture, and good again; it ended so; each lent byte is told
-pub record Answers (r : Answer) (l : Ledger) (p : List ℕ) (e : Ended) (before after : List ℕ) : Type 0 where
-  pub shows : Shows (r .state) l p
-  pub good : GoodIn l p
+-- the call is the answer r: the record's two arrays are its picture, and good again; it ended so; each lent byte is told
+pub record Answers (r : Answer) (t p : List ℕ) (e : Ended) (before after : List ℕ) : Type 0 where
+  pub shows : Shows (r .state) t p
+  pub good : GoodIn t p
   pub ended : e ≡ endedOf (r .outcome)
   pub lent : after ≡ overlaid (writtenBy (r .outcome)) before
-
--- the same of the record's two arrays
-pub record AnswersAt (r : Answer) (t p : List ℕ) (e : Ended) (before after : List ℕ) : Type 0 where
-  pub answers : Answers r (ledgerIn t) p e before after
-  pub kept : Kept t

@@ -3,23 +3,15 @@ use Prim.Native.Nat.{ℕ, _+_, _-_, _≤_, _<_}
 use mathlib.Core.List.{List}
 use lib.ListN.{take}
 use Rattle.rules.specs.declared.ChannelNumber.{ChannelNumber}
+use Rattle.rules.specs.declared.Way.{Way}
+use Rattle.rules.specs.declared.Way.the-variants.{Receive, Send}
 use Rattle.rules.specs.State.{State, chan}
 use Rattle.rules.specs.Pool.{cells, promisedTo}
 
--- the two ways of a channel
-pub data Way : Type 0 where
-  receive : Way
-  send : Way
-
--- the bytes held for a channel and a way
-unfoldable pub held : State → ChannelNumber → Way → List ℕ
-held a n receive = chan a n .recv
-held a n send = chan a n .send
-
 -- the first cell of a channel and a way: behind all cells of the channels before it, receive before send
 unfoldable pub firstCell : State → ChannelNumber → Way → ℕ
-firstCell a n receive = promisedTo (take (n .0 - 1) (a .chans))
-firstCell a n send = promisedTo (take (n .0 - 1) (a .chans)) + cells (chan a n .grant)
+firstCell a n Receive = promisedTo (take (n .0 - 1) (a .chans))
+firstCell a n Send = promisedTo (take (n .0 - 1) (a .chans)) + cells (chan a n .grant)
 
 -- the cell j is promised to the channel and the way
 pub record Promised (a : State) (n : ChannelNumber) (w : Way) (j : ℕ) : Type 0 where

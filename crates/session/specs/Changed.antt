@@ -1,52 +1,53 @@
 -- What the changes of one channel ask for and leave behind.
-use Prim.Native.Nat.{ℕ, _-_, _≤_}
+use Prim.Native.Nat.{ℕ, _+_, _-_, _≤_}
 use mathlib.Core.Path.{_≡_}
 use mathlib.Core.List.{List}
-use lib.ListN.{getD, set}
 use Rattle.rules.specs.declared.Events.{Events}
 use Rattle.rules.specs.declared.ChannelNumber.{ChannelNumber}
+use Rattle.rules.specs.declared.Way.{Way}
+use Rattle.rules.specs.declared.Way.the-variants.{Receive, Send}
 use Rattle.rules.specs.State.{State, Chan, chan, withChan}
 use Rattle.session.specs.declared.Channel.{Channel}
-use Rattle.session.specs.Book.{Ledger, ledgerIn, Kept}
-use Rattle.session.specs.Picture.{GoodIn, Shows, ShowsAt, shown, shownAt}
+use Rattle.session.specs.Picture.{GoodIn, Shows, shown}
 
 -- a good session, and the number of a channel
-pub record Numbered (l : Ledger) (p : List ℕ) (n : ChannelNumber) : Type 0 where
-  pub good : GoodIn l p
+pub record Numbered (t p : List ℕ) (n : ChannelNumber) : Type 0 where
+  pub good : GoodIn t p
   pub low : 1 ≤ n .0
   pub high : n .0 ≤ 7
 
 -- the channel of that number, as the session shows it
-abbrev pub chanIn : Ledger → List ℕ → ChannelNumber → Chan
-chanIn l p n = chan (shown l p) n
-
--- its entry in the ledger
-abbrev pub entryIn : Ledger → ChannelNumber → Channel
-entryIn l n = getD (l .channels) (n .0 - 1) (record { grant = 0; link = 0; rx = 0; tx = 0; ready = 0 })
-
--- the ledger with another entry in that place
-abbrev pub withEntry : Ledger → ChannelNumber → Channel → Ledger
-withEntry l n e = record { profile = l .profile; events = l .events; channels = set (l .channels) (n .0 - 1) e }
+abbrev pub chanIn : List ℕ → List ℕ → ChannelNumber → Chan
+chanIn t p n = chan (shown t p) n
 
 -- the session is what it was, with the channel c in the place of that number
-abbrev pub Changed : Ledger → List ℕ → ChannelNumber → Chan → Ledger → List ℕ → Type 0
-Changed l p n c l′ p′ = Shows (withChan (shown l p) n c) l′ p′
+abbrev pub Changed : List ℕ → List ℕ → ChannelNumber → Chan → List ℕ → List ℕ → Type 0
+Changed t p n c t′ p′ = Shows (withChan (shown t p) n c) t′ p′
 
--- the same of the record's two arrays
-pub record NumberedAt (t p : List ℕ) (n : ChannelNumber) : Type 0 where
-  pub numbered : Numbered (ledgerIn t) p n
-  pub kept : Kept t
+-- how many bytes an entry counts for a way, and how many of them are due to be handed out
+unfoldable pub heldIn : Channel → Way → ℕ
+heldIn e Receive = e .rx
+heldIn e Send = e .tx
 
-abbrev pub chanAt : List ℕ → List ℕ → ChannelNumber → Chan
-chanAt t p n = chanIn (ledgerIn t) p n
+unfoldable pub dueIn : Channel → Way → ℕ
+dueIn e Receive = e .rx
+dueIn e Send = e .ready
 
-abbrev pub ChangedAt : List ℕ → List ℕ → ChannelNumber → Chan → List ℕ → List ℕ → Type 0
-ChangedAt t p n c t′ p′ = ShowsAt (withChan (shownAt t p) n c) t′ p′
+-- an entry that counts bytes more for a way, and one without its first bytes
+unfoldable pub moreIn : Channel → Way → ℕ → Channel
+moreIn e Receive k = record { grant = e .grant; link = e .link; rx = e .rx + k; tx = e .tx; ready = e .ready }
+moreIn e Send k = record { grant = e .grant; link = e .link; rx = e .rx; tx = e .tx + k; ready = e .ready }
 
--- the numbers with another entry in that place
-pub record Entered (t : List ℕ) (n : ChannelNumber) (c : Channel) (t′ : List ℕ) : Type 0 where
-  pub ledger : ledgerIn t′ ≡ withEntry (ledgerIn t) n c
-  pub kept : Kept t′
+unfoldable pub lessIn : Channel → Way → ℕ → Channel
+lessIn e Receive k = record { grant = e .grant; link = e .link; rx = e .rx - k; tx = e .tx; ready = e .ready }
+lessIn e Send k = record { grant = e .grant; link = e .link; rx = e .rx; tx = e .tx - k; ready = e .ready - k }
+
+-- an entry with the grant and the counts of another; its link and its ready bytes may be others
+pub record Marks (e x : Channel) : Type 0 where
+  pub grant : e .grant ≡ x .grant
+  pub rx : e .rx ≡ x .rx
+  pub tx : e .tx ≡ x .tx
+  pub link : e .link ≤ 2
 
 -- the state with another event list
 abbrev pub withEvents : State → Events → State

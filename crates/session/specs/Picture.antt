@@ -1,20 +1,24 @@
 -- The session record as a picture of a state: the ledger, and the pool in which every held byte lies.
 use Prim.Native.Nat.{ℕ, zero, suc, _+_, _-_, _*_}
 use mathlib.Core.Path.{_≡_}
-use mathlib.Core.List.{List, [], _∷_, _++_, map}
-use lib.ListN.{length, take, drop, replicate}
+use mathlib.Core.List.{List, [], _∷_, _++_}
+use lib.ListN.{length, take, drop, getD, replicate}
+use Rattle.rules.specs.declared.ChannelNumber.{ChannelNumber}
 use Rattle.rules.specs.declared.Link.{Link}
 use Rattle.rules.specs.declared.Link.the-variants.{NotYet, Established, Dropped}
-use Rattle.rules.specs.State.{State, Chan}
-use Rattle.rules.specs.Pool.{cells}
+use Rattle.rules.specs.declared.Way.{Way}
+use Rattle.rules.specs.declared.Way.the-variants.{Receive, Send}
+use Rattle.rules.specs.Profile.{profileSize}
+use Rattle.rules.specs.State.{State, Chan, held}
+use Rattle.rules.specs.Pool.{cellSize, poolSize, cells}
 use Rattle.rules.specs.Sound.{Sound}
 use Rattle.session.specs.declared.Channel.{Channel}
-use Rattle.session.specs.Book.{Ledger, ledgerIn, tableOf, Kept}
 use Rattle.session.specs.declared.Session.{Session}
+use Rattle.session.specs.Book.{availableAt, statusAt, channelsAt, entrySize, entryAt, entryFrom, numbersOf, listed, listedNumber}
 
 -- the bytes of the cells that a grant promises each way
 unfoldable pub space : ℕ → ℕ
-space g = 32 * cells g
+space g = cellSize * cells g
 
 -- a list and zeros behind it, n bytes in all
 unfoldable pub pad : ℕ → List ℕ → List ℕ
@@ -22,7 +26,7 @@ pad n l = l ++ replicate (n - length l) 0
 
 -- a channel's cells: those for receive, then those for send; what is held stands at the front of its part
 unfoldable pub region : Chan → List ℕ
-region c = pad (space (c .grant)) (c .recv) ++ pad (space (c .grant)) (c .send)
+region c = pad (space (c .grant)) (held c Receive) ++ pad (space (c .grant)) (held c Send)
 
 -- the regions stand in the order of channel numbers, one after the other
 unfoldable pub regions : List Chan → List ℕ
@@ -31,7 +35,7 @@ regions (c ∷ cs) = region c ++ regions cs
 
 -- the pool: the regions, and zeros behind them
 unfoldable pub poolOf : State → List ℕ
-poolOf a = pad 8192 (regions (a .chans))
+poolOf a = pad poolSize (regions (a .chans))
 
 -- the number by which the ledger has a link, and the link of a number
 abbrev pub linkNumber : Link → ℕ
@@ -47,68 +51,79 @@ linkOf (suc (suc n)) = Dropped
 -- a channel as the ledger has it
 unfoldable pub entry : Chan → Channel
 entry c =
-    record { grant = c .grant; link = linkNumber (c .link); rx = length (c .recv); tx = length (c .send); ready = c .ready }
+    record {
+      grant = c .grant;
+      link = linkNumber (c .link);
+      rx = length (held c Receive);
+      tx = length (held c Send);
+      ready = c .ready;
+    }
 
-unfoldable pub ledgerOf : State → Ledger
-ledgerOf a = record { profile = a .profile; events = a .events; channels = map entry (a .chans) }
+unfoldable pub entriesOf : List Chan → List ℕ
+entriesOf [] = []
+entriesOf (c ∷ cs) = numbersOf (entry c) ++ entriesOf cs
+
+-- the ledger: the profile, the event list, and an entry for each channel
+unfoldable pub ledgerOf : State → List ℕ
+ledgerOf a =
+    a .profile ++
+    (listedNumber (a .events .available) ∷ listedNumber (a .events .status) ∷ entriesOf (a .chans))
 
 unfoldable pub picture : State → Session
-picture a = record { ledger = tableOf (ledgerOf a); pool = poolOf a }
+picture a = record { ledger = ledgerOf a; pool = poolOf a }
 
 -- the bytes of the first k regions: where the region after them begins
-unfoldable pub baseOf : List Channel → ℕ → ℕ
-baseOf es zero = 0
-baseOf [] (suc k) = 0
-baseOf (e ∷ es) (suc k) = 2 * space (e .grant) + baseOf es k
+unfoldable pub baseIn : List ℕ → ℕ → ℕ
+baseIn t zero = 0
+baseIn t (suc k) = baseIn t k + 2 * space (getD t (entryAt k) 0)
 
--- the channels, read back from their entries and the pool
-unfoldable pub chansIn : List Channel → List ℕ → List Chan
-chansIn [] p = []
-chansIn (e ∷ es) p =
+-- where a way begins in a region of that grant
+unfoldable pub offset : ℕ → Way → ℕ
+offset grant Receive = 0
+offset grant Send = space grant
+
+-- where the bytes of a channel and a way begin in the pool
+abbrev pub startIn : List ℕ → ChannelNumber → ℕ → Way → ℕ
+startIn t n grant w = baseIn t (n .0 - 1) + offset grant w
+
+-- a channel, read back from its entry and the bytes from its region on
+unfoldable pub chanFrom : Channel → List ℕ → Chan
+chanFrom e p =
     record {
       grant = e .grant;
       link = linkOf (e .link);
-      recv = take (e .rx) p;
-      send = take (e .tx) (drop (space (e .grant)) p);
+      receive = record { bytes = take (e .rx) p };
+      send = record { bytes = take (e .tx) (drop (space (e .grant)) p) };
       ready = e .ready;
-    } ∷
-    chansIn es (drop (2 * space (e .grant)) p)
+    }
 
--- the state that a ledger and a pool show
-unfoldable pub shown : Ledger → List ℕ → State
-shown l p = record { profile = l .profile; events = l .events; chans = chansIn (l .channels) p }
+-- so many channels, read back from their entries and their regions
+unfoldable pub chansFrom : ℕ → List ℕ → List ℕ → List Chan
+chansFrom zero t p = []
+chansFrom (suc k) t p = chanFrom (entryFrom t 0) p ∷ chansFrom k (drop entrySize t) (drop (2 * space (getD t 0 0)) p)
 
 -- the state that the record's two arrays show
-abbrev pub shownAt : List ℕ → List ℕ → State
-shownAt t p = shown (ledgerIn t) p
+unfoldable pub shown : List ℕ → List ℕ → State
+shown t p =
+    record {
+      profile = take profileSize t;
+      events = record { available = listed (getD t availableAt 0); status = listed (getD t statusAt 0) };
+      chans = chansFrom 7 (drop channelsAt t) p;
+    }
 
-unfoldable pub view : Session → State
-view s = shownAt (s .ledger) (s .pool)
+abbrev pub view : Session → State
+view s = shown (s .ledger) (s .pool)
 
--- the ledger and the pool are the picture of the state
-pub record Shows (a : State) (l : Ledger) (p : List ℕ) : Type 0 where
-  pub ledger : l ≡ ledgerOf a
+-- the two arrays are the picture of the state
+pub record Shows (a : State) (t p : List ℕ) : Type 0 where
+  pub ledger : t ≡ ledgerOf a
   pub pool : p ≡ poolOf a
 
--- the ledger and the pool are the picture of a sound state
-pub record GoodIn (l : Ledger) (p : List ℕ) : Type 0 where
-  pub sound : Sound (shown l p)
-  pub shows : Shows (shown l p) l p
+-- the two arrays are the picture of a sound state
+pub record GoodIn (t p : List ℕ) : Type 0 where
+  pub sound : Sound (shown t p)
+  pub shows : Shows (shown t p) t p
 
--- the same of the record's two arrays
-pub record ShowsAt (a : State) (t p : List ℕ) : Type 0 where
-  pub shows : Shows a (ledgerIn t) p
-  pub kept : Kept t
-
-pub record GoodAt (t p : List ℕ) : Type 0 where
-  pub good : GoodIn (ledgerIn t) p
-  pub kept : Kept t
-
--- a ledger of a good session
-pub record Belongs (t : List ℕ) : Type 0 where
-  pub pool : List ℕ
-  pub good : GoodAt t pool
-
--- a session that came from the start and the calls
+-- a record that is the picture of a sound state: the start makes such a record, and every call leaves one
 abbrev pub Good : Session → Type 0
-Good s = GoodAt (s .ledger) (s .pool)
+Good s = GoodIn (s .ledger) (s .pool)

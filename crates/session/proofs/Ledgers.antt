@@ -1,0 +1,174 @@
+-- The numbers of a state's ledger: what is read from them, and what another entry or another event list makes of them.
+-- Assumes nothing.
+use Prim.Native.Nat.{ℕ, zero, suc, _+_, _-_, _*_, _≤_, _<_}
+use mathlib.Core.Path.{_≡_, refl, sym, ap, _∙_}
+use mathlib.Core.Bool.{Bool, true, false}
+use mathlib.Core.List.{List, [], _∷_, _++_, append-assoc}
+use native.Mathlib.Omega.{arith}
+use native.Mathlib.Nat.{le-of-suc-le-suc, not-suc-le-zero, zero-add}
+use lib.ListN.{length, take, drop, getD, set, length-append, getD-replicate, List·getD-append}
+use lib.Seq.{set-at, take-at, drop-at, getD-at, take-suc, getD-append-add, take-append-add, drop-append-add, sets, sets-eq}
+use Rattle.rules.specs.declared.Events.{Events}
+use Rattle.rules.specs.declared.ChannelNumber.{ChannelNumber}
+use Rattle.rules.specs.Profile.{profileSize}
+use Rattle.rules.specs.State.{State, Chan, closed, chan, withChan, queue}
+use Rattle.rules.specs.Pool.{cellSize, cells, promisedTo}
+use Rattle.octets.specs.Parts.{pasted}
+use Rattle.session.specs.declared.Channel.{Channel}
+use Rattle.session.specs.Book.{availableAt, statusAt, channelsAt, entrySize, ledgerSize, entryAt, entryFrom, numbersOf, entryIn, withEntry, listed, listedNumber, withList}
+use Rattle.session.specs.Picture.{space, entry, entriesOf, ledgerOf, baseIn}
+use Rattle.session.specs.Changed.{withEvents}
+
+-- an entry put number by number
+pub entry-put : (t : List ℕ) (at : ℕ) (e : Channel) → at + entrySize ≤ length t →
+    set (set (set (set (set t at (e .grant)) (at + 1) (e .link)) (at + 2) (e .rx)) (at + 3) (e .tx)) (at + 4) (e .ready) ≡ pasted t at (numbersOf e)
+unfolding pasted
+entry-put t at e h =
+    let e1 : at + 1 ≡ suc at = omega arith in
+    let e2 : at + 2 ≡ suc (suc at) = omega arith in
+    let e3 : at + 3 ≡ suc (suc (suc at)) = omega arith in
+    let e4 : at + 4 ≡ suc (suc (suc (suc at))) = omega arith in
+    (λ i. set (set (set (set (set t at (e .grant)) (e1 i) (e .link)) (e2 i) (e .rx)) (e3 i) (e .tx)) (e4 i) (e .ready))
+    ∙ sets-eq (numbersOf e) t at h ∙ append-assoc (take at t) (numbersOf e) (drop (at + 5) t)
+
+-- the numbers of channels, one entry after the other
+entry-numbers : (cs : List Chan) (k j : ℕ) → j < entrySize → getD (entriesOf cs) (entrySize * k + j) 0 ≡ getD (numbersOf (entry (getD cs k closed))) j 0
+unfolding entriesOf entry closed queue
+entry-numbers [] k j h = sym (getD-replicate {A = ℕ} entrySize j 0 0 h)
+entry-numbers (c ∷ cs) zero j h =
+    ap (λ (i : ℕ). getD (numbersOf (entry c) ++ entriesOf cs) i 0) (zero-add j) ∙ List·getD-append (numbersOf (entry c)) (entriesOf cs) 0 j h
+entry-numbers (c ∷ cs) (suc k) j h =
+    ap (λ (i : ℕ). getD (numbersOf (entry c) ++ entriesOf cs) i 0) (let e : entrySize * suc k + j ≡ entrySize + (entrySize * k + j) = omega arith in e)
+    ∙ getD-append-add (numbersOf (entry c)) (entriesOf cs) (entrySize * k + j) 0 ∙ entry-numbers cs k j h
+
+length-entries : (cs : List Chan) → length (entriesOf cs) ≡ entrySize * length cs
+unfolding entriesOf
+length-entries [] = refl
+length-entries (c ∷ cs) = let ih = length-entries cs in omega arith
+
+entries-set :
+    (cs : List Chan) (k : ℕ) (d : Chan) → k < length cs →
+    take (entrySize * k) (entriesOf cs) ++ (numbersOf (entry d) ++ drop (entrySize * k + entrySize) (entriesOf cs)) ≡ entriesOf (set cs k d)
+unfolding entriesOf
+entries-set [] k d h = absurd (not-suc-le-zero h)
+entries-set (c ∷ cs) zero d h = refl
+entries-set (c ∷ cs) (suc k) d h =
+    let e = numbersOf (entry c) in
+    let r = entriesOf cs in
+    let p : take (entrySize * suc k) (e ++ r) ≡ e ++ take (entrySize * k) r =
+    ap (λ (j : ℕ). take j (e ++ r)) (let q : entrySize * suc k ≡ entrySize + entrySize * k = omega arith in q) ∙ take-append-add e r (entrySize * k) in
+    let s : drop (entrySize * suc k + entrySize) (e ++ r) ≡ drop (entrySize * k + entrySize) r =
+    ap (λ (j : ℕ). drop j (e ++ r)) (let q : entrySize * suc k + entrySize ≡ entrySize + (entrySize * k + entrySize) = omega arith in q)
+    ∙ drop-append-add e r (entrySize * k + entrySize) in
+    (λ i. p i ++ (numbersOf (entry d) ++ s i)) ∙ ap (λ (x : List ℕ). e ++ x) (entries-set cs k d (le-of-suc-le-suc h))
+
+cells-more : (cs : List Chan) (k : ℕ) → k < length cs → promisedTo (take (suc k) cs) ≡ promisedTo (take k cs) + 2 * cells (getD cs k closed .grant)
+unfolding promisedTo
+cells-more [] k h = absurd (not-suc-le-zero h)
+cells-more (c ∷ cs) zero h = omega arith
+cells-more (c ∷ cs) (suc k) h = let ih = cells-more cs k (le-of-suc-le-suc h) in omega arith
+
+listed-back : (b : Bool) → listed (listedNumber b) ≡ b
+listed-back true = refl
+listed-back false = refl
+
+module _ (a : State) (thirteen : length (a .profile) ≡ profileSize) where
+  abbrev first : ℕ
+  first = listedNumber (a .events .available)
+
+  abbrev second : ℕ
+  second = listedNumber (a .events .status)
+
+  -- what stands before the entries
+  abbrev front : List ℕ
+  front = a .profile ++ (first ∷ second ∷ [])
+
+  front-size : length front ≡ channelsAt
+  front-size = length-append (a .profile) (first ∷ second ∷ []) ∙ ap (λ (k : ℕ). k + 2) thirteen
+
+  parts : ledgerOf a ≡ front ++ entriesOf (a .chans)
+  unfolding ledgerOf
+  parts = sym (append-assoc (a .profile) (first ∷ second ∷ []) (entriesOf (a .chans)))
+
+  pub ledger-size : length (a .chans) ≡ 7 → length (ledgerOf a) ≡ ledgerSize
+  ledger-size seven =
+      ap length parts ∙ length-append front (entriesOf (a .chans)) ∙ (let n = length-entries (a .chans) in omega (arith, front-size))
+
+  pub entries-behind : drop channelsAt (ledgerOf a) ≡ entriesOf (a .chans)
+  entries-behind = ap (λ (t : List ℕ). drop channelsAt t) parts ∙ drop-at front (entriesOf (a .chans)) channelsAt front-size
+
+  pub profile-before : take profileSize (ledgerOf a) ≡ a .profile
+  unfolding ledgerOf
+  profile-before = take-at (a .profile) (first ∷ second ∷ entriesOf (a .chans)) profileSize thirteen
+
+  pub available-read : listed (getD (ledgerOf a) availableAt 0) ≡ a .events .available
+  unfolding ledgerOf
+  available-read =
+      ap listed (getD-at (a .profile) first (second ∷ entriesOf (a .chans)) 0 availableAt thirteen) ∙ listed-back (a .events .available)
+
+  pub status-read : listed (getD (ledgerOf a) statusAt 0) ≡ a .events .status
+  unfolding ledgerOf
+  status-read =
+      ap listed
+      (ap (λ (t : List ℕ). getD t statusAt 0) (sym (append-assoc (a .profile) (first ∷ []) (second ∷ entriesOf (a .chans))))
+      ∙ getD-at (a .profile ++ (first ∷ [])) second (entriesOf (a .chans)) 0 statusAt (length-append (a .profile) (first ∷ []) ∙ ap (λ (k : ℕ). k + 1) thirteen))
+      ∙ listed-back (a .events .status)
+
+  number-read : (k j at : ℕ) → j < entrySize → at ≡ entryAt k + j → getD (ledgerOf a) at 0 ≡ getD (numbersOf (entry (getD (a .chans) k closed))) j 0
+  number-read k j at h e =
+      let p : at ≡ length front + (entrySize * k + j) = omega (arith, front-size) in
+      (λ i. getD (parts i) (p i) 0) ∙ getD-append-add front (entriesOf (a .chans)) (entrySize * k + j) 0 ∙ entry-numbers (a .chans) k j h
+
+  -- the entry of a channel is read
+  pub entry-read : (n : ChannelNumber) → entryIn (ledgerOf a) n ≡ entry (chan a n)
+  unfolding chan entry
+  entry-read n =
+      let k = n .0 - 1 in
+      λ i.
+      record {
+        grant = number-read k 0 (entryAt k) (omega arith) (omega arith) i;
+        link = number-read k 1 (entryAt k + 1) (omega arith) refl i;
+        rx = number-read k 2 (entryAt k + 2) (omega arith) refl i;
+        tx = number-read k 3 (entryAt k + 3) (omega arith) refl i;
+        ready = number-read k 4 (entryAt k + 4) (omega arith) refl i;
+      }
+
+  grant-read : (k : ℕ) → getD (ledgerOf a) (entryAt k) 0 ≡ getD (a .chans) k closed .grant
+  unfolding entry
+  grant-read k = number-read k 0 (entryAt k) (omega arith) (omega arith)
+
+  -- the regions stand one after the other from the first cell on
+  pub base-read : (k : ℕ) → k ≤ length (a .chans) → baseIn (ledgerOf a) k ≡ cellSize * promisedTo (take k (a .chans))
+  unfolding baseIn promisedTo space
+  base-read zero h = refl
+  base-read (suc k) h =
+      let ih = base-read k (omega arith) in
+      let e : cells (getD (ledgerOf a) (entryAt k) 0) ≡ cells (getD (a .chans) k closed .grant) = ap cells (grant-read k) in
+      let m : promisedTo (take (suc k) (a .chans)) ≡ promisedTo (take k (a .chans)) + 2 * cells (getD (a .chans) k closed .grant) = cells-more (a .chans) k h in
+      omega arith
+
+  -- another entry in the place of a channel
+  pub entry-written : (n : ChannelNumber) (d : Chan) → n .0 - 1 < length (a .chans) → withEntry (ledgerOf a) n (entry d) ≡ ledgerOf (withChan a n d)
+  unfolding withEntry pasted withChan ledgerOf
+  entry-written n d h =
+      let k = n .0 - 1 in
+      let y = entriesOf (a .chans) in
+      let p : entryAt k ≡ length front + entrySize * k = omega (arith, front-size) in
+      let q : entryAt k + entrySize ≡ length front + (entrySize * k + entrySize) = omega (arith, front-size) in
+      (λ i. take (p i) (parts i) ++ (numbersOf (entry d) ++ drop (q i) (parts i)))
+      ∙ (λ i. take-append-add front y (entrySize * k) i ++ (numbersOf (entry d) ++ drop-append-add front y (entrySize * k + entrySize) i))
+      ∙ append-assoc front (take (entrySize * k) y) (numbersOf (entry d) ++ drop (entrySize * k + entrySize) y)
+      ∙ ap (λ (z : List ℕ). front ++ z) (entries-set (a .chans) k d h)
+      ∙ append-assoc (a .profile) (first ∷ second ∷ []) (entriesOf (set (a .chans) k d))
+
+  -- another event list
+  pub list-written : (e : Events) → withList (ledgerOf a) e ≡ ledgerOf (withEvents a e)
+  unfolding withList ledgerOf
+  list-written e =
+      let x = listedNumber (e .available) in
+      let y = listedNumber (e .status) in
+      let r = entriesOf (a .chans) in
+      ap (λ (l : List ℕ). set l statusAt y) (set-at (a .profile) first (second ∷ r) x availableAt thirteen)
+      ∙ ap (λ (l : List ℕ). set l statusAt y) (sym (append-assoc (a .profile) (x ∷ []) (second ∷ r)))
+      ∙ set-at (a .profile ++ (x ∷ [])) second r y statusAt (length-append (a .profile) (x ∷ []) ∙ ap (λ (j : ℕ). j + 1) thirteen)
+      ∙ append-assoc (a .profile) (x ∷ []) (y ∷ r)

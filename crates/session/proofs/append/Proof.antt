@@ -1,0 +1,67 @@
+-- `session::append` meets its contract: the law of the change, at what it calls.
+-- Assumes nothing.
+use Prim.Native.Nat.{_+_, _≤_}
+use native.Mathlib.Omega.{arith}
+use lib.ListN.{length}
+use denote.Ref.{now}
+use Rattle.rules.specs.Pool.{grantCap}
+use Rattle.session.specs.Picture.{startIn}
+use Rattle.session.specs.Changed.{heldIn}
+use Rattle.session.proofs.Facts.{bounds, appending, append-law}
+use borrow.Author.Needs.{needs}
+use Rattle.session.proofs.append.Statement.{statement}
+use Rattle.session.proofs.append.Tie as tie
+
+-- the bytes that come stand in the pool, behind those held
+facts : (s : tie.Start) → let a = s .args in
+    (startIn (now (a .ledger)) (a .n) (a .c .grant) (a .way) + heldIn (a .c) (a .way) + length (now (a .bytes)) ≤ length (now (a .pool))) ×
+    (heldIn (a .c) (a .way) + length (now (a .bytes)) ≤ grantCap)
+facts s = appending _ _ _ (s .pre .0 .0) (s .args .c) (s .args .way) _ (s .pre .0 .1) (s .pre .1)
+
+start-of-requires : tie.Need-start-of-requires
+start-of-requires c κs =
+    let s : tie.Start = search in
+    let b = bounds _ _ _ (s .pre .0 .0) in
+    (s .pre .0 .0 .low, s .pre .0 .0 .high, b .table)
+
+add-at : tie.Need-add-at
+add-at c =
+    let o : tie.After-start-of = search in
+    let s : tie.Start = search in
+    let b = bounds _ _ _ (s .pre .0 .0) in
+    let f = facts s in
+    omega (arith, o .start-of .ensures, c .held .ensures, b .size)
+
+put-requires : tie.Need-put-requires
+put-requires c κs =
+    let h : tie.After-held = search in
+    let o : tie.After-start-of = search in
+    let s : tie.Start = search in
+    let f = facts s in
+    omega (arith, o .start-of .ensures, h .held .ensures)
+
+more-requires : tie.Need-more-requires
+more-requires c κs =
+    let s : tie.Start = search in
+    let f = facts s in
+    omega arith
+
+put-entry-requires : tie.Need-put-entry-requires
+put-entry-requires c κs =
+    let s : tie.Start = search in
+    let b = bounds _ _ _ (s .pre .0 .0) in
+    (s .pre .0 .0 .low, s .pre .0 .0 .high, b .table)
+
+returns : tie.Need-returns
+returns c =
+    let m : tie.After-more = search in
+    let u : tie.After-put = search in
+    let h : tie.After-held = search in
+    let o : tie.After-start-of = search in
+    let s : tie.Start = search in
+    append-law _ _ _ (s .pre .0 .0) (s .args .c) _ (s .args .way) (now (s .args .bytes)) _ _ _ _ (s .pre .0 .1) (s .pre .1)
+    (h .held .ensures) (o .start-of .ensures) (m .more .ensures) (u .put .ensures) (c .put-entry .ensures)
+
+pub append-spec : {M : Type 1} → statement M
+append-spec =
+    tie.close (tie.spec start-of-requires (λ c κs. search needs) add-at put-requires more-requires put-entry-requires returns)
