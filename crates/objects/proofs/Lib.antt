@@ -1,5 +1,4 @@
 pub mod Reading
-pub mod Sizes
 pub mod Walking
 pub mod Writing
 pub mod Alike

@@ -1,24 +1,58 @@
--- One length and one object at a place, case by case.
+-- One tag, one length and one object at a place, case by case.
 -- Assumes nothing.
 use Prim.Native.Nat.{ℕ, _+_, _-_, _%_, _≤_, _<_}
 use mathlib.Core.Path.{_≡_, refl, sym, ap, subst, _∙_}
-use mathlib.Core.Bool.{Bool, true, false, not, _&&_}
-use mathlib.Core.List.{List, [], _∷_}
+use mathlib.Core.Bool.{Bool, _||_}
+use mathlib.Core.List.{List, _∷_}
 use native.Mathlib.Omega.{arith}
 use native.Mathlib.Numerals.{add-one}
 use lib.ListN.{length, take, drop, getD, length-drop, drop-of-length-le}
 use lib.Seq.{drop-cons, drop-drop}
 use lib.Dec.{eqb, leb}
 use borrow.Author.Tests.{lt-ltb, le-ltb, le-leb, lt-leb, eq-eqb, ne-eqb}
+use Rattle.rules.specs.declared.Ending.{Ending}
 use Rattle.rules.specs.declared.Ending.the-variants.{BadTag, BadLength, CutValue}
-use Rattle.rules.specs.Checks.{_⇒_else_}
-use Rattle.rules.specs.Frames.{LengthRead, len, noLength, longLength, lengthAt, ObjectRead, object, faulty, goodTag, valueAfter, objectAt}
+use Rattle.rules.specs.Frames.{tagAt, noTag, noLength, longLength, lengthAt, object, faulty, valueAfter, afterTag, objectAt}
 use Rattle.rules.proofs.Laws.{stop, skip}
-use Rattle.octets.specs.Parts.{part}
-use Rattle.objects.specs.Places.{Length, Stands}
+use Rattle.objects.specs.declared.Tagged.{Tagged}
+use Rattle.objects.specs.declared.Tagged.the-variants as tagged
+use Rattle.objects.specs.declared.Tagged.the-variants.{As}
+use Rattle.objects.specs.declared.Sized.{Sized}
+use Rattle.objects.specs.declared.Sized.the-variants.{By, Not}
+use Rattle.objects.specs.declared.Cursor.{Cursor}
+use Rattle.objects.specs.declared.Found.{Found}
+use Rattle.objects.specs.declared.Found.the-variants.{Object, Fault}
+use Rattle.objects.specs.Places.{Tag, Tags, Length, Measures, Stands, Meets}
 
 pub cons-at : (s : List ℕ) (at : ℕ) → at < length s → drop at s ≡ getD s at 0 ∷ drop (at + 1) s
 cons-at s at h = drop-cons s at 0 h ∙ ap (λ (k : ℕ). getD s at 0 ∷ drop k s) (sym (add-one at))
+
+-- the tag at a place
+module _ (s : List ℕ) (at : ℕ) where
+  pub tag-none : length s ≤ at → tagAt (drop at s) ≡ noTag
+  unfolding tagAt
+  tag-none h = ap tagAt (drop-of-length-le s h)
+
+  module _ (h : at < length s) where
+    abbrev t : ℕ
+    t = getD s at 0
+
+    by-byte : tagAt (drop at s) ≡ tagAt (t ∷ drop (at + 1) s)
+    by-byte = ap tagAt (cons-at s at h)
+
+    pub tag-zero : t % 0x80 ≡ 0 → tagAt (drop at s) ≡ noTag
+    unfolding tagAt
+    tag-zero e = by-byte ∙ stop _ _ _ (ap (λ (b : Bool). b || eqb (t % 0x80) 0x7F) (eq-eqb (t % 0x80) 0 e))
+
+    module _ (n₀ : t % 0x80 ≡ 0 → ⊥) where
+      pub tag-long : t % 0x80 ≡ 0x7F → tagAt (drop at s) ≡ noTag
+      unfolding tagAt
+      tag-long e = by-byte ∙ stop _ _ _ (λ i. ne-eqb (t % 0x80) 0 n₀ i || eq-eqb (t % 0x80) 0x7F e i)
+
+      pub tag-read : (t % 0x80 ≡ 0x7F → ⊥) → Tag s at (t % 0x80) (leb 0x80 t) (at + 1)
+      unfolding tagAt
+      tag-read n =
+          record { is = by-byte ∙ skip _ _ _ (λ i. ne-eqb (t % 0x80) 0 n₀ i || ne-eqb (t % 0x80) 0x7F n i); behind = omega arith }
 
 -- the length at a place
 module _ (s : List ℕ) (at : ℕ) where
@@ -33,7 +67,7 @@ module _ (s : List ℕ) (at : ℕ) where
     pub length-short : getD s at 0 < 0x80 → Length s at (getD s at 0) (at + 1)
     unfolding lengthAt
     length-short b =
-        record { is = by-first ∙ stop _ _ _ (lt-ltb (getD s at 0) 0x80 b); within = omega arith; behind = omega arith; byte = omega arith }
+        record { is = by-first ∙ stop _ _ _ (lt-ltb (getD s at 0) 0x80 b); within = omega arith; behind = omega arith }
 
     pub length-other : 0x80 ≤ getD s at 0 → (getD s at 0 ≡ 0x81 → ⊥) → lengthAt (drop at s) ≡ noLength
     unfolding lengthAt
@@ -53,65 +87,72 @@ module _ (s : List ℕ) (at : ℕ) where
     long-low b e n c = by-long b e ∙ ap longLength (cons-at s (at + 1) n) ∙ skip _ _ _ (lt-leb 0x80 (getD s (at + 1) 0) c)
 
     pub long-length :
-        0x80 ≤ getD s at 0 → getD s at 0 ≡ 0x81 → at + 1 < length s → 0x80 ≤ getD s (at + 1) 0 → getD s (at + 1) 0 < 256 →
+        0x80 ≤ getD s at 0 → getD s at 0 ≡ 0x81 → at + 1 < length s → 0x80 ≤ getD s (at + 1) 0 →
         Length s at (getD s (at + 1) 0) (at + 1 + 1)
     unfolding longLength
-    long-length b e n c u =
+    long-length b e n c =
         record {
           is = by-long b e ∙ ap longLength (cons-at s (at + 1) n) ∙ stop _ _ _ (le-leb 0x80 (getD s (at + 1) 0) c);
           within = omega arith;
           behind = omega arith;
-          byte = u;
         }
+
+-- what the readers told, by the case that it is
+pub tag-told : {s : List ℕ} {at : ℕ} {r : Tagged} {number : ℕ} {flag : Bool} {next : ℕ} → r ≡ As number flag next → Tags r s at → Tag s at number flag next
+tag-told {s} {at} e w = subst (λ (x : Tagged). Tags x s at) e w
+
+pub tag-missed : (s : List ℕ) (at : ℕ) {r : Tagged} → r ≡ tagged.Not → Tags r s at → tagAt (drop at s) ≡ noTag
+tag-missed s at e w = subst (λ (x : Tagged). Tags x s at) e w
+
+pub length-told : {s : List ℕ} {at : ℕ} {r : Sized} {n start : ℕ} → r ≡ By n start → Measures r s at → Length s at n start
+length-told {s} {at} e w = subst (λ (x : Sized). Measures x s at) e w
+
+pub length-within : (s : List ℕ) (at : ℕ) {r : Sized} {n start : ℕ} → r ≡ By n start → Measures r s at → start ≤ length s
+length-within s at e w = length-told e w .within
+
+pub length-missed : (s : List ℕ) (at : ℕ) {r : Sized} → r ≡ Not → Measures r s at → lengthAt (drop at s) ≡ noLength
+length-missed s at e w = subst (λ (x : Sized). Measures x s at) e w
+
+pub object-told :
+    {s : List ℕ} {at : ℕ} {r : Found} {number : ℕ} {flag : Bool} {start n : ℕ} {next : Cursor} → r ≡ Object number flag start n next → Meets r s at →
+    Stands s at number flag start n (next .at)
+object-told {s} {at} e w = subst (λ (x : Found). Meets x s at) e w
+
+pub object-missed : (s : List ℕ) (at : ℕ) {r : Found} {e : Ending} → r ≡ Fault e → Meets r s at → objectAt (drop at s) ≡ faulty e
+object-missed s at e w = subst (λ (x : Found). Meets x s at) e w
 
 -- the object at a place
 module _ (s : List ℕ) (at : ℕ) where
-  pub object-none : length s ≤ at → objectAt (drop at s) ≡ faulty BadTag
-  unfolding objectAt
-  object-none h = ap objectAt (drop-of-length-le s h)
+  pub object-untagged : tagAt (drop at s) ≡ noTag → objectAt (drop at s) ≡ faulty BadTag
+  unfolding objectAt afterTag
+  object-untagged e = ap afterTag e
 
-  module _ (h : at < length s) where
-    abbrev t : ℕ
-    t = getD s at 0
+  module _ {number : ℕ} {flag : Bool} {sized : ℕ} (t : Tag s at number flag sized) where
+    by-length : objectAt (drop at s) ≡ valueAfter number flag (lengthAt (drop sized s))
+    unfolding objectAt afterTag
+    by-length = ap afterTag (t .is)
 
-    by-tag : objectAt (drop at s) ≡ objectAt (t ∷ drop (at + 1) s)
-    by-tag = ap objectAt (cons-at s at h)
+    pub object-unsized : lengthAt (drop sized s) ≡ noLength → objectAt (drop at s) ≡ faulty BadLength
+    unfolding valueAfter
+    object-unsized e = by-length ∙ ap (valueAfter number flag) e
 
-    pub object-zero : t % 128 ≡ 0 → objectAt (drop at s) ≡ faulty BadTag
-    unfolding objectAt goodTag
-    object-zero e = by-tag ∙ skip _ _ _ (ap (λ (b : Bool). not b && not (eqb (t % 128) 0x7F)) (eq-eqb (t % 128) 0 e))
-
-    pub object-long : (t % 128 ≡ 0 → ⊥) → t % 128 ≡ 127 → objectAt (drop at s) ≡ faulty BadTag
-    unfolding objectAt goodTag
-    object-long n e = by-tag ∙ skip _ _ _ (λ i. not (ne-eqb (t % 128) 0 n i) && not (eq-eqb (t % 128) 0x7F e i))
-
-    by-length : (t % 128 ≡ 0 → ⊥) → (t % 128 ≡ 127 → ⊥) → objectAt (drop at s) ≡ valueAfter t (lengthAt (drop (at + 1) s))
-    unfolding objectAt goodTag
-    by-length n m = by-tag ∙ stop _ _ _ (λ i. not (ne-eqb (t % 128) 0 n i) && not (ne-eqb (t % 128) 0x7F m i))
-
-    module _ (n₀ : t % 128 ≡ 0 → ⊥) (n₁₂₇ : t % 128 ≡ 127 → ⊥) where
-      pub object-unsized : lengthAt (drop (at + 1) s) ≡ noLength → objectAt (drop at s) ≡ faulty BadLength
+    module _ {n start : ℕ} (l : Length s sized n start) where
+      pub object-cut : length s - start < n → objectAt (drop at s) ≡ faulty CutValue
       unfolding valueAfter
-      object-unsized e = by-length n₀ n₁₂₇ ∙ ap (valueAfter t) e
+      object-cut k =
+          by-length ∙ ap (valueAfter number flag) (l .is)
+          ∙ stop _ _ _ (lt-ltb (length (drop start s)) n (let e = length-drop start s in omega arith))
 
-      module _ (n start : ℕ) (l : Length s (at + 1) n start) where
-        pub object-cut : length s - start < n → objectAt (drop at s) ≡ faulty CutValue
-        unfolding valueAfter
-        object-cut k =
-            by-length n₀ n₁₂₇ ∙ ap (valueAfter t) (l .is) ∙ stop _ _ _ (lt-ltb (length (drop start s)) n (let e = length-drop start s in omega arith))
-
-        pub object-stands : n ≤ length s - start → t < 256 → Stands s at t start n (start + n)
-        unfolding valueAfter
-        object-stands k u =
-            let e : n ≡ start + n - start = omega arith in
-            record {
-              is =
-                  by-length n₀ n₁₂₇ ∙ ap (valueAfter t) (l .is)
-                  ∙ skip _ _ _ (le-ltb (length (drop start s)) n (let d = length-drop start s in omega arith))
-                  ∙ (λ i. object (record { number = t % 128; flag = leb 128 t; value = take (e i) (drop start s) }) (drop-drop n start s i));
-              ends = refl;
-              within = omega (arith, l .within);
-              behind = omega (arith, l .behind);
-              inside = h;
-              byte = u;
-            }
+      pub object-stands : n ≤ length s - start → Stands s at number flag start n (start + n)
+      unfolding valueAfter
+      object-stands k =
+          let e : n ≡ start + n - start = omega arith in
+          record {
+            is =
+                by-length ∙ ap (valueAfter number flag) (l .is)
+                ∙ skip _ _ _ (le-ltb (length (drop start s)) n (let d = length-drop start s in omega arith))
+                ∙ (λ i. object (record { number = number; flag = flag; value = take (e i) (drop start s) }) (drop-drop n start s i));
+            ends = refl;
+            within = omega (arith, l .within);
+            behind = omega (arith, l .behind, t .behind);
+          }

@@ -2,7 +2,7 @@
 -- Assumes nothing.
 use mathlib.Core.Path.{refl, sym, _∙_}
 use Rattle.outcomes.specs.Determined.{Determined}
-use Rattle.objects.proofs.Alike.{sized-alike, found-alike, where-alike, same-place}
+use Rattle.objects.proofs.Alike.{sized-alike, found-alike, same-place}
 use Rattle.objects.proofs.length_at.Kinds as length-at-kinds
 use Rattle.objects.proofs.length_at.Reads as length-at-reads
 use Rattle.objects.proofs.write_length.Kinds as write-length-kinds
@@ -11,8 +11,6 @@ use Rattle.objects.proofs.Cursor.object.Kinds as object-kinds
 use Rattle.objects.proofs.Cursor.object.Reads as object-reads
 use Rattle.objects.proofs.walk.Kinds as walk-kinds
 use Rattle.objects.proofs.walk.Reads as walk-reads
-use Rattle.objects.proofs.find.Kinds as find-kinds
-use Rattle.objects.proofs.find.Reads as find-reads
 
 pub length-at-settled : Determined 1 length-at-kinds.ps length-at-kinds.r length-at-reads.Pre length-at-reads.Post
 length-at-settled κs a _ x y v w p q = (sized-alike x y _ _ p q, refl)
@@ -25,6 +23,3 @@ object-settled κs a _ x y v w p q = (found-alike x y _ _ p q, refl)
 
 pub walk-settled : Determined 1 walk-kinds.ps walk-kinds.r walk-reads.Pre walk-reads.Post
 walk-settled κs a _ x y v w p q = (λ i. record { ending = (p .0 ∙ sym (q .0)) i; at = same-place _ _ _ _ (p .1) (q .1) i }, refl)
-
-pub find-settled : Determined 1 find-kinds.ps find-kinds.r find-reads.Pre find-reads.Post
-find-settled κs a _ x y v w p q = (where-alike x y _ _ p q, refl)

@@ -1,24 +1,20 @@
 -- The loops over objects: what a walk from here says of the whole walk.
 -- Assumes nothing.
-use Prim.Native.Nat.{ℕ, _+_, _%_, _≤_, _<_}
-use mathlib.Core.Path.{_≡_, refl, sym, ap, subst, _∙_}
-use mathlib.Core.Bool.{Bool, true, false, _||_}
+use Prim.Native.Nat.{ℕ, suc, _+_, _-_, _≤_, _<_}
+use mathlib.Core.Path.{_≡_, refl, sym, ap, _∙_}
+use mathlib.Core.Bool.{Bool}
 use mathlib.Core.List.{List, [], _∷_}
 use native.Mathlib.Omega.{arith}
 use lib.ListN.{length, drop, getD, length-drop, drop-of-length-le}
-use borrow.Author.Tests.{eq-eqb, ne-eqb}
+use lib.Dec.{eqb}
 use Rattle.rules.specs.declared.Ending.{Ending}
 use Rattle.rules.specs.declared.Ending.the-variants.{End}
-use Rattle.rules.specs.Checks.{member, some-of}
-use Rattle.rules.specs.Frames.{Object, faulty, objectAt, Walk, walk, lengthBytes, objectBytes}
-use Rattle.rules.specs.Table.{present, valueOf}
-use Rattle.rules.proofs.Laws.{stop, skip}
+use Rattle.rules.specs.Checks.{_⇒_else_}
+use Rattle.rules.specs.Frames.{ObjectRead, faulty, objectAt, Walk, walk}
 use Rattle.rules.proofs.Walks.{walk-end, walk-fault, walk-object}
-use Rattle.objects.specs.declared.Where.{Where}
-use Rattle.objects.specs.declared.Where.the-variants.{At}
-use Rattle.objects.specs.Places.{Stands, Finds, placeAmong, placeOf}
+use Rattle.octets.proofs.Copies.{length-part}
+use Rattle.objects.specs.Places.{objectOf, Stands, placeIn, placeUpTo}
 use Rattle.objects.proofs.Reading.{cons-at}
-use Rattle.objects.proofs.Sizes.{objectOf, value-starts, object-ends}
 
 -- the walk from a place: at the end, at a fault, at an object
 pub here-end : (s : List ℕ) (at : ℕ) → length s ≤ at → walk (drop at s) ≡ record { objects = []; ending = End; rest = [] }
@@ -32,12 +28,16 @@ here-fault s at e h f =
     ∙ ap (λ (r : List ℕ). record { objects = []; ending = e; rest = r }) (sym k)
 
 pub here-object :
-    (s : List ℕ) (at tag start n next : ℕ) → Stands s at tag start n next →
+    {s : List ℕ} {at number : ℕ} {flag : Bool} {start n next : ℕ} → Stands s at number flag start n next →
     walk (drop at s) ≡
-    record { objects = objectOf s tag start n ∷ walk (drop next s) .objects; ending = walk (drop next s) .ending; rest = walk (drop next s) .rest }
-here-object s at tag start n next st =
-    let k = cons-at s at (st .inside) in
-    ap walk k ∙ walk-object (getD s at 0) (drop (at + 1) s) (objectOf s tag start n) (drop next s) (ap objectAt (sym k) ∙ st .is)
+    record { objects = objectOf s number flag start n ∷ walk (drop next s) .objects; ending = walk (drop next s) .ending; rest = walk (drop next s) .rest }
+here-object {s} {at} {next = next} st =
+    let k = cons-at s at (omega (arith, st .behind, st .ends, st .within)) in
+    ap walk k ∙ walk-object (getD s at 0) (drop (at + 1) s) _ (drop next s) (ap objectAt (sym k) ∙ st .is)
+
+-- less is left behind an object
+pub nearer : {s : List ℕ} {at number : ℕ} {flag : Bool} {start n next : ℕ} → Stands s at number flag start n next → length s - next < length s - at
+nearer st = omega (arith, st .behind, st .ends, st .within)
 
 -- the walk ends as the walk from here does
 pub record Ends (s : List ℕ) (at : ℕ) : Type 0 where
@@ -48,9 +48,9 @@ pub record Ends (s : List ℕ) (at : ℕ) : Type 0 where
 pub ends-start : (s : List ℕ) → Ends s 0
 ends-start s = record { within = omega arith; ending = refl; rest = refl }
 
-pub ends-on : (s : List ℕ) (at tag start n next : ℕ) → Ends s at → Stands s at tag start n next → Ends s next
-ends-on s at tag start n next w st =
-    let k = here-object s at tag start n next st in
+pub ends-on : {s : List ℕ} {at number : ℕ} {flag : Bool} {start n next : ℕ} → Ends s at → Stands s at number flag start n next → Ends s next
+ends-on w st =
+    let k = here-object st in
     record {
       within = st .within;
       ending = w .ending ∙ ap (λ (x : Walk). x .ending) k;
@@ -75,74 +75,20 @@ ends-fault s at e w h f =
     place : walk s .rest ≡ drop at s → at + length (walk s .rest) ≡ length s
     place q = let l = ap length q ∙ length-drop at s in omega arith
 
--- no object of the number stands before here
-pub record Seeks (s : List ℕ) (number at : ℕ) : Type 0 where
-  pub within : at ≤ length s
-  pub there : present number (walk s .objects) ≡ present number (walk (drop at s) .objects)
-  pub value : valueOf number (walk s .objects) ≡ valueOf number (walk (drop at s) .objects)
-  pub place : placeOf number s ≡ at + placeOf number (drop at s)
+-- where the value of the first object of a number starts, from a place on: here, or behind the object that stands here
+pub place-here :
+    {s : List ℕ} {at m : ℕ} {flag : Bool} {start n next : ℕ} → Stands s at m flag start n next → (number fuel : ℕ) →
+    placeUpTo number (suc fuel) (drop at s) ≡ (eqb number m ⇒ start - at else next - at + placeUpTo number fuel (drop next s))
+unfolding placeUpTo placeIn
+place-here {s} {at} {m} {flag} {start} {n} {next} st number fuel =
+    let before = taken (length s) at next _ _ (length-drop at s) (length-drop next s) (st .within) in
+    let value = length-part start (start + n) s (omega (arith, st .ends, st .within)) in
+    ap (λ (r : ObjectRead). placeIn number (drop at s) r (placeUpTo number fuel)) (st .is)
+    ∙ (λ i. eqb number m ⇒ before i - value i else before i + placeUpTo number fuel (drop next s))
+    ∙ ap (λ (k : ℕ). eqb number m ⇒ k else next - at + placeUpTo number fuel (drop next s)) (rest at start n next (st .ends))
+  where
+    taken : (l a b x y : ℕ) → x ≡ l - a → y ≡ l - b → b ≤ l → x - y ≡ b - a
+    taken l a b x y e f h = omega arith
 
-pub seeks-start : (s : List ℕ) (number : ℕ) → Seeks s number 0
-seeks-start s number = record { within = omega arith; there = refl; value = refl; place = omega arith }
-
-pub present-first : (n : ℕ) (o : Object) (os : List Object) → n ≡ o .number → present n (o ∷ os) ≡ true
-unfolding present member some-of
-present-first n o os e = ap (λ (b : Bool). b || present n os) (eq-eqb n (o .number) e)
-
-pub present-later : (n : ℕ) (o : Object) (os : List Object) → (n ≡ o .number → ⊥) → present n (o ∷ os) ≡ present n os
-unfolding present member some-of
-present-later n o os e = ap (λ (b : Bool). b || present n os) (ne-eqb n (o .number) e)
-
-pub value-first : (n : ℕ) (o : Object) (os : List Object) → n ≡ o .number → valueOf n (o ∷ os) ≡ o .value
-unfolding valueOf
-value-first n o os e = stop _ _ _ (eq-eqb n (o .number) e)
-
-pub value-later : (n : ℕ) (o : Object) (os : List Object) → (n ≡ o .number → ⊥) → valueOf n (o ∷ os) ≡ valueOf n os
-unfolding valueOf
-value-later n o os e = skip _ _ _ (ne-eqb n (o .number) e)
-
-place-first : (n : ℕ) (o : Object) (os : List Object) → n ≡ o .number → placeAmong n (o ∷ os) ≡ 1 + length (lengthBytes (length (o .value)))
-unfolding placeAmong
-place-first n o os e = stop _ _ _ (eq-eqb n (o .number) e)
-
-place-later : (n : ℕ) (o : Object) (os : List Object) → (n ≡ o .number → ⊥) → placeAmong n (o ∷ os) ≡ length (objectBytes o) + placeAmong n os
-unfolding placeAmong
-place-later n o os e = skip _ _ _ (ne-eqb n (o .number) e)
-
-module _ (s : List ℕ) (number at : ℕ) (w : Seeks s number at) where
-  pub seeks-end : length s ≤ at → present number (walk s .objects) ≡ false
-  unfolding present member some-of
-  seeks-end h = w .there ∙ ap (λ (x : Walk). present number (x .objects)) (here-end s at h)
-
-  pub seeks-fault : (e : Ending) → at < length s → objectAt (drop at s) ≡ faulty e → present number (walk s .objects) ≡ false
-  unfolding present member some-of
-  seeks-fault e h f = w .there ∙ ap (λ (x : Walk). present number (x .objects)) (here-fault s at e h f)
-
-  module _ (tag start n next : ℕ) (st : Stands s at tag start n next) where
-    pub seeks-found : tag % 128 ≡ number → Finds (At start n) s number
-    seeks-found e =
-        let k = here-object s at tag start n next st in
-        let here = ap (λ (x : Walk). placeAmong number (x .objects)) k ∙ place-first number _ _ (sym e) in (
-          record {
-            there = w .there ∙ ap (λ (x : Walk). present number (x .objects)) k ∙ present-first number _ _ (sym e);
-            is = w .value ∙ ap (λ (x : Walk). valueOf number (x .objects)) k ∙ value-first number _ _ (sym e);
-            within = omega (arith, st .ends, st .within);
-          },
-          omega (arith, value-starts s at tag start n next st, w .place, here),
-        )
-
-    pub seeks-on : (tag % 128 ≡ number → ⊥) → Seeks s number next
-    seeks-on e =
-        let k = here-object s at tag start n next st in
-        record {
-          within = st .within;
-          there = w .there ∙ ap (λ (x : Walk). present number (x .objects)) k ∙ present-later number _ _ (λ q. e (sym q));
-          value = w .value ∙ ap (λ (x : Walk). valueOf number (x .objects)) k ∙ value-later number _ _ (λ q. e (sym q));
-          place =
-              let here = ap (λ (x : Walk). placeAmong number (x .objects)) k ∙ place-later number _ _ (λ q. e (sym q)) in
-              omega (arith, object-ends s at tag start n next st, w .place, here);
-        }
-
--- what was found, of a number that is another one's name
-pub found-as : {r x : Where} (s : List ℕ) {k m : ℕ} → r ≡ x → k ≡ m → Finds r s k → Finds x s m
-found-as {r} s {m = m} e q w = subst (λ (y : Where). Finds y s m) e (subst (λ (j : ℕ). Finds r s j) q w)
+    rest : (a b n c : ℕ) → c ≡ b + n → c - a - (b + n - b) ≡ b - a
+    rest a b n c e = omega arith

@@ -1,64 +1,68 @@
 -- What the readers find at places, tied to the values of the rules.
-use Prim.Native.Nat.{ℕ, _+_, _%_, _≤_, _<_}
+use Prim.Native.Nat.{ℕ, zero, suc, _+_, _-_, _≤_, _<_}
 use mathlib.Core.Path.{_≡_}
-use mathlib.Core.Bool.{true, false}
-use mathlib.Core.List.{List, [], _∷_}
+use mathlib.Core.Bool.{Bool}
+use mathlib.Core.List.{List}
 use lib.ListN.{length, drop}
-use lib.Dec.{leb, eqb}
+use lib.Dec.{eqb}
 use Rattle.rules.specs.Checks.{_⇒_else_}
 use Rattle.rules.specs.Frames as frames
-use Rattle.rules.specs.Frames.{lengthAt, len, noLength, lengthBytes, objectAt, object, faulty, walk, objectBytes}
-use Rattle.rules.specs.Table.{present, valueOf}
+use Rattle.rules.specs.Frames.{tagAt, tag, noTag, lengthAt, len, noLength, ObjectRead, objectAt, object, faulty}
 use Rattle.octets.specs.Parts.{part}
+use Rattle.objects.specs.declared.Tagged.{Tagged}
+use Rattle.objects.specs.declared.Tagged.the-variants as tagged
 use Rattle.objects.specs.declared.Sized.{Sized}
 use Rattle.objects.specs.declared.Sized.the-variants.{By, Not}
-use Rattle.objects.specs.declared.Cursor.{Cursor}
 use Rattle.objects.specs.declared.Found.{Found}
 use Rattle.objects.specs.declared.Found.the-variants.{Object, Fault}
-use Rattle.objects.specs.declared.Where.{Where}
-use Rattle.objects.specs.declared.Where.the-variants.{At, Nowhere}
+
+-- a tag of this number and flag at `at`; its length stands at next
+pub record Tag (s : List ℕ) (at number : ℕ) (flag : Bool) (next : ℕ) : Type 0 where
+  pub is : tagAt (drop at s) ≡ tag number flag (drop next s)
+  pub behind : at < next
+
+abbrev pub Tags : Tagged → List ℕ → ℕ → Type 0
+Tags (tagged.As number flag next) s at = Tag s at number flag next
+Tags tagged.Not s at = tagAt (drop at s) ≡ noTag
 
 -- a length of n at `at`; what it counts starts at start
 pub record Length (s : List ℕ) (at n start : ℕ) : Type 0 where
   pub is : lengthAt (drop at s) ≡ len n (drop start s)
   pub within : start ≤ length s
   pub behind : at < start
-  pub byte : n < 256
 
 abbrev pub Measures : Sized → List ℕ → ℕ → Type 0
 Measures (By n start) s at = Length s at n start
 Measures Not s at = lengthAt (drop at s) ≡ noLength
 
--- an object at `at`: its tag, the n bytes of its value from start on, and the next place behind it
-pub record Stands (s : List ℕ) (at tag start n next : ℕ) : Type 0 where
-  pub is : objectAt (drop at s) ≡ object (record { number = tag % 128; flag = leb 128 tag; value = part start (start + n) s }) (drop next s)
+-- the object of this number and flag whose value is the n bytes from start on
+abbrev pub objectOf : List ℕ → ℕ → Bool → ℕ → ℕ → frames.Object
+objectOf s number flag start n = record { number = number; flag = flag; value = part start (start + n) s }
+
+-- it stands at `at`, and next is the place behind it
+pub record Stands (s : List ℕ) (at number : ℕ) (flag : Bool) (start n next : ℕ) : Type 0 where
+  pub is : objectAt (drop at s) ≡ object (objectOf s number flag start n) (drop next s)
   pub ends : next ≡ start + n
   pub within : next ≤ length s
   pub behind : at + 2 ≤ start
-  pub inside : at < length s
-  pub byte : tag < 256
 
 abbrev pub Meets : Found → List ℕ → ℕ → Type 0
-Meets (Object tag start n next) s at = Stands s at tag start n (next .at)
+Meets (Object number flag start n next) s at = Stands s at number flag start n (next .at)
 Meets (Fault e) s at = objectAt (drop at s) ≡ faulty e
 
--- where the value of the first object of a number starts: behind the objects before it, its tag and its length
-unfoldable pub placeAmong : ℕ → List frames.Object → ℕ
-placeAmong number [] = 0
-placeAmong number (o ∷ os) =
-    let k = placeAmong number os in
-    eqb number (o .number) ⇒ 1 + length (lengthBytes (length (o .value))) else length (objectBytes o) + k
+-- where the value of the first object of a number starts: behind the bytes that neither it nor what stands after it has
+unfoldable pub placeIn : ℕ → List ℕ → ObjectRead → (List ℕ → ℕ) → ℕ
+placeIn number s (faulty e) k = 0
+placeIn number s (object o r) k =
+    let before = length s - length r in
+    let later = k r in
+    eqb number (o .number) ⇒ before - length (o .value) else before + later
 
--- among the objects of the walk
+-- over at most so many objects
+unfoldable pub placeUpTo : ℕ → ℕ → List ℕ → ℕ
+placeUpTo number zero s = 0
+placeUpTo number (suc n) s = placeIn number s (objectAt s) (placeUpTo number n)
+
+-- bytes are never fewer than objects
 abbrev pub placeOf : ℕ → List ℕ → ℕ
-placeOf number s = placeAmong number (walk s .objects)
-
--- the first object of a number stands there, or there is none
-pub record First (s : List ℕ) (number start n : ℕ) : Type 0 where
-  pub there : present number (walk s .objects) ≡ true
-  pub is : valueOf number (walk s .objects) ≡ part start (start + n) s
-  pub within : start + n ≤ length s
-
-abbrev pub Finds : Where → List ℕ → ℕ → Type 0
-Finds (At start n) s number = First s number start n × (start ≡ placeOf number s)
-Finds Nowhere s number = present number (walk s .objects) ≡ false
+placeOf number s = placeUpTo number (length s) s

@@ -1,4 +1,4 @@
-// Objects at places of a byte slice: one object, the walk to the first fault or the end, finding an object, and writing a tag and a length.
+// Objects at places of a byte slice: one object, the walk to the first fault or the end, and writing a tag and a length.
 use octets;
 use rules::Ending;
 ghost use mathlib.Core.Path.{_≡_};
@@ -7,7 +7,13 @@ ghost use Prim.Native.Nat.{_+_, _≤_};
 ghost use lib.ListN.{length};
 ghost use Rattle.octets.specs.Parts.{pasted};
 ghost use Rattle.rules.specs.Frames.{lengthBytes, walk};
-ghost use Rattle.objects.specs.Places.{Measures, Meets, Finds};
+ghost use Rattle.objects.specs.Places.{Tags, Measures, Meets};
+
+// A tag at a place: its number, its flag, and where its length stands.
+enum Tagged {
+    As(u16, bool, usize),
+    Not,
+}
 
 // A length at a place: how many bytes it says, and where they start.
 pub enum Sized {
@@ -20,9 +26,9 @@ pub struct Cursor {
     pub at: usize,
 }
 
-// What stands at a cursor: an object, as its tag, where its value starts, how long it is and the cursor behind it; or a fault.
+// What stands at a cursor: an object, as its number, its flag, where its value starts, how long it is and the cursor behind it; or a fault.
 pub enum Found {
-    Object(u8, usize, usize, Cursor),
+    Object(u16, bool, usize, usize, Cursor),
     Fault(Ending),
 }
 
@@ -32,10 +38,22 @@ pub struct Stop {
     pub at: usize,
 }
 
-// Where the value of an object stands, and how long it is.
-pub enum Where {
-    At(usize, usize),
-    Nowhere,
+// The tag at `at`: the top bit is the flag, the low seven bits the number; no number is 0 or 127.
+fn tag_at(s: &[u8], at: usize) -> Tagged
+    ensures { λ r. ⌜ Tags r (now (s .entry)) at ⌝ }
+{
+    if s.len() <= at {
+        return Tagged::Not;
+    }
+    let b = s[at];
+    let number = b % 0x80;
+    if number == 0 {
+        return Tagged::Not;
+    }
+    if number == 0x7F {
+        return Tagged::Not;
+    }
+    Tagged::As(number as u16, 0x80 <= b, at + 1)
 }
 
 // The length at `at`: one byte 00 to 7F, or 81 and a byte 80 to FF.
@@ -84,24 +102,15 @@ impl Cursor {
     pub fn object(self, s: &[u8]) -> Found
         ensures { λ r. ⌜ Meets r (now (s .entry)) (self .at) ⌝ }
     {
-        let at = self.at;
-        if s.len() <= at {
+        let Tagged::As(number, flag, sized) = tag_at(s, self.at) else {
             return Found::Fault(Ending::BadTag);
-        }
-        let tag = s[at];
-        let number = tag % 128;
-        if number == 0 {
-            return Found::Fault(Ending::BadTag);
-        }
-        if number == 127 {
-            return Found::Fault(Ending::BadTag);
-        }
-        match length_at(s, at + 1) {
+        };
+        match length_at(s, sized) {
             Sized::By(len, start) => {
                 if s.len() - start < len {
                     return Found::Fault(Ending::CutValue);
                 }
-                Found::Object(tag, start, len, Cursor { at: start + len })
+                Found::Object(number, flag, start, len, Cursor { at: start + len })
             }
             Sized::Not => Found::Fault(Ending::BadLength),
         }
@@ -123,30 +132,8 @@ pub fn walk(s: &[u8]) -> Stop
             };
         }
         match c.object(s) {
-            Found::Object(_, _, _, next) => c = next,
+            Found::Object(_, _, _, _, next) => c = next,
             Found::Fault(ending) => break Stop { ending, at },
-        }
-    }
-}
-
-// The first object of a number among those of the walk.
-pub fn find(s: &[u8], number: u8) -> Where
-    ensures { λ r. ⌜ Finds r (now (s .entry)) number ⌝ }
-{
-    let mut c = Cursor { at: 0 };
-    loop {
-        let at = c.at;
-        if s.len() <= at {
-            break Where::Nowhere;
-        }
-        match c.object(s) {
-            Found::Object(tag, start, len, next) => {
-                if tag % 128 == number {
-                    break Where::At(start, len);
-                }
-                c = next;
-            }
-            Found::Fault(_) => break Where::Nowhere,
         }
     }
 }
