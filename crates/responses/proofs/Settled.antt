@@ -1,8 +1,7 @@
 -- Each contract of the responses settles its outcome.
 -- Assumes nothing.
-use mathlib.Core.List.{[]}
 use Rattle.outcomes.specs.Determined.{Determined}
-use Rattle.responses.proofs.Alike.{count-alike, out-alike, bearer-back}
+use Rattle.responses.proofs.Alike.{count-alike, out-alike}
 use Rattle.responses.proofs.tell_result.Kinds as tell-result-kinds
 use Rattle.responses.proofs.tell_result.Reads as tell-result-reads
 use Rattle.responses.proofs.tell_problem.Kinds as tell-problem-kinds
@@ -29,9 +28,7 @@ pub tell-received-settled : Determined 2 tell-received-kinds.ps tell-received-ki
 tell-received-settled κs a _ x y v w p q = (count-alike p q, λ i. (out-alike p q i, v .1))
 
 pub tell-opened-settled : Determined 2 tell-opened-kinds.ps tell-opened-kinds.r tell-opened-reads.Pre tell-opened-reads.Post
-tell-opened-settled κs a h x y v w p q =
-    let e = bearer-back _ (h .3) in
-    (count-alike (p _ e) (q _ e), λ i. (out-alike (p _ e) (q _ e) i, v .1))
+tell-opened-settled κs a _ x y v w p q = (count-alike p q, λ i. (out-alike p q i, v .1))
 
 pub tell-statuses-settled : Determined 2 tell-statuses-kinds.ps tell-statuses-kinds.r tell-statuses-reads.Pre tell-statuses-reads.Post
-tell-statuses-settled κs a _ x y v w p q = (count-alike (p []) (q []), λ i. (out-alike (p []) (q []) i, v .1))
+tell-statuses-settled κs a _ x y v w p q = (count-alike p q, λ i. (out-alike p q i, v .1))

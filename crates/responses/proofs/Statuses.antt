@@ -1,6 +1,6 @@
 -- The statuses of the open channels, one behind the other.
 -- Assumes nothing.
-use Prim.Native.Nat.{ℕ, zero, suc, _+_, _*_, _≤_, _<_}
+use Prim.Native.Nat.{ℕ, zero, suc, _+_, _-_, _*_, _≤_, _<_}
 use mathlib.Core.Path.{_≡_, refl, sym, ap, subst, _∙_}
 use mathlib.Core.Bool.{Bool, true, false}
 use mathlib.Core.List.{List, [], _∷_, _++_, map, append-assoc, append-nil}
@@ -17,15 +17,19 @@ use Rattle.rules.specs.declared.Link.{Link}
 use Rattle.rules.specs.declared.Link.the-variants.{NotYet, Established, Dropped}
 use Rattle.rules.specs.Checks.{_⇒_else_}
 use Rattle.rules.specs.Frames.{Object, lengthBytes, objectBytes, written}
-use Rattle.rules.specs.State.{isOpen}
+use Rattle.rules.specs.Profile.{profileSize}
+use Rattle.rules.specs.State.{State, closed, isOpen}
 use Rattle.rules.specs.Own.{Status, error, done, statuses, statusesFrom}
 use Rattle.rules.specs.Written.{furtherObjects, statusBytes, statusObject, statusObjects}
 use Rattle.rules.proofs.Laws.{stop, skip}
 use Rattle.octets.specs.Parts.{pasted}
 use Rattle.octets.proofs.Pastes.{paste-after, length-pasted}
 use Rattle.session.specs.declared.Channel.{Channel}
-use Rattle.session.specs.Picture.{linkOf, chansIn}
-use Rattle.responses.specs.Stands.{response, Stands}
+use Rattle.session.specs.Book.{entryAt, entryFrom}
+use Rattle.session.specs.Picture.{linkOf, ledgerOf, shown, GoodIn}
+use Rattle.session.proofs.Ledgers.{grant-read, link-read}
+use Rattle.session.proofs.Views.{link-back}
+use Rattle.responses.specs.Stands.{response, Stands, statusesIn}
 use Rattle.responses.proofs.Writes.{behind-head, head-size, more}
 
 -- a status as bytes: four of them
@@ -46,64 +50,47 @@ status-size n NotYet = refl
 status-size n Established = refl
 status-size n Dropped = refl
 
--- the statuses that entries tell, whatever the pool holds
-abbrev granted : Channel → Bool
-granted e = leb 1 (e .grant)
+-- what is told of the channels from k on
+pub rest : List ℕ → ℕ → List ℕ
+rest t k = bytesOf (statusesIn t k (7 - k))
 
-toldFrom : ℕ → List Channel → List Status
-toldFrom n [] = []
-toldFrom n (e ∷ es) =
-    let rest = toldFrom (n + 1) es in
-    granted e ⇒ record { number = record { 0 = n }; link = linkOf (e .link) } ∷ rest else rest
+-- the status of a channel, as its entry tells it
+abbrev pub statusOf : Channel → ℕ → List ℕ
+statusOf e k = objectBytes (statusObject (record { 0 = k + 1 }) (linkOf (e .link)))
 
-told-is : (n : ℕ) (es : List Channel) (p : List ℕ) → statusesFrom n (chansIn es p) ≡ toldFrom n es
-unfolding statusesFrom chansIn isOpen toldFrom
-told-is n [] p = refl
-told-is n (e ∷ es) p =
-    ap (λ (rest : List Status). granted e ⇒ record { number = record { 0 = n }; link = linkOf (e .link) } ∷ rest else rest) (told-is (n + 1) es _)
+one-less : (k : ℕ) → k < 7 → 7 - k ≡ suc (7 - (k + 1))
+one-less k h = omega arith
 
--- what is told of the entries from k on
-pub rest : List Channel → ℕ → List ℕ
-rest es k = bytesOf (toldFrom (k + 1) (drop k es))
+rest-open : (t : List ℕ) (k : ℕ) (e : Channel) → k < 7 → e ≡ entryFrom t (entryAt k) → 1 ≤ e .grant → rest t k ≡ statusOf e k ++ rest t (k + 1)
+unfolding rest statusesIn written
+rest-open t k e h q o =
+    ap (λ (m : ℕ). bytesOf (statusesIn t k m)) (one-less k h)
+    ∙ ap bytesOf (stop _ _ _ (le-leb 1 (getD t (entryAt k) 0) (subst (λ (x : Channel). 1 ≤ x .grant) q o)))
+    ∙ ap (λ (x : Channel). statusOf x k ++ bytesOf (statusesIn t (k + 1) (7 - (k + 1)))) (sym q)
 
-from-here : (es : List Channel) (k : ℕ) (e : Channel) → k < length es → drop k es ≡ getD es k e ∷ drop (k + 1) es
-from-here es k e h = drop-cons es k e h ∙ ap (λ (j : ℕ). getD es k e ∷ drop j es) (sym (add-one k))
-
-rest-open :
-    (es : List Channel) (k : ℕ) (e : Channel) → k < length es → 1 ≤ getD es k e .grant →
-    rest es k ≡ objectBytes (statusObject (record { 0 = k + 1 }) (linkOf (getD es k e .link))) ++ rest es (k + 1)
-unfolding rest toldFrom written
-rest-open es k e h o =
-    ap (λ (l : List Channel). bytesOf (toldFrom (k + 1) l)) (from-here es k e h)
-    ∙ ap bytesOf (stop _ _ _ (le-leb 1 (getD es k e .grant) o))
-
-rest-closed : (es : List Channel) (k : ℕ) (e : Channel) → k < length es → getD es k e .grant < 1 → rest es k ≡ rest es (k + 1)
-unfolding rest toldFrom
-rest-closed es k e h o =
-    ap (λ (l : List Channel). bytesOf (toldFrom (k + 1) l)) (from-here es k e h)
-    ∙ ap bytesOf (skip _ _ _ (lt-leb 1 (getD es k e .grant) o))
-
--- no entry is left behind the last
-none-left : (es : List Channel) → length es ≡ 7 → drop 7 es ≡ []
-none-left es l = ap (λ (k : ℕ). drop k es) (sym l) ∙ drop-length es
+rest-closed : (t : List ℕ) (k : ℕ) (e : Channel) → k < 7 → e ≡ entryFrom t (entryAt k) → e .grant ≤ 0 → rest t k ≡ rest t (k + 1)
+unfolding rest statusesIn
+rest-closed t k e h q o =
+    let z : getD t (entryAt k) 0 ≤ 0 = subst (λ (x : Channel). x .grant ≤ 0) q o in
+    ap (λ (m : ℕ). bytesOf (statusesIn t k m)) (one-less k h) ∙ ap bytesOf (skip _ _ _ (lt-leb 1 (getD t (entryAt k) 0) (omega arith)))
 
 length-nil : (s : List ℕ) → length s ≡ 0 → s ≡ []
 length-nil [] e = refl
 length-nil (x ∷ s) e = absurd (let z : suc (length s) ≡ 0 = e in omega arith)
 
 -- k entries are told: what was put behind the head, and the rest, are all
-pub record Sofar (es : List Channel) (head : ℕ) (begun : List ℕ) (k at : ℕ) (out : List ℕ) : Type 0 where
+pub record Sofar (t : List ℕ) (head : ℕ) (begun : List ℕ) (k at : ℕ) (out : List ℕ) : Type 0 where
   pub text : List ℕ
   pub is : out ≡ pasted begun head text
   pub counted : at ≡ head + length text
-  pub whole : text ++ rest es k ≡ rest es 0
+  pub whole : text ++ rest t k ≡ rest t 0
   pub few : at ≤ head + 4 * k
   pub upto : k ≤ 7
   pub room : head + 28 ≤ length begun
   pub same : length out ≡ length begun
 
-module _ (es : List Channel) (head : ℕ) (begun : List ℕ) where
-  pub sofar-none : head + 28 ≤ length begun → Sofar es head begun 0 head begun
+module _ (t : List ℕ) (head : ℕ) (begun : List ℕ) where
+  pub sofar-none : head + 28 ≤ length begun → Sofar t head begun 0 head begun
   unfolding pasted
   sofar-none w =
       record {
@@ -117,21 +104,21 @@ module _ (es : List Channel) (head : ℕ) (begun : List ℕ) where
         same = refl;
       }
 
-  pub sofar-fits : (k at : ℕ) (out : List ℕ) → Sofar es head begun k at out → at ≤ head + 24 → at + 4 ≤ length out
+  pub sofar-fits : (k at : ℕ) (out : List ℕ) → Sofar t head begun k at out → at ≤ head + 24 → at + 4 ≤ length out
   sofar-fits k at out h b =
       let r = h .room in
       let l = h .same in
       omega arith
 
   pub sofar-closed :
-      (k at : ℕ) (out : List ℕ) (e : Channel) → Sofar es head begun k at out → length es ≡ 7 → k < 7 → getD es k e .grant ≤ 0 →
-      Sofar es head begun (k + 1) at out
-  sofar-closed k at out e h l b o =
+      (k at : ℕ) (out : List ℕ) (e : Channel) → Sofar t head begun k at out → k < 7 → e ≡ entryFrom t (entryAt k) → e .grant ≤ 0 →
+      Sofar t head begun (k + 1) at out
+  sofar-closed k at out e h b q o =
       record {
         text = h .text;
         is = h .is;
         counted = h .counted;
-        whole = ap (λ (r : List ℕ). h .text ++ r) (sym (rest-closed es k e (omega arith) (omega arith))) ∙ h .whole;
+        whole = ap (λ (r : List ℕ). h .text ++ r) (sym (rest-closed t k e b q o)) ∙ h .whole;
         few = let f = h .few in omega arith;
         upto = omega arith;
         room = h .room;
@@ -139,35 +126,33 @@ module _ (es : List Channel) (head : ℕ) (begun : List ℕ) where
       }
 
   pub sofar-open :
-      (k at m : ℕ) (out after : List ℕ) (e : Channel) → Sofar es head begun k at out → length es ≡ 7 → k < 7 → 1 ≤ getD es k e .grant →
-      m ≡ at + 4 → after ≡ pasted out at (objectBytes (statusObject (record { 0 = k + 1 }) (linkOf (getD es k e .link)))) →
-      Sofar es head begun (k + 1) m after
-  sofar-open k at m out after e h l b o c p =
+      (k at m : ℕ) (out after : List ℕ) (e : Channel) → Sofar t head begun k at out → k < 7 → e ≡ entryFrom t (entryAt k) → 1 ≤ e .grant →
+      m ≡ at + 4 → after ≡ pasted out at (statusOf e k) → Sofar t head begun (k + 1) m after
+  sofar-open k at m out after e h b q o c p =
       let f = h .few in
       let r = h .room in
       let n = h .counted in
-      let s = objectBytes (statusObject (record { 0 = k + 1 }) (linkOf (getD es k e .link))) in
-      let z : length s ≡ 4 = status-size (record { 0 = k + 1 }) (linkOf (getD es k e .link)) in
+      let s = statusOf e k in
+      let z : length s ≡ 4 = status-size (record { 0 = k + 1 }) (linkOf (e .link)) in
       let y : length (h .text ++ s) ≡ length (h .text) + length s = length-append (h .text) s in
       record {
         text = h .text ++ s;
         is = p ∙ (λ i. pasted (h .is i) (n i) s) ∙ paste-after begun head (h .text) (omega arith) s;
         counted = omega arith;
-        whole = append-assoc (h .text) s (rest es (k + 1)) ∙ ap (λ (q : List ℕ). h .text ++ q) (sym (rest-open es k e (omega arith) o)) ∙ h .whole;
+        whole = append-assoc (h .text) s (rest t (k + 1)) ∙ ap (λ (x : List ℕ). h .text ++ x) (sym (rest-open t k e b q o)) ∙ h .whole;
         few = omega arith;
         upto = omega arith;
         room = r;
         same = ap length p ∙ length-pasted out at s (let y = h .same in omega arith) ∙ h .same;
       }
 
-  pub sofar-end : (k at : ℕ) (out : List ℕ) → Sofar es head begun k at out → 7 ≤ k → Sofar es head begun 7 at out
-  sofar-end k at out h b = let u = h .upto in let e : k ≡ 7 = omega arith in subst (λ (j : ℕ). Sofar es head begun j at out) e h
+  pub sofar-end : (k at : ℕ) (out : List ℕ) → Sofar t head begun k at out → 7 ≤ k → Sofar t head begun 7 at out
+  sofar-end k at out h b = let u = h .upto in let e : k ≡ 7 = omega arith in subst (λ (j : ℕ). Sofar t head begun j at out) e h
 
   -- all seven are told
-  all-told : (at : ℕ) (out : List ℕ) (h : Sofar es head begun 7 at out) → length es ≡ 7 → h .text ≡ bytesOf (toldFrom 1 es)
-  unfolding rest written toldFrom
-  all-told at out h l =
-      sym (append-nil (h .text)) ∙ ap (λ (r : List Channel). h .text ++ bytesOf (toldFrom 8 r)) (sym (none-left es l)) ∙ h .whole
+  all-told : (at : ℕ) (out : List ℕ) (h : Sofar t head begun 7 at out) → h .text ≡ bytesOf (statusesIn t 0 7)
+  unfolding rest written statusesIn
+  all-told at out h = sym (append-nil (h .text)) ∙ h .whole
 
 told-some : (ss : List Status) → 0 < length (bytesOf ss) → written (furtherObjects (statuses ss)) ≡ bytesOf ss
 unfolding furtherObjects statusObjects written
@@ -179,43 +164,56 @@ unfolding furtherObjects statusObjects written objectBytes lengthBytes _⇒_else
 told-none [] h = refl
 told-none (s ∷ ss) h = absurd (let z : suc _ ≡ 0 = h in omega arith)
 
--- as the statuses of whatever the pool shows
-module _ (d : Details) (x : ℕ) (es : List Channel) (before : List ℕ) (head : ℕ) (begun : List ℕ) (at : ℕ) (out : List ℕ)
-    (b : Stands (response d (error x)) head before begun) (h : Sofar es head begun 7 at out) (l : length es ≡ 7) (w : 40 ≤ length before) where
-  statuses-bytes :
-      (p : List ℕ) →
-      response d (done x (statuses (statusesFrom 1 (chansIn es p)))) ≡ response d (error x) ++ written (furtherObjects (statuses (toldFrom 1 es)))
-  statuses-bytes p =
-      behind-head d x (statuses (statusesFrom 1 (chansIn es p)))
-      ∙ ap (λ (ss : List Status). response d (error x) ++ written (furtherObjects (statuses ss))) (told-is 1 es p)
+-- the text that was put behind the head is that of the statuses
+module _ (d : Details) (x : ℕ) (t : List ℕ) (before : List ℕ) (head : ℕ) (begun : List ℕ) (at : ℕ) (out : List ℕ)
+    (b : Stands (response d (error x)) head before begun) (h : Sofar t head begun 7 at out) (w : 40 ≤ length before) where
+  abbrev ss : List Status
+  ss = statusesIn t 0 7
 
-  text-stands : Stands (response d (error x) ++ bytesOf (toldFrom 1 es)) at before out
+  text-stands : Stands (response d (error x) ++ bytesOf ss) at before out
   text-stands =
       let z = b .counted ∙ head-size d x in
       let f = h .few in
-      subst (λ (t : List ℕ). Stands (response d (error x) ++ t) at before out) (all-told es head begun at out h l)
+      subst (λ (u : List ℕ). Stands (response d (error x) ++ u) at before out) (all-told t head begun at out h)
       (more (response d (error x)) (h .text) head at before begun out b (h .counted) (omega arith) (h .is))
 
-  text-size : at ≡ head + length (bytesOf (toldFrom 1 es))
-  text-size = h .counted ∙ ap (λ (t : List ℕ). head + length t) (all-told es head begun at out h l)
+  text-size : at ≡ head + length (bytesOf ss)
+  text-size = h .counted ∙ ap (λ (u : List ℕ). head + length u) (all-told t head begun at out h)
 
-  pub some-stand : head < at → (p : List ℕ) → Stands (response d (done x (statuses (statusesFrom 1 (chansIn es p))))) at before out
-  some-stand g p =
+  pub some-stand : head < at → Stands (response d (done x (statuses ss))) at before out
+  some-stand g =
       let z = text-size in
-      subst (λ (t : List ℕ). Stands t at before out)
-      (ap (λ (t : List ℕ). response d (error x) ++ t) (sym (told-some (toldFrom 1 es) (omega arith))) ∙ sym (statuses-bytes p))
+      subst (λ (u : List ℕ). Stands u at before out)
+      (ap (λ (u : List ℕ). response d (error x) ++ u) (sym (told-some ss (omega arith))) ∙ sym (behind-head d x (statuses ss)))
       text-stands
 
   pub none-stands :
-      at ≤ head → (after : List ℕ) → after ≡ pasted out at (0x38 ∷ 0x02 ∷ 0x00 ∷ 0x00 ∷ []) → (p : List ℕ) →
-      Stands (response d (done x (statuses (statusesFrom 1 (chansIn es p))))) (at + 4) before after
-  none-stands g after e p =
+      at ≤ head → (after : List ℕ) → after ≡ pasted out at (0x38 ∷ 0x02 ∷ 0x00 ∷ 0x00 ∷ []) →
+      Stands (response d (done x (statuses ss))) (at + 4) before after
+  none-stands g after e =
       let z = text-size in
       let c = b .counted ∙ head-size d x in
-      let n : bytesOf (toldFrom 1 es) ≡ [] = length-nil (bytesOf (toldFrom 1 es)) (omega arith) in
-      subst (λ (t : List ℕ). Stands t (at + 4) before after)
-      (ap (λ (t : List ℕ). (response d (error x) ++ t) ++ (0x38 ∷ 0x02 ∷ 0x00 ∷ 0x00 ∷ [])) n
-      ∙ ap (λ (t : List ℕ). t ++ (0x38 ∷ 0x02 ∷ 0x00 ∷ 0x00 ∷ [])) (append-nil (response d (error x)))
-      ∙ ap (λ (t : List ℕ). response d (error x) ++ t) (sym (told-none (toldFrom 1 es) (omega arith)))
-      ∙ sym (statuses-bytes p))
-      (more (response d (error x) ++ bytesOf (toldFrom 1 es)) (0x38 ∷ 0x02 ∷ 0x00 ∷ 0x00 ∷ []) at (at + 4) before out after text-stands refl (omega arith) e)
+      let n : bytesOf ss ≡ [] = length-nil (bytesOf ss) (omega arith) in
+      subst (λ (u : List ℕ). Stands u (at + 4) before after)
+      (ap (λ (u : List ℕ). (response d (error x) ++ u) ++ (0x38 ∷ 0x02 ∷ 0x00 ∷ 0x00 ∷ [])) n
+      ∙ ap (λ (u : List ℕ). u ++ (0x38 ∷ 0x02 ∷ 0x00 ∷ 0x00 ∷ [])) (append-nil (response d (error x)))
+      ∙ ap (λ (u : List ℕ). response d (error x) ++ u) (sym (told-none ss (omega arith)))
+      ∙ sym (behind-head d x (statuses ss)))
+      (more (response d (error x) ++ bytesOf ss) (0x38 ∷ 0x02 ∷ 0x00 ∷ 0x00 ∷ []) at (at + 4) before out after text-stands refl (omega arith) e)
+
+-- the statuses that the ledger tells are those of the state whose ledger it is
+from-entries : (a : State) → length (a .profile) ≡ profileSize → (k m : ℕ) → k + m ≡ length (a .chans) → statusesIn (ledgerOf a) k m ≡ statusesFrom (k + 1) (drop k (a .chans))
+unfolding statusesIn statusesFrom isOpen
+from-entries a h k zero e =
+    sym (ap (statusesFrom (k + 1)) (ap (λ (j : ℕ). drop j (a .chans)) (let q : k ≡ length (a .chans) = omega arith in q) ∙ drop-length (a .chans)))
+from-entries a h k (suc m) e =
+    let c = getD (a .chans) k closed in
+    let l = ap linkOf (link-read a h k) ∙ link-back (c .link) in
+    let later = from-entries a h (k + 1) m (omega arith) ∙ ap (λ (j : ℕ). statusesFrom (k + 1 + 1) (drop j (a .chans))) (add-one k) in
+    (λ i. leb 1 (grant-read a h k i) ⇒ record { number = record { 0 = k + 1 }; link = l i } ∷ later i else later i)
+    ∙ sym (ap (statusesFrom (k + 1)) (drop-cons (a .chans) k closed (omega arith)))
+
+-- and so those of the state that a good session shows
+pub statuses-shown : (t p : List ℕ) → GoodIn t p → statusesIn t 0 7 ≡ statusesFrom 1 (shown t p .chans)
+statuses-shown t p g =
+    ap (λ (u : List ℕ). statusesIn u 0 7) (g .shows .ledger) ∙ from-entries (shown t p) (g .sound .thirteen) 0 7 (sym (g .sound .seven))

@@ -12,7 +12,7 @@ use Rattle.rules.specs.declared.Link.{Link}
 use Rattle.rules.specs.declared.Link.the-variants.{NotYet, Established, Dropped}
 use Rattle.rules.specs.Checks.{_⇒_else_}
 use Rattle.rules.specs.Frames.{lengthBytes, objectBytes, written}
-use Rattle.rules.specs.Reading.{Bearer}
+use Rattle.rules.specs.Reading.{Bearer, bearerIn}
 use Rattle.rules.specs.Own.{Further, error, problem, done, opened, received, sent}
 use Rattle.rules.specs.Written.{unflagged, detailsBytes, bearerBytes, pairBytes, statusBytes, statusObject, furtherObjects, resultBytes, resultObjects, responseObjects, responseBytes}
 use Rattle.rules.proofs.Sizes.{length-bytes}
@@ -177,3 +177,9 @@ opened-pieces d x g n l b s pair e w p =
 -- the bytes of a part that stands within a list
 pub whole-part : (p : List ℕ) (a k : ℕ) → a + k ≤ length p → length (part a (a + k) p) ≡ k
 whole-part p a k h = simp (length-take, length-drop) (omega arith)
+
+-- bytes that are not empty are those of the bearer that they are read as
+pub bearer-back : (s : List ℕ) → 1 ≤ length s → bearerBytes (bearerIn s) ≡ s
+unfolding bearerBytes bearerIn
+bearer-back [] h = absurd (omega arith)
+bearer-back (x ∷ s) h = refl

@@ -4,20 +4,20 @@ use octets;
 use rules::ChannelNumber;
 use rules::Details;
 use rules::Link;
+use session::Ledger;
 use session::entry;
 use session::link_of;
 ghost use mathlib.Core.Path.{_≡_};
-ghost use mathlib.Core.List.{List};
-ghost use Prim.Native.Nat.{ℕ, _+_, _-_, _≤_, _<_};
+ghost use Prim.Native.Nat.{_+_, _-_, _≤_, _<_};
 ghost use lib.ListN.{length};
 ghost use Rattle.octets.specs.Parts.{part, pasted};
 ghost use Rattle.rules.specs.Frames.{objectBytes};
-ghost use Rattle.rules.specs.Reading.{Bearer};
-ghost use Rattle.rules.specs.Own.{error, problem, done, opened, received, sent, statuses, statusesFrom};
-ghost use Rattle.rules.specs.Written.{bearerBytes, statusBytes, statusObject};
-ghost use Rattle.session.specs.Book.{ledgerIn};
-ghost use Rattle.session.specs.Picture.{linkOf, chansIn};
-ghost use Rattle.responses.specs.Stands.{response, Stands};
+ghost use Rattle.rules.specs.Reading.{bearerIn};
+ghost use Rattle.rules.specs.Own.{error, problem, done, opened, received, sent, statuses};
+ghost use Rattle.rules.specs.Written.{statusBytes, statusObject};
+ghost use Rattle.session.specs.Book.{ledgerSize};
+ghost use Rattle.session.specs.Picture.{linkOf};
+ghost use Rattle.responses.specs.Stands.{response, Stands, statusesIn};
 
 // Writes a result that nothing follows, and tells the count of bytes.
 pub fn tell_result(out: &mut [u8], d: Details, result: u8) -> usize
@@ -123,7 +123,7 @@ pub fn tell_opened(
     grant: u16,
 ) -> usize
     requires { ⌜ (n .0 ≤ 7) × (length (now bearer) < 128) × (22 + length (now bearer) ≤ length (now out)) × (1 ≤ length (now bearer)) ⌝ }
-    ensures { λ r. ⌜ ((b : Bearer) → bearerBytes b ≡ now (bearer .entry) → Stands (response d (done result (opened (record { number = n; link = link }) b grant))) r (now (out .entry)) (now (out .exit))) ⌝ }
+    ensures { λ r. ⌜ Stands (response d (done result (opened (record { number = n; link = link }) (bearerIn (now (bearer .entry))) grant))) r (now (out .entry)) (now (out .exit)) ⌝ }
 {
     let head = tell_result(out, d, result);
     let pair = status(n, link);
@@ -150,9 +150,14 @@ fn tell_status(out: &mut [u8], at: usize, n: ChannelNumber, link: u16) -> usize
 }
 
 // Writes the answer to GET CHANNEL STATUS: a result and a status for each open channel, rising; none open: 00 00.
-pub fn tell_statuses(out: &mut [u8], d: Details, result: u8, ledger: &[u16; 50]) -> usize
-    requires { ⌜ (length (now ledger) ≡ 50) × (40 ≤ length (now out)) ⌝ }
-    ensures { λ r. ⌜ ((p : List ℕ) → Stands (response d (done result (statuses (statusesFrom 1 (chansIn (ledgerIn (now (ledger .entry)) .channels) p))))) r (now (out .entry)) (now (out .exit))) ⌝ }
+pub fn tell_statuses(
+    out: &mut [u8],
+    d: Details,
+    result: u8,
+    ledger: &[u16; Ledger::SIZE],
+) -> usize
+    requires { ⌜ (length (now ledger) ≡ ledgerSize) × (40 ≤ length (now out)) ⌝ }
+    ensures { λ r. ⌜ Stands (response d (done result (statuses (statusesIn (now (ledger .entry)) 0 7)))) r (now (out .entry)) (now (out .exit)) ⌝ }
 {
     let head = tell_result(out, d, result);
     let mut at = head;

@@ -16,7 +16,7 @@ use Rattle.rules.specs.Pool.{cellSize, cells, promisedTo}
 use Rattle.octets.specs.Parts.{pasted}
 use Rattle.session.specs.declared.Channel.{Channel}
 use Rattle.session.specs.Book.{availableAt, statusAt, channelsAt, entrySize, ledgerSize, entryAt, entryFrom, numbersOf, entryIn, withEntry, listed, listedNumber, withList}
-use Rattle.session.specs.Picture.{space, entry, entriesOf, ledgerOf, baseIn}
+use Rattle.session.specs.Picture.{space, linkNumber, entry, entriesOf, ledgerOf, baseIn}
 use Rattle.session.specs.Changed.{withEvents}
 
 -- an entry put number by number
@@ -133,9 +133,13 @@ module _ (a : State) (thirteen : length (a .profile) ≡ profileSize) where
         ready = number-read k 4 (entryAt k + 4) (omega arith) refl i;
       }
 
-  grant-read : (k : ℕ) → getD (ledgerOf a) (entryAt k) 0 ≡ getD (a .chans) k closed .grant
+  pub grant-read : (k : ℕ) → getD (ledgerOf a) (entryAt k) 0 ≡ getD (a .chans) k closed .grant
   unfolding entry
   grant-read k = number-read k 0 (entryAt k) (omega arith) (omega arith)
+
+  pub link-read : (k : ℕ) → getD (ledgerOf a) (entryAt k + 1) 0 ≡ linkNumber (getD (a .chans) k closed .link)
+  unfolding entry
+  link-read k = number-read k 1 (entryAt k + 1) (omega arith) refl
 
   -- the regions stand one after the other from the first cell on
   pub base-read : (k : ℕ) → k ≤ length (a .chans) → baseIn (ledgerOf a) k ≡ cellSize * promisedTo (take k (a .chans))

@@ -1,99 +1,92 @@
 -- `responses::tell_statuses` meets its contract: each turn tells of one channel more.
 -- Assumes nothing.
 use Prim.Native.Nat.{ℕ, _+_, _-_, _≤_, _<_}
-use mathlib.Core.Path.{_≡_, ap, subst, _∙_}
+use mathlib.Core.Path.{_≡_, ap, _∙_}
+use mathlib.Core.List.{List}
 use native.Mathlib.Omega.{arith}
 use lib.ListN.{length}
 use denote.Ref.{now}
 use borrow.Author.Needs.{needs}
-use Rattle.rules.specs.Frames.{objectBytes}
-use Rattle.rules.specs.Written.{statusObject}
-use Rattle.octets.specs.Parts.{pasted}
 use Rattle.session.specs.declared.Channel.{Channel}
-use Rattle.session.specs.Book.{ledgerIn}
-use Rattle.session.specs.Picture.{linkOf}
-use Rattle.session.proofs.Numbers.{seven-entries, at-hand}
+use Rattle.session.specs.Book.{entryAt, entryFrom}
 use Rattle.responses.proofs.Writes.{head-size, after-head}
 use Rattle.responses.proofs.Statuses.{Sofar, sofar-none, sofar-fits, sofar-closed, sofar-open, sofar-end, some-stand, none-stands}
 use Rattle.responses.proofs.tell_statuses.Statement.{statement}
 use Rattle.responses.proofs.tell_statuses.Tie as tie
-use Rattle.responses.proofs.tell_statuses.Reads as reads
-use Rattle.responses.proofs.tell_statuses.Lts as lts
-use Rattle.octets.proofs.put.Reads as put-reads
-use Rattle.responses.proofs.tell_result.Reads as tell-result-reads
-use Rattle.responses.proofs.tell_status.Reads as tell-status-reads
-use Rattle.session.proofs.entry.Reads as entry-reads
 
 abbrev Inv-loop : tie.InvT-loop
-Inv-loop out₀ result ledger head at₀ k₀ out at k = Sofar (ledgerIn ledger .channels) head out₀ k at out
+Inv-loop out₀ result ledger head at₀ k₀ out at k = Sofar ledger head out₀ k at out
 
 abbrev μ-loop : tie.MeasureT-loop
 μ-loop out₀ result ledger head at₀ k₀ out at k = 7 - k
 
-tell-result-requires : tie.Need-tell-result-requires Inv-loop μ-loop
-tell-result-requires c κs = search needs
+-- the entry that was read is that of the place k
+at-place : (t : List ℕ) (k : ℕ) (e : Channel) → e ≡ entryFrom t (entryAt (k + 1 - 1)) → e ≡ entryFrom t (entryAt k)
+at-place t k e q = q ∙ ap (λ (j : ℕ). entryFrom t (entryAt j)) (let r : k + 1 - 1 ≡ k = omega arith in r)
 
 loop-holds : tie.Need-loop-holds Inv-loop μ-loop
-loop-holds c = sofar-none _ _ _ (after-head _ _ _ _ _ 28 (c .before .before .tell-result .ensures) (c .before .before .before .before .before .pre .1))
-
-add-k : tie.Need-add-k Inv-loop μ-loop
-add-k c = search needs
-
-cast-t15 : tie.Need-cast-t15 Inv-loop μ-loop
-cast-t15 c = search needs
+loop-holds c =
+    let h : tie.After-tell-result Inv-loop μ-loop = search in
+    let s : tie.Start Inv-loop μ-loop = search in
+    sofar-none _ _ _ (after-head _ _ _ _ _ 28 (h .tell-result .ensures) (s .pre .1))
 
 entry-requires : tie.Need-entry-requires Inv-loop μ-loop
-entry-requires c κs = (omega arith, omega arith, c .before .before .before .before .before .before .before .pre .0)
+entry-requires c κs = let s : tie.Start Inv-loop μ-loop = search in (omega arith, omega arith, s .pre .0)
 
 tell-status-requires : tie.Need-tell-status-requires Inv-loop μ-loop
 tell-status-requires c κs =
-    let w = c .before .before .before .before .before .loop .inv in
-    (omega arith, sofar-fits _ _ _ _ _ _ w (omega (arith, w .few)))
-
-loop-less : tie.Need-loop-less Inv-loop μ-loop
-loop-less c = search needs
+    let l : tie.At-loop Inv-loop μ-loop = search in
+    (omega arith, sofar-fits _ _ _ _ _ _ (l .loop .inv) (omega (arith, l .loop .inv .few)))
 
 loop-again : tie.Need-loop-again Inv-loop μ-loop
 loop-again c =
-    let es = ledgerIn (now (c .before .before .before .before .before .before .before .before .before .before .before .before .before .before .args .ledger)) .channels in
-    let k = c .before .before .before .before .before .before .before .before .loop .k in
-    let x = c .before .before .before .before .before .before .entry .ensures ∙ at-hand es k _ in
-    let t = c .before .before .tell-status .ensures in
-    let s = t .0 ∙ ap (λ (e : Channel). pasted (c .before .before .before .before .before .before .before .before .loop .out) (c .before .before .before .before .before .before .before .before .loop .at) (objectBytes (statusObject (record { 0 = k + 1 }) (linkOf (e .link))))) x in
-    sofar-open es _ _ k _ _ _ _ _ (c .before .before .before .before .before .before .before .before .loop .inv) (seven-entries (now (c .before .before .before .before .before .before .before .before .before .before .before .before .before .before .args .ledger))) (c .before .before .before .before .before .before .before .loop-test .taken) (subst (λ (e : Channel). 1 ≤ e .grant) x (c .before .before .before .before .if1 .taken)) (t .1) s
-
-loop-less-2 : tie.Need-loop-less-2 Inv-loop μ-loop
-loop-less-2 c = search needs
+    let w : tie.After-tell-status Inv-loop μ-loop = search in
+    let i : tie.Then1 Inv-loop μ-loop = search in
+    let e : tie.After-entry Inv-loop μ-loop = search in
+    let b : tie.In-loop Inv-loop μ-loop = search in
+    let l : tie.At-loop Inv-loop μ-loop = search in
+    let s : tie.Start Inv-loop μ-loop = search in
+    sofar-open _ _ _ (l .loop .k) _ _ _ _ _ (l .loop .inv) (b .loop-test .taken) (at-place (now (s .args .ledger)) (l .loop .k) _ (e .entry .ensures)) (i .if1 .taken)
+    (w .tell-status .ensures .1) (w .tell-status .ensures .0)
 
 loop-again-2 : tie.Need-loop-again-2 Inv-loop μ-loop
 loop-again-2 c =
-    let es = ledgerIn (now (c .before .before .before .before .before .before .before .before .before .before .args .ledger)) .channels in
-    let k = c .before .before .before .before .loop .k in
-    let x = c .before .before .entry .ensures ∙ at-hand es k _ in
-    sofar-closed es _ _ k _ _ _ (c .before .before .before .before .loop .inv) (seven-entries (now (c .before .before .before .before .before .before .before .before .before .before .args .ledger))) (c .before .before .before .loop-test .taken) (subst (λ (e : Channel). e .grant ≤ 0) x (c .if1 .left))
-
-same-length : tie.Need-same-length Inv-loop μ-loop
-same-length c = search needs
+    let e : tie.After-entry Inv-loop μ-loop = search in
+    let b : tie.In-loop Inv-loop μ-loop = search in
+    let l : tie.At-loop Inv-loop μ-loop = search in
+    let s : tie.Start Inv-loop μ-loop = search in
+    sofar-closed _ _ _ (l .loop .k) _ _ _ (l .loop .inv) (b .loop-test .taken) (at-place (now (s .args .ledger)) (l .loop .k) _ (e .entry .ensures)) (c .if1 .left)
 
 returns : tie.Need-returns Inv-loop μ-loop
-returns c = some-stand _ _ _ _ _ _ _ _ (c .before .before .before .before .before .tell-result .ensures) (sofar-end _ _ _ _ _ _ (c .before .before .loop .inv) (c .before .loop-test .left)) (seven-entries (now (c .before .before .before .before .before .before .before .before .args .ledger))) (c .before .before .before .before .before .before .before .before .pre .1) (c .if2 .taken)
-
-slice-aggregate-put : tie.Need-slice-aggregate-put Inv-loop μ-loop
-slice-aggregate-put c = search needs
+returns c =
+    let b : tie.After-loop Inv-loop μ-loop = search in
+    let l : tie.At-loop Inv-loop μ-loop = search in
+    let h : tie.After-tell-result Inv-loop μ-loop = search in
+    let s : tie.Start Inv-loop μ-loop = search in
+    some-stand _ _ _ _ _ _ _ _ (h .tell-result .ensures) (sofar-end _ _ _ _ _ _ (l .loop .inv) (b .loop-test .left)) (s .pre .1) (c .if2 .taken)
 
 put-requires : tie.Need-put-requires Inv-loop μ-loop
 put-requires c κs =
-    let w = c .before .before .before .before .loop .inv in
-    sofar-fits _ _ _ _ _ _ w (omega (arith, c .before .before .if2 .left))
+    let f : tie.Else2 Inv-loop μ-loop = search in
+    let l : tie.At-loop Inv-loop μ-loop = search in
+    sofar-fits _ _ _ _ _ _ (l .loop .inv) (omega (arith, f .if2 .left))
 
 add-result : tie.Need-add-result Inv-loop μ-loop
-add-result c = omega (arith, c .before .before .before .before .before .if2 .left, c .before .before .before .before .before .before .before .before .before .before .tell-result .ensures .counted, head-size (c .before .before .before .before .before .before .before .before .before .before .before .before .before .args .d) (c .before .before .before .before .before .before .before .before .before .before .before .before .before .args .result))
-
-same-length-2 : tie.Need-same-length-2 Inv-loop μ-loop
-same-length-2 c = search needs
+add-result c =
+    let f : tie.Else2 Inv-loop μ-loop = search in
+    let h : tie.After-tell-result Inv-loop μ-loop = search in
+    let s : tie.Start Inv-loop μ-loop = search in
+    omega (arith, f .if2 .left, h .tell-result .ensures .counted, head-size (s .args .d) (s .args .result))
 
 returns-2 : tie.Need-returns-2 Inv-loop μ-loop
-returns-2 c = none-stands _ _ _ _ _ _ _ _ (c .before .before .before .before .before .before .before .before .before .before .tell-result .ensures) (sofar-end _ _ _ _ _ _ (c .before .before .before .before .before .before .before .loop .inv) (c .before .before .before .before .before .before .loop-test .left)) (seven-entries (now (c .before .before .before .before .before .before .before .before .before .before .before .before .before .args .ledger))) (c .before .before .before .before .before .before .before .before .before .before .before .before .before .pre .1) (c .before .before .before .before .before .if2 .left) _ (c .before .before .put .ensures)
+returns-2 c =
+    let p : tie.After-put Inv-loop μ-loop = search in
+    let f : tie.Else2 Inv-loop μ-loop = search in
+    let b : tie.After-loop Inv-loop μ-loop = search in
+    let l : tie.At-loop Inv-loop μ-loop = search in
+    let h : tie.After-tell-result Inv-loop μ-loop = search in
+    let s : tie.Start Inv-loop μ-loop = search in
+    none-stands _ _ _ _ _ _ _ _ (h .tell-result .ensures) (sofar-end _ _ _ _ _ _ (l .loop .inv) (b .loop-test .left)) (s .pre .1) (f .if2 .left) _ (p .put .ensures)
 
 pub tell-statuses-spec : {M : Type 1} → statement M
 tell-statuses-spec =
@@ -101,20 +94,20 @@ tell-statuses-spec =
     (tie.spec
     Inv-loop
     μ-loop
-    tell-result-requires
+    (λ c κs. search needs)
     loop-holds
-    add-k
-    cast-t15
+    (λ c. search needs)
+    (λ c. search needs)
     entry-requires
     tell-status-requires
-    loop-less
+    (λ c. search needs)
     loop-again
-    loop-less-2
+    (λ c. search needs)
     loop-again-2
-    same-length
+    (λ c. search needs)
     returns
-    slice-aggregate-put
+    (λ c. search needs)
     put-requires
     add-result
-    same-length-2
+    (λ c. search needs)
     returns-2)
