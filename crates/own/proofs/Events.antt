@@ -7,40 +7,26 @@ use mathlib.Core.List.{List, [], _∷_}
 use native.Mathlib.Omega.{arith}
 use native.Mathlib.Numerals.{add-one}
 use lib.ListN.{length, getD, drop}
-use borrow.Author.Tests.{ne-eqb}
 use lib.Seq.{drop-cons, drop-length}
 use Rattle.rules.specs.declared.Events.{Events}
 use Rattle.rules.specs.declared.Details.{Details}
 use Rattle.rules.specs.Checks.{_⇒_else_, every, some-of, member}
-use Rattle.rules.specs.Profile.{bit, allowsEvent}
+use Rattle.rules.specs.Profile.{allowsEvent}
 use Rattle.rules.specs.Pool.{promised}
 use Rattle.rules.specs.Sound.{Sound}
 use Rattle.rules.specs.State.{State}
 use Rattle.rules.specs.Own.{Reply, reply, error, done, nothing, plain, listed, listing}
 use Rattle.rules.proofs.Laws.{stop, skip}
 use Rattle.session.specs.declared.Ended.the-variants.{Wrote}
-use Rattle.session.specs.Book.{Ledger}
-use Rattle.session.specs.Picture.{ShowsAt, GoodIn, shown}
-use Rattle.session.specs.Calls.{AnswersAt}
+use Rattle.profile.proofs.Bits.{front-event}
+use Rattle.session.specs.Book.{withList}
+use Rattle.session.specs.Picture.{Shows, GoodIn, shown}
+use Rattle.session.specs.Calls.{Answers}
 use Rattle.session.specs.Changed.{withEvents}
-use Rattle.session.proofs.Views.{good-at}
+use Rattle.session.proofs.Facts.{list-law}
 use Rattle.responses.specs.Stands.{response, Stands}
 use Rattle.own.specs.Replies.{told}
-use Rattle.own.proofs.Replies.{told-at, plain-stands}
-
--- what the profile says of each event
-module _ (p : List ℕ) (e : ℕ) where
-  pub event-09 : (r : Bool) → e ≡ 0x09 → r ≡ bit p 6 3 → r ≡ allowsEvent p e
-  unfolding allowsEvent _⇒_else_
-  event-09 r k h = rw k h
-
-  pub event-0a : (r : Bool) → e ≡ 0x0A → r ≡ bit p 6 4 → r ≡ allowsEvent p e
-  unfolding allowsEvent _⇒_else_
-  event-0a r k h = rw k h
-
-  pub event-none : (e ≡ 0x09 → ⊥) → (e ≡ 0x0A → ⊥) → false ≡ allowsEvent p e
-  unfolding allowsEvent
-  event-none f g = sym (skip _ _ _ (ne-eqb e 0x09 f) ∙ skip _ _ _ (ne-eqb e 0x0A g))
+use Rattle.own.proofs.Replies.{told-answers, left-answers, plain-stands}
 
 -- a list is looked at one value after the other: up to a place, what is said of all is what is said of the rest
 module _ (f : ℕ → Bool) (s : List ℕ) (i : ℕ) where
@@ -71,23 +57,24 @@ events-sound : (a : State) (e : Events) → Sound a → Sound (withEvents a e)
 unfolding promised
 events-sound a e h = record { thirteen = h .thirteen; seven = h .seven; each = h .each; within = h .within }
 
-module _ (l : Ledger) (p es : List ℕ) (i : Bool) (all : Bool) (f : all ≡ every (allowsEvent (l .profile)) es) where
-  pub list-forbidden : all ≡ false → listing (shown l p) es i ≡ reply (shown l p) (error 0x30)
-  unfolding listing shown
-  list-forbidden e = stop _ _ _ (ap not (sym f ∙ e))
+module _ (t p es : List ℕ) (i : Bool) (all : Bool) (f : all ≡ every (allowsEvent t) es) (g : GoodIn t p) (d : Details) (k : ℕ) (before after : List ℕ) where
+  -- the profile is the front of the ledger
+  allowed-is : all ≡ every (allowsEvent (shown t p .profile)) es
+  unfolding shown
+  allowed-is = f ∙ sym (ap (λ (h : ℕ → Bool). every h es) (λ j e. front-event t e j))
 
-  list-allowed : all ≡ true → listing (shown l p) es i ≡ reply (listed (shown l p) es) (done (plain i) nothing)
-  unfolding listing shown
-  list-allowed e = skip _ _ _ (ap not (sym f ∙ e))
+  pub list-forbidden : all ≡ false → Stands (response d (error 0x30)) k before after → Answers (told d (listing (shown t p) es i)) t p (Wrote k) before after
+  unfolding listing
+  list-forbidden e w = left-answers d _ (error 0x30) t p k before after (stop _ _ _ (ap not (sym allowed-is ∙ e))) g w
 
   pub list-done :
-      (d : Details) (x k : ℕ) (e : Events) (u before after : List ℕ) → all ≡ true → GoodIn l p → e .available ≡ member 0x09 es → e .status ≡ member 0x0A es →
-      ShowsAt (withEvents (shown l p) e) u p → x ≡ plain i → Stands (response d (error x)) k before after →
-      AnswersAt (told d (listing (shown l p) es i)) u p (Wrote k) before after
-  unfolding listed
-  list-done d x k e u before after t g y z s w r =
-      let b = listed (shown l p) es in
-      let v = subst (λ (c : State). ShowsAt c u p) (λ j. withEvents (shown l p) (record { available = y j; status = z j })) s in
-      let h = events-sound (shown l p) (record { available = member 0x09 es; status = member 0x0A es }) (g .sound) in
-      told-at d (listing (shown l p) es i) b (done (plain i) nothing) u p k before after (list-allowed t) (v .shows) (good-at b u p h v)
-      (plain-stands d x i k before after w r)
+      (x : ℕ) (e : Events) (u : List ℕ) → all ≡ true → e .available ≡ member 0x09 es → e .status ≡ member 0x0A es →
+      u ≡ withList t e → x ≡ plain i → Stands (response d (error x)) k before after →
+      Answers (told d (listing (shown t p) es i)) u p (Wrote k) before after
+  unfolding listing listed
+  list-done x e u q y z s m w =
+      let b = listed (shown t p) es in
+      let v = list-law t p e g in
+      let h = subst (λ (c : State). Shows c u p) (λ j. withEvents (shown t p) (record { available = y j; status = z j })) (record { ledger = s ∙ v .ledger; pool = v .pool }) in
+      told-answers d _ b (done (plain i) nothing) u p k before after (skip _ _ _ (ap not (sym allowed-is ∙ q)))
+      (events-sound (shown t p) (record { available = member 0x09 es; status = member 0x0A es }) (g .sound)) h (plain-stands d x i k before after m w)

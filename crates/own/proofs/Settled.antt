@@ -1,13 +1,13 @@
--- Each contract of the own checks settles its outcome. Where the pool is not lent, it is one of those that the ledger belongs to.
+-- Each contract of the own checks settles its outcome.
 -- Assumes nothing.
 use Prim.Native.Nat.{ℕ}
 use mathlib.Core.Path.{_≡_, refl, sym, ap, _∙_}
 use mathlib.Core.List.{List}
+use Rattle.outcomes.specs.Determined.{Determined}
 use Rattle.rules.specs.Command.{Answer}
 use Rattle.session.specs.declared.Ended.{Ended}
 use Rattle.session.specs.declared.Ended.the-variants.{Wrote, Refused}
-use Rattle.session.specs.Calls.{AnswersAt}
-use Rattle.outcomes.specs.Determined.{Determined}
+use Rattle.session.specs.Calls.{Answers}
 use Rattle.session.proofs.Alike.{ended-alike, lent-alike, pool-told, ledger-told}
 use Rattle.own.proofs.plain.Kinds as plain-kinds
 use Rattle.own.proofs.plain.Reads as plain-reads
@@ -34,14 +34,11 @@ counted (Wrote k) = k
 counted (Refused r) = 0
 
 pub count-told :
-    {r : Answer} {t u p q before after after′ : List ℕ} {x y : ℕ} → AnswersAt r t p (Wrote x) before after → AnswersAt r u q (Wrote y) before after′ → x ≡ y
+    {r : Answer} {t u p q before after after′ : List ℕ} {x y : ℕ} → Answers r t p (Wrote x) before after → Answers r u q (Wrote y) before after′ → x ≡ y
 count-told s z = ap counted (ended-alike s z)
 
-pub list-events-settled : Determined 3 list-events-kinds.ps list-events-kinds.r list-events-reads.Pre list-events-reads.Post
-list-events-settled κs a b x y v w p q =
-    let s = p (b .0 .pool) (b .0 .good) in
-    let z = q (b .0 .pool) (b .0 .good) in
-    (count-told s z, λ i. (ledger-told s z i, (tt, (tt, (tt, (lent-alike s z i, tt))))))
+pub list-events-settled : Determined 4 list-events-kinds.ps list-events-kinds.r list-events-reads.Pre list-events-reads.Post
+list-events-settled κs a _ x y v w p q = (count-told p q, λ i. (ledger-told p q i, (tt, (tt, (tt, (tt, (lent-alike p q i, tt)))))))
 
 pub close-settled : Determined 3 close-kinds.ps close-kinds.r close-reads.Pre close-reads.Post
 close-settled κs a _ x y v w p q = (count-told p q, λ i. (ledger-told p q i, (pool-told p q i, (tt, (tt, (tt, (lent-alike p q i, tt)))))))

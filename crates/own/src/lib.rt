@@ -1,6 +1,6 @@
 // Step 9: the own checks of each command, one change of state, and the response.
-use command::Place;
-use command::allowed;
+use pool::Pool;
+use profile::allows_event;
 use responses::tell_problem;
 use responses::tell_received;
 use responses::tell_result;
@@ -9,30 +9,34 @@ use rules::ChannelNumber;
 use rules::Details;
 use rules::Events;
 use rules::Link;
-use session::base;
+use rules::Way;
+use session::Channel;
+use session::ESTABLISHED;
+use session::Ledger;
+use session::append;
+use session::capped;
 use session::close_channel;
 use session::entry;
-use session::hand;
 use session::least;
 use session::link_of;
-use session::make_ready;
+use session::remove;
 use session::set_events;
-use session::store;
-use session::told;
+use session::start_of;
 ghost use mathlib.Core.Path.{_≡_};
-ghost use mathlib.Core.List.{List};
-ghost use Prim.Native.Nat.{ℕ, _≤_};
+ghost use Prim.Native.Nat.{_+_, _≤_};
 ghost use lib.ListN.{length};
 ghost use Rattle.rules.specs.Checks.{_⇒_else_, every, member};
-ghost use Rattle.rules.specs.Profile.{allowsEvent};
-ghost use Rattle.octets.specs.Parts.{part};
-ghost use Rattle.rules.specs.State.{isDropped, readied};
-ghost use Rattle.rules.specs.Own.{bit1, plain, listing, closing, receiving, sending};
+ghost use Rattle.rules.specs.Profile.{profileSize, allowsEvent};
+ghost use Rattle.rules.specs.State.{isDropped};
+ghost use Rattle.rules.specs.Own.{plain, listing, closing, receiving, sending};
 ghost use Rattle.session.specs.declared.Ended.the-variants.{Wrote};
-ghost use Rattle.session.specs.Picture.{Belongs, GoodAt, linkOf, shownAt};
-ghost use Rattle.session.specs.Calls.{AnswersAt};
-ghost use Rattle.session.specs.Changed.{NumberedAt, chanAt, ChangedAt};
-ghost use Rattle.own.specs.Replies.{told};
+ghost use Rattle.session.specs.Picture.{GoodIn, linkOf, shown};
+ghost use Rattle.session.specs.Calls.{Answers};
+ghost use Rattle.session.specs.Changed.{Numbered};
+ghost use Rattle.own.specs.Replies.{told, sentEntry};
+
+// The most bytes that an answer to RECEIVE DATA carries.
+const DATA_CAP: usize = 237;
 
 // The result of a command that was done: 01 if an unexpected object was ignored, else 00.
 pub fn plain(ignored: bool) -> u8
@@ -54,27 +58,14 @@ pub fn short_or(short: bool, result: u8, ignored: bool) -> u8
     plain(ignored)
 }
 
-// Whether an event may be listed: it is 09 or 0A, and the profile allows it.
-fn allows_event(profile: &[u16], event: u8) -> bool
-    requires { ⌜ 13 ≤ length (now profile) ⌝ }
-    ensures { λ r. ⌜ r ≡ allowsEvent (now (profile .entry)) event ⌝ }
-{
-    match event {
-        0x09 => allowed(profile, Place { byte: 6, bit: 3 }),
-        0x0A => allowed(profile, Place { byte: 6, bit: 4 }),
-        _ => false,
-    }
-}
-
 // Whether the profile, the first numbers of the ledger, allows each of the events.
 fn all_allowed(ledger: &[u16], events: &[u8]) -> bool
-    requires { ⌜ 13 ≤ length (now ledger) ⌝ }
-    ensures { λ r. ⌜ r ≡ every (allowsEvent (part 0 13 (now (ledger .entry)))) (now (events .entry)) ⌝ }
+    requires { ⌜ profileSize ≤ length (now ledger) ⌝ }
+    ensures { λ r. ⌜ r ≡ every (allowsEvent (now (ledger .entry))) (now (events .entry)) ⌝ }
 {
-    let profile = &ledger[0..13];
     let mut i: usize = 0;
     while i < events.len() {
-        if !allows_event(profile, events[i]) {
+        if !allows_event(ledger, events[i]) {
             return false;
         }
         i += 1;
@@ -96,17 +87,17 @@ fn lists(events: &[u8], event: u8) -> bool
     false
 }
 
-// SET UP EVENT LIST: each value must be allowed, or the list stays; it replaces the old one.
+// SET UP EVENT LIST: each value must be allowed, or the list stays; it replaces the old one. The pool stays.
 pub fn list_events(
-    ledger: &mut [u16; 50],
+    ledger: &mut [u16; Ledger::SIZE],
+    pool: &[u8; Pool::SIZE],
     events: &[u8],
     d: Details,
     ignored: bool,
     out: &mut [u8],
 ) -> usize
-    requires { ⌜ Belongs (now ledger) ⌝ }
-    requires { ⌜ 255 ≤ length (now out) ⌝ }
-    ensures { λ r. ⌜ ((p : List ℕ) → GoodAt (now (ledger .entry)) p → AnswersAt (told d (listing (shownAt (now (ledger .entry)) p) (now (events .entry)) ignored)) (now (ledger .exit)) p (Wrote r) (now (out .entry)) (now (out .exit))) ⌝ }
+    requires { ⌜ GoodIn (now ledger) (now pool) × (255 ≤ length (now out)) ⌝ }
+    ensures { λ r. ⌜ Answers (told d (listing (shown (now (ledger .entry)) (now (pool .entry))) (now (events .entry)) ignored)) (now (ledger .exit)) (now (pool .entry)) (Wrote r) (now (out .entry)) (now (out .exit)) ⌝ }
 {
     if !all_allowed(ledger, events) {
         return tell_result(out, d, 0x30);
@@ -121,63 +112,66 @@ pub fn list_events(
 
 // CLOSE CHANNEL: the channel ends, held bytes are discarded.
 pub fn close(
-    ledger: &mut [u16; 50],
-    pool: &mut [u8; 8192],
+    ledger: &mut [u16; Ledger::SIZE],
+    pool: &mut [u8; Pool::SIZE],
     n: ChannelNumber,
     d: Details,
     ignored: bool,
     out: &mut [u8],
 ) -> usize
-    requires { ⌜ NumberedAt (now ledger) (now pool) n ⌝ }
-    requires { ⌜ 255 ≤ length (now out) ⌝ }
-    ensures { λ r. ⌜ AnswersAt (told d (closing (shownAt (now (ledger .entry)) (now (pool .entry))) n ignored)) (now (ledger .exit)) (now (pool .exit)) (Wrote r) (now (out .entry)) (now (out .exit)) ⌝ }
+    requires { ⌜ Numbered (now ledger) (now pool) n × (255 ≤ length (now out)) ⌝ }
+    ensures { λ r. ⌜ Answers (told d (closing (shown (now (ledger .entry)) (now (pool .entry))) n ignored)) (now (ledger .exit)) (now (pool .exit)) (Wrote r) (now (out .entry)) (now (out .exit)) ⌝ }
 {
     let c = entry(ledger, n);
     if c.grant < 1 {
         return tell_problem(out, d, 0x03);
     }
-    close_channel(ledger, pool, n);
+    close_channel(ledger, pool, n, c.grant);
     tell_result(out, d, plain(ignored))
 }
 
 // RECEIVE DATA: the least of the request, the bytes held and 237 is handed out; 02 if that is fewer than asked.
 pub fn receive(
-    ledger: &mut [u16; 50],
-    pool: &mut [u8; 8192],
+    ledger: &mut [u16; Ledger::SIZE],
+    pool: &mut [u8; Pool::SIZE],
     n: ChannelNumber,
     request: u8,
     d: Details,
     ignored: bool,
     out: &mut [u8],
 ) -> usize
-    requires { ⌜ NumberedAt (now ledger) (now pool) n ⌝ }
-    requires { ⌜ 255 ≤ length (now out) ⌝ }
-    ensures { λ r. ⌜ AnswersAt (told d (receiving (shownAt (now (ledger .entry)) (now (pool .entry))) n request ignored)) (now (ledger .exit)) (now (pool .exit)) (Wrote r) (now (out .entry)) (now (out .exit)) ⌝ }
+    requires { ⌜ Numbered (now ledger) (now pool) n × (255 ≤ length (now out)) ⌝ }
+    ensures { λ r. ⌜ Answers (told d (receiving (shown (now (ledger .entry)) (now (pool .entry))) n request ignored)) (now (ledger .exit)) (now (pool .exit)) (Wrote r) (now (out .entry)) (now (out .exit)) ⌝ }
 {
     let c = entry(ledger, n);
     if c.grant < 1 {
         return tell_problem(out, d, 0x03);
     }
     let held = c.rx as usize;
-    let handed = least(request as usize, least(held, 237));
+    let handed = least(request as usize, least(held, DATA_CAP));
     let result = short_or(handed < request as usize, 0x02, ignored);
-    let rest = held - handed;
-    let left = told(rest);
-    let at = base(ledger, (n.0 - 1) as usize);
+    let left = capped(held - handed);
+    let at = start_of(ledger, n, c.grant, Way::Receive);
     let count = tell_received(out, d, result, pool, at, handed as u8, left);
-    hand(ledger, pool, n, handed);
+    remove(ledger, pool, n, c, Way::Receive, at, handed);
     count
 }
 
-// What SEND DATA does behind storing: with qualifier bit 1 set all bytes held are ready, and the link is established.
-fn send_on(ledger: &mut [u16; 50], n: ChannelNumber, qualifier: u8)
-    requires { ⌜ Belongs (now ledger) ⌝ }
-    requires { ⌜ (1 ≤ n .0) × (n .0 ≤ 7) ⌝ }
-    ensures { λ _. ⌜ ((p : List ℕ) → GoodAt (now (ledger .entry)) p → ChangedAt (now (ledger .entry)) p n (bit1 qualifier ⇒ readied (chanAt (now (ledger .entry)) p n) else chanAt (now (ledger .entry)) p n) (now (ledger .exit)) p) ⌝ }
+// The entry that so many bytes of SEND DATA join: with qualifier bit 1 set all bytes then held are ready, and the link is established.
+fn sent_entry(c: Channel, qualifier: u8, count: usize) -> Channel
+    requires { ⌜ c .tx + count ≤ 65535 ⌝ }
+    ensures { λ r. ⌜ r ≡ sentEntry c qualifier count ⌝ }
 {
     if qualifier % 2 == 1 {
-        make_ready(ledger, n);
+        return Channel {
+            grant: c.grant,
+            link: ESTABLISHED,
+            rx: c.rx,
+            tx: c.tx,
+            ready: (c.tx as usize + count) as u16,
+        };
     }
+    c
 }
 
 // Whether a link was dropped.
@@ -193,17 +187,16 @@ fn is_dropped(link: u16) -> bool
 
 // SEND DATA: the bytes are stored whole or not at all, and the room that is left is told.
 pub fn send(
-    ledger: &mut [u16; 50],
-    pool: &mut [u8; 8192],
+    ledger: &mut [u16; Ledger::SIZE],
+    pool: &mut [u8; Pool::SIZE],
     n: ChannelNumber,
     bytes: &[u8],
     d: Details,
     ignored: bool,
     out: &mut [u8],
 ) -> usize
-    requires { ⌜ NumberedAt (now ledger) (now pool) n ⌝ }
-    requires { ⌜ 255 ≤ length (now out) ⌝ }
-    ensures { λ r. ⌜ AnswersAt (told d (sending (shownAt (now (ledger .entry)) (now (pool .entry))) (d .qualifier) n (now (bytes .entry)) ignored)) (now (ledger .exit)) (now (pool .exit)) (Wrote r) (now (out .entry)) (now (out .exit)) ⌝ }
+    requires { ⌜ Numbered (now ledger) (now pool) n × (255 ≤ length (now out)) ⌝ }
+    ensures { λ r. ⌜ Answers (told d (sending (shown (now (ledger .entry)) (now (pool .entry))) (d .qualifier) n (now (bytes .entry)) ignored)) (now (ledger .exit)) (now (pool .exit)) (Wrote r) (now (out .entry)) (now (out .exit)) ⌝ }
 {
     let c = entry(ledger, n);
     if c.grant < 1 {
@@ -217,9 +210,9 @@ pub fn send(
     if room < bytes.len() {
         return tell_problem(out, d, 0x04);
     }
-    let rest = room - bytes.len();
-    let count = tell_sent(out, d, plain(ignored), told(rest));
-    store(ledger, pool, n, bytes);
-    send_on(ledger, n, d.qualifier);
+    let left = capped(room - bytes.len());
+    let count = tell_sent(out, d, plain(ignored), left);
+    let joined = sent_entry(c, d.qualifier, bytes.len());
+    append(ledger, pool, n, joined, Way::Send, bytes);
     count
 }

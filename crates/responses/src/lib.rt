@@ -150,12 +150,7 @@ fn tell_status(out: &mut [u8], at: usize, n: ChannelNumber, link: u16) -> usize
 }
 
 // Writes the answer to GET CHANNEL STATUS: a result and a status for each open channel, rising; none open: 00 00.
-pub fn tell_statuses(
-    out: &mut [u8],
-    d: Details,
-    result: u8,
-    ledger: &[u16; Ledger::SIZE],
-) -> usize
+pub fn tell_statuses(out: &mut [u8], d: Details, result: u8, ledger: &[u16; Ledger::SIZE]) -> usize
     requires { ⌜ (length (now ledger) ≡ ledgerSize) × (40 ≤ length (now out)) ⌝ }
     ensures { λ r. ⌜ Stands (response d (done result (statuses (statusesIn (now (ledger .entry)) 0 7)))) r (now (out .entry)) (now (out .exit)) ⌝ }
 {

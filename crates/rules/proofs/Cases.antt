@@ -14,12 +14,12 @@ use Rattle.rules.specs.declared.Link.the-variants.{NotYet, Established}
 use Rattle.rules.specs.declared.Refusal.{Refusal}
 use Rattle.rules.specs.declared.Refusal.the-variants.{ShortBuffer, NoChannel, Unopened, Unlinked, Overfull, CommandSize}
 use Rattle.rules.specs.Checks.{_⇒_else_, isEmpty, every, some-of, member}
-use Rattle.rules.specs.Profile.{allowsEvent, channels}
+use Rattle.rules.specs.Profile.{allowsEvent, channels, allowsBearer}
 use Rattle.rules.specs.declared.Way.the-variants.{Receive, Send}
 use Rattle.rules.specs.State.{State, Chan, chan, withChan, isOpen, isEstablished, isDropped, room, closed, fresh, readied, dropped, held, appended, removed}
 use Rattle.rules.specs.Pool.{unpromised, grantFor}
 use Rattle.rules.specs.Reading.{Reading, Bearer, reading}
-use Rattle.rules.specs.Own.{Reply, Result, Status, reply, error, problem, done, nothing, opened, received, sent, bit1, plain, capped, served, openBefore, listing, listed, opening, closing, receiving, sending}
+use Rattle.rules.specs.Own.{Reply, Result, Status, reply, error, problem, done, nothing, opened, received, sent, bit1, plain, capped, openBefore, listing, listed, opening, closing, receiving, sending}
 use Rattle.rules.specs.Written.{responseBytes}
 use Rattle.rules.specs.Command.{Answer, Meant, answered, refusal, command, meantBy}
 use Rattle.rules.specs.Bench.{causeProper}
@@ -111,7 +111,7 @@ causes =
 
 -- the facts under which an OPEN CHANNEL opens
 pub record Opens (a : State) (b : Bearer) (size protocol : ℕ) : Type 0 where
-  pub bearer : served (a .profile) b ≡ true
+  pub bearer : allowsBearer (a .profile) (b .kind) ≡ true
   pub tcp : protocol ≡ 0x02
   pub asks : 1 ≤ size
   pub unused : openBefore (channels (a .profile)) (a .chans) ≡ channels (a .profile) → ⊥

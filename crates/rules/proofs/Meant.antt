@@ -17,10 +17,11 @@ use Rattle.rules.specs.Words.{channelOf}
 use Rattle.rules.specs.Frames.{Object, contents}
 use Rattle.rules.specs.Table.{table, known, bearerFits}
 use Rattle.rules.specs.declared.Way.the-variants.{Receive, Send}
+use Rattle.rules.specs.Profile.{allowsBearer}
 use Rattle.rules.specs.State.{State, Chan, chan, isDropped, held}
 use Rattle.rules.specs.Pool.{unpromised}
 use Rattle.rules.specs.Reading.{Reading, reading, Command, Body, Bearer, moreTime, eventList, openChannel, closeChannel, receiveData, sendData, channelStatus, other, bodyIn, commandIn, kindOf, detailsOf}
-use Rattle.rules.specs.Own.{Reply, Status, bit1, plain, served, opened, statusesFrom, own, protocolOf}
+use Rattle.rules.specs.Own.{Reply, Status, bit1, plain, opened, statusesFrom, own, protocolOf}
 use Rattle.rules.specs.Written.{bearerBytes}
 use Rattle.rules.specs.Command.{meantBy}
 use Rattle.rules.specs.Bench.{bearerProper, errorProper, successProper, furtherProper, resultProper, rising, proper}
@@ -47,7 +48,7 @@ unfolding isEmpty
 no-parameters [] e = refl
 no-parameters (x ∷ s) e = absurd (omega arith)
 
-bearer-proper : (p : List ℕ) (b : Bearer) → served p b ≡ true → bearerFits (bearerBytes b) ≡ true → bearerProper b ≡ true
+bearer-proper : (p : List ℕ) (b : Bearer) → allowsBearer p (b .kind) ≡ true → bearerFits (bearerBytes b) ≡ true → bearerProper b ≡ true
 unfolding bearerProper bearerBytes
 bearer-proper p b s e =
     bearer-lengths (bearerProper b ≡ true) p b s e

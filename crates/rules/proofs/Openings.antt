@@ -14,11 +14,11 @@ use borrow.Author.Tests.{ne-eqb, ltb-true, ltb-false, eqb-true, eqb-false, eq-eq
 use Rattle.rules.specs.declared.ChannelNumber.{ChannelNumber}
 use Rattle.rules.specs.declared.Link.the-variants.{NotYet, Established}
 use Rattle.rules.specs.Checks.{_⇒_else_}
-use Rattle.rules.specs.Profile.{channels}
+use Rattle.rules.specs.Profile.{channels, allowsBearer}
 use Rattle.rules.specs.State.{State, Chan, closed, isOpen, chan, withChan, fresh}
 use Rattle.rules.specs.Pool.{cells, promised, unpromised, grantFor}
 use Rattle.rules.specs.Reading.{Bearer}
-use Rattle.rules.specs.Own.{Reply, reply, Further, problem, done, opened, bit1, plain, served, openBefore, opening, closing}
+use Rattle.rules.specs.Own.{Reply, reply, Further, problem, done, opened, bit1, plain, openBefore, opening, closing}
 use Rattle.rules.specs.Run.{Call}
 use Rattle.rules.specs.Demands.{reached, isDone, AllOpen, Lowest}
 use Rattle.rules.proofs.Laws.{branch, skip}
@@ -100,7 +100,7 @@ opens a q b size i k =
 
 module _
     (a : State) (q : ℕ) (b : Bearer) (size protocol : ℕ) (i : Bool)
-    (s : served (a .profile) b ≡ true) (u : protocol ≡ 0x02) (f : 1 ≤ size) where
+    (s : allowsBearer (a .profile) (b .kind) ≡ true) (u : protocol ≡ 0x02) (f : 1 ≤ size) where
   opening-last :
       (Q : Reply → Type 0) →
       (AllOpen a → Q (reply a (problem 0x01))) →

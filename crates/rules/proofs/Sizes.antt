@@ -16,11 +16,11 @@ use Rattle.rules.specs.Checks.{_⇒_else_, isEmpty, every}
 use Rattle.rules.specs.Words.{channelOf}
 use Rattle.rules.specs.Frames.{Object, contents, lengthBytes, objectBytes, written}
 use Rattle.rules.specs.Table.{table, rowAmong, rowOf, complete, present, valueOf, bearerFits, lengthFits}
-use Rattle.rules.specs.Profile.{allowsBearer02}
+use Rattle.rules.specs.Profile.{bit, allowsBearer}
 use Rattle.rules.specs.declared.Way.the-variants.{Receive, Send}
 use Rattle.rules.specs.State.{State, Chan, chan, held}
 use Rattle.rules.specs.Reading.{Reading, wrong, asked, reading, Command, Body, Bearer, moreTime, eventList, openChannel, closeChannel, receiveData, sendData, channelStatus, other, bodyIn, bearerIn, commandIn}
-use Rattle.rules.specs.Own.{Reply, Result, Further, Status, error, problem, done, nothing, opened, received, sent, statuses, capped, served, statusesFrom, own, protocolOf}
+use Rattle.rules.specs.Own.{Reply, Result, Further, Status, error, problem, done, nothing, opened, received, sent, statuses, capped, statusesFrom, own, protocolOf}
 use Rattle.rules.specs.Written.{flagged, unflagged, detailsBytes, bearerBytes, pairBytes, statusBytes, statusObject, statusObjects, furtherObjects, resultBytes, resultObjects, responseObjects, responseBytes, eventBytes}
 use Rattle.rules.specs.Command.{Answer, Outcome, wrote, refused, meantBy}
 use Rattle.rules.specs.Radio.{arrivalEvent, dropEvent}
@@ -118,7 +118,7 @@ statuses-short (s ∷ ss) h = let x = status-objects (s ∷ ss) in omega arith
 
 -- a bearer that is served has seven bytes for type 02, or one for type 03
 bearer-by :
-    (P : Type 0) (two three a : Bool) (l : ℕ) → three || (two && a) ≡ true → (two ⇒ eqb l 7 else three ⇒ eqb l 1 else true) ≡ true →
+    (P : Type 0) (two three a : Bool) (l : ℕ) → (three ⇒ true else two ⇒ a else false) ≡ true → (two ⇒ eqb l 7 else three ⇒ eqb l 1 else true) ≡ true →
     (two ≡ true → l ≡ 7 → P) → (three ≡ true → l ≡ 1 → P) → P
 unfolding _⇒_else_
 bearer-by P true three a l s e f g = f refl (eqb-true l 7 e)
@@ -126,12 +126,12 @@ bearer-by P false true a l s e f g = g refl (eqb-true l 1 e)
 bearer-by P false false a l s e f g = absurd (false≢true s)
 
 pub bearer-lengths :
-    (P : Type 0) (p : List ℕ) (b : Bearer) → served p b ≡ true → bearerFits (bearerBytes b) ≡ true →
+    (P : Type 0) (p : List ℕ) (b : Bearer) → allowsBearer p (b .kind) ≡ true → bearerFits (bearerBytes b) ≡ true →
     (eqb (b .kind) 0x02 ≡ true → length (bearerBytes b) ≡ 7 → P) → (eqb (b .kind) 0x03 ≡ true → length (bearerBytes b) ≡ 1 → P) → P
-unfolding served bearerFits bearerBytes isEmpty _⇒_else_
-bearer-lengths P p b = bearer-by P (eqb (b .kind) 2) (eqb (b .kind) 3) (allowsBearer02 p) (suc (length (b .parameters)))
+unfolding allowsBearer bearerFits bearerBytes isEmpty _⇒_else_
+bearer-lengths P p b = bearer-by P (eqb (b .kind) 2) (eqb (b .kind) 3) (bit p 13 2) (suc (length (b .parameters)))
 
-pub bearer-short : (p : List ℕ) (b : Bearer) → served p b ≡ true → bearerFits (bearerBytes b) ≡ true → length (bearerBytes b) ≤ 7
+pub bearer-short : (p : List ℕ) (b : Bearer) → allowsBearer p (b .kind) ≡ true → bearerFits (bearerBytes b) ≡ true → length (bearerBytes b) ≤ 7
 bearer-short p b s e = bearer-lengths (length (bearerBytes b) ≤ 7) p b s e (λ _ l. omega arith) (λ _ l. omega arith)
 
 -- a command that was read has a bearer of its length

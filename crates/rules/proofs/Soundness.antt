@@ -147,7 +147,7 @@ fresh-cells : (a : State) (n : ChannelNumber) (g : ℕ) (l : Link) → 2 * cells
 unfolding fresh
 fresh-cells a n g l h = omega arith
 
-closed-cells : (a : State) (n : ChannelNumber) → 2 * cells (closed .grant) ≤ 2 * cells (chan a n .grant) + unpromised a
+pub closed-cells : (a : State) (n : ChannelNumber) → 2 * cells (closed .grant) ≤ 2 * cells (chan a n .grant) + unpromised a
 unfolding closed cells
 closed-cells a n = omega arith
 

@@ -12,10 +12,10 @@ use Rattle.rules.specs.declared.Refusal.the-variants.{Unopened}
 use Rattle.rules.specs.Checks.{_⇒_else_, isEmpty, every, some-of, occurrences, member, same}
 use Rattle.rules.specs.Frames.{longLength, lengthAt, lengthBytes, tagAt, valueAfter, afterTag, objectAt, onward, walkUpTo, walk, objectBytes, written, fills, following, framed, contents, frame}
 use Rattle.rules.specs.Table.{table, known, rowAmong, rowOf, times, sift, present, valueOf, complete, bearerFits, lengthFits, measured}
-use Rattle.rules.specs.Profile.{bit, kept, allowsType, allowsEvent, allowsBearer02, channels}
+use Rattle.rules.specs.Profile.{bit, kept, allowsType, allowsEvent, allowsBearer, channels}
 use Rattle.rules.specs.State.{isEstablished, isDropped, establish, closed, isOpen, start, chan, withChan, queue, withQueue, room, joined, without, marked, fresh, appended, removed, readied, dropped}
 use Rattle.rules.specs.Reading.{kindOf, detailsOf, zeros, detailsIn, pairIn, bearerIn, transportIn, bodyIn, commandIn, toModem, addressed, isFault, startsWithDetails, readObjects, reading}
-use Rattle.rules.specs.Own.{bit1, capped, plain, listed, listing, served, protocolOf, openBefore, opening, closing, receiving, sending, statusesFrom, own}
+use Rattle.rules.specs.Own.{bit1, capped, plain, listed, listing, protocolOf, openBefore, opening, closing, receiving, sending, statusesFrom, own}
 use Rattle.rules.specs.Pool.{cells, promisedTo, promised, unpromised, grantFor}
 use Rattle.rules.specs.Written.{pairBytes, detailsBytes, bearerBytes, statusBytes, statusObject, statusObjects, furtherObjects, resultBytes, resultObjects, responseObjects, responseBytes, eventBytes}
 use Rattle.rules.specs.Command.{Outcome, wrote, refused, meantBy, command}
@@ -114,7 +114,7 @@ sizeOf (refused r) = 0
 pub twelve :
     (map endOf numbers ≡ map (λ (r : Number). r .ends) numbers) ×
     (map (λ (r : Number). sizeOf (endOf r)) numbers ≡ map (λ (r : Number). r .size) numbers)
-unfolding row chars orNone bytes profile openLine eventLine arriveLine receiveLine pattern holding full answer numbers endOf sizeOf _⇒_else_ isEmpty every some-of occurrences member same longLength lengthAt lengthBytes tagAt valueAfter afterTag objectAt onward walkUpTo walk objectBytes written fills following framed contents frame table known rowAmong rowOf times sift present valueOf complete bearerFits lengthFits measured bit kept allowsType allowsEvent allowsBearer02 channels isEstablished isDropped establish closed isOpen start chan withChan queue withQueue room joined without marked fresh appended removed readied dropped kindOf detailsOf zeros detailsIn pairIn bearerIn transportIn bodyIn commandIn toModem addressed isFault startsWithDetails readObjects reading bit1 capped plain listed listing served protocolOf openBefore opening closing receiving sending statusesFrom own cells promisedTo promised unpromised grantFor pairBytes detailsBytes bearerBytes statusBytes statusObject statusObjects furtherObjects resultBytes resultObjects responseObjects responseBytes eventBytes meantBy command numbered arrivalEvent arrival taking dropEvent dropping step after isDigit digitValue with-byte bytesOf
+unfolding row chars orNone bytes profile openLine eventLine arriveLine receiveLine pattern holding full answer numbers endOf sizeOf _⇒_else_ isEmpty every some-of occurrences member same longLength lengthAt lengthBytes tagAt valueAfter afterTag objectAt onward walkUpTo walk objectBytes written fills following framed contents frame table known rowAmong rowOf times sift present valueOf complete bearerFits lengthFits measured bit kept allowsType allowsEvent allowsBearer channels isEstablished isDropped establish closed isOpen start chan withChan queue withQueue room joined without marked fresh appended removed readied dropped kindOf detailsOf zeros detailsIn pairIn bearerIn transportIn bodyIn commandIn toModem addressed isFault startsWithDetails readObjects reading bit1 capped plain listed listing protocolOf openBefore opening closing receiving sending statusesFrom own cells promisedTo promised unpromised grantFor pairBytes detailsBytes bearerBytes statusBytes statusObject statusObjects furtherObjects resultBytes resultObjects responseObjects responseBytes eventBytes meantBy command numbered arrivalEvent arrival taking dropEvent dropping step after isDigit digitValue with-byte bytesOf
 twelve = (refl, refl)
 
 -- the listing, through the whole line program: its lines in, its lines out
@@ -138,5 +138,5 @@ listingOut =
     []
 
 pub listing-printed : program (map chars listingIn) ≡ map chars listingOut
-unfolding listingIn listingOut chars _⇒_else_ isEmpty every some-of occurrences member same longLength lengthAt lengthBytes tagAt valueAfter afterTag objectAt onward walkUpTo walk objectBytes written fills following framed contents frame table known rowAmong rowOf times sift present valueOf complete bearerFits lengthFits measured bit kept allowsType allowsEvent allowsBearer02 channels isEstablished isDropped establish closed isOpen start chan withChan queue withQueue room joined without marked fresh appended removed readied dropped kindOf detailsOf zeros detailsIn pairIn bearerIn transportIn bodyIn commandIn toModem addressed isFault startsWithDetails readObjects reading bit1 capped plain listed listing served protocolOf openBefore opening closing receiving sending statusesFrom own cells promisedTo promised unpromised grantFor pairBytes detailsBytes bearerBytes statusBytes statusObject statusObjects furtherObjects resultBytes resultObjects responseObjects responseBytes eventBytes meantBy command numbered arrivalEvent arrival taking dropEvent dropping step after isDigit digitValue with-byte bytesOf frameOf callOf digitOf hex printed callIn perform lineStep linesFrom profileThen program
+unfolding listingIn listingOut chars _⇒_else_ isEmpty every some-of occurrences member same longLength lengthAt lengthBytes tagAt valueAfter afterTag objectAt onward walkUpTo walk objectBytes written fills following framed contents frame table known rowAmong rowOf times sift present valueOf complete bearerFits lengthFits measured bit kept allowsType allowsEvent allowsBearer channels isEstablished isDropped establish closed isOpen start chan withChan queue withQueue room joined without marked fresh appended removed readied dropped kindOf detailsOf zeros detailsIn pairIn bearerIn transportIn bodyIn commandIn toModem addressed isFault startsWithDetails readObjects reading bit1 capped plain listed listing protocolOf openBefore opening closing receiving sending statusesFrom own cells promisedTo promised unpromised grantFor pairBytes detailsBytes bearerBytes statusBytes statusObject statusObjects furtherObjects resultBytes resultObjects responseObjects responseBytes eventBytes meantBy command numbered arrivalEvent arrival taking dropEvent dropping step after isDigit digitValue with-byte bytesOf frameOf callOf digitOf hex printed callIn perform lineStep linesFrom profileThen program
 listing-printed = refl

@@ -11,7 +11,7 @@ use Rattle.rules.specs.declared.Link.the-variants.{NotYet, Established}
 use Rattle.rules.specs.declared.Way.the-variants.{Receive, Send}
 use Rattle.rules.specs.Checks.{_⇒_else_, every, member}
 use Rattle.rules.specs.Words.{channelOf}
-use Rattle.rules.specs.Profile.{allowsEvent, allowsBearer02, channels}
+use Rattle.rules.specs.Profile.{allowsEvent, allowsBearer, channels}
 use Rattle.rules.specs.State.{State, Chan, closed, isDropped, isOpen, chan, withChan, held, room, fresh, appended, removed, readied}
 use Rattle.rules.specs.Pool.{unpromised, grantFor}
 use Rattle.rules.specs.Reading.{Bearer, Transport, Body, Command, moreTime, eventList, openChannel, closeChannel, receiveData, sendData, channelStatus, other}
@@ -66,10 +66,6 @@ listing a es ignored =
     not (every (allowsEvent (a .profile)) es) ⇒ reply a (error 0x30) else
     reply (listed a es) (done (plain ignored) nothing)
 
--- bearer type 03, or 02 if allowed
-unfoldable pub served : List ℕ → Bearer → Bool
-served p b = eqb (b .kind) 0x03 || (eqb (b .kind) 0x02 && allowsBearer02 p)
-
 -- the protocol of a channel: that of its transport level, or TCP, 02, where none stands
 unfoldable pub protocolOf : Option Transport → ℕ
 protocolOf none = 0x02
@@ -89,7 +85,7 @@ opening a q b size protocol ignored =
     let g = grantFor size (unpromised a) in
     let number : ChannelNumber = record { 0 = k + 1 } in
     let link = bit1 q ⇒ Established else NotYet in
-    not (served (a .profile) b) ⇒ reply a (error 0x30) else
+    not (allowsBearer (a .profile) (b .kind)) ⇒ reply a (error 0x30) else
     not (eqb protocol 0x02) ⇒ reply a (problem 0x06) else
     eqb size 0 ⇒ reply a (problem 0x04) else
     eqb k n ⇒ reply a (problem 0x01) else

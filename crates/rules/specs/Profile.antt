@@ -1,6 +1,6 @@
 -- "Profile": the bits, every place that the paper names, and the number of channels.
 use Prim.Native.Nat.{ℕ, _-_, _/_, _%_, _^_}
-use mathlib.Core.Bool.{Bool, false}
+use mathlib.Core.Bool.{Bool, true, false}
 use mathlib.Core.List.{List, _++_}
 use lib.ListN.{getD, take, replicate}
 use lib.Dec.{eqb}
@@ -32,9 +32,12 @@ allowsEvent p e =
     eqb e 0x0A ⇒ bit p 6 4 else
     false
 
--- the bearer: byte 13 bit 2 for type 02
-unfoldable pub allowsBearer02 : List ℕ → Bool
-allowsBearer02 p = bit p 13 2
+-- the bearers: 03, and 02 by byte 13 bit 2
+unfoldable pub allowsBearer : List ℕ → ℕ → Bool
+allowsBearer p b =
+    eqb b 0x03 ⇒ true else
+    eqb b 0x02 ⇒ bit p 13 2 else
+    false
 
 -- the number N of channels: byte 13 bits 6 to 8, bit 8 highest
 unfoldable pub channels : List ℕ → ℕ

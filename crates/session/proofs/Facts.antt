@@ -273,6 +273,15 @@ module _ (t p : List ℕ) (n : ChannelNumber) (h : Numbered t p n) where
       changed (marked c (linkOf (e .link)) (e .ready)) e u p eᵗ (marks-entry e m)
       (pool-is ∙ sym (marked-pool a n sound place (linkOf (e .link)) (e .ready)))
 
+  -- the first bytes held for a way lie in the pool
+  pub held-within : (e : Channel) (w : Way) (from k : ℕ) → e ≡ x → from ≡ startIn t n (e .grant) w → k ≤ heldIn e w → from + k ≤ length p
+  held-within e w from k q r f =
+      let b = bounds in
+      let l : from ≡ startIn t n (x .grant) w = r ∙ ap (λ (v : Channel). startIn t n (v .grant) w) q in
+      let y : heldIn e w ≡ heldIn x w = ap (λ (v : Channel). heldIn v w) q in
+      let u = way-fits w (heldIn x w) (held-fits w) in
+      omega (arith, b .size)
+
   -- the first bytes held for a way are read from where it begins
   pub held-read : (w : Way) (k : ℕ) → k ≤ length (held c w) → part (startIn t n (x .grant) w) (startIn t n (x .grant) w + k) p ≡ take k (held c w)
   held-read w k f =
