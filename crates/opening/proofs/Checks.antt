@@ -4,35 +4,37 @@ use Prim.Native.Nat.{ℕ, zero, suc, _+_, _-_, _*_, _/_, _≤_, _<_}
 use mathlib.Core.Path.{_≡_, refl, sym, ap, subst, _∙_}
 use mathlib.Core.Bool.{Bool, true, false, not, false≢true}
 use mathlib.Core.List.{List, [], _∷_}
-use mathlib.Core.Option.{Option}
 use native.Mathlib.Omega.{arith}
 use lib.ListN.{length, getD}
 use lib.Dec.{ltb, eqb}
 use borrow.Author.Tests.{lt-ltb, le-ltb, leb-false, eq-eqb, ne-eqb}
+use Rattle.rules.specs.declared.ChannelNumber.{ChannelNumber}
 use Rattle.rules.specs.declared.Details.{Details}
 use Rattle.rules.specs.declared.Link.{Link}
 use Rattle.rules.specs.declared.Link.the-variants.{NotYet, Established}
 use Rattle.rules.specs.Checks.{_⇒_else_, isEmpty}
-use Rattle.rules.specs.Profile.{channels}
+use Rattle.rules.specs.Profile.{allowsBearer, channels}
 use Rattle.rules.specs.State.{State, Chan, closed, isOpen, chan, withChan, fresh}
-use Rattle.rules.specs.Pool.{cells, unpromised, grantFor}
+use Rattle.rules.specs.Pool.{cellCount, cellSize, cells, unpromised, grantFor}
 use Rattle.rules.specs.Table.{bearerFits}
-use Rattle.rules.specs.Reading.{Bearer, Transport, bearerIn}
-use Rattle.rules.specs.Own.{Reply, reply, error, problem, done, opened, bit1, plain, served, isTcp, openBefore, opening}
+use Rattle.rules.specs.Reading.{bearerIn}
+use Rattle.rules.specs.Own.{Reply, reply, error, problem, done, opened, bit1, plain, openBefore, opening}
 use Rattle.rules.specs.Written.{bearerBytes}
 use Rattle.rules.proofs.Laws.{branch, stop, skip, not-not}
 use Rattle.rules.proofs.Grants.{Granted, grant-law}
-use Rattle.rules.proofs.Soundness.{opened-place}
+use Rattle.rules.proofs.Soundness.{opened-place, with-sound, fresh-sound, fresh-cells}
 use Rattle.rules.proofs.Sizes.{bearer-short}
+use Rattle.profile.proofs.Bits.{front-bearer, front-channels}
 use Rattle.session.specs.declared.Ended.the-variants.{Wrote}
-use Rattle.session.specs.Book.{Ledger}
-use Rattle.session.specs.Picture.{GoodIn, shown, chansIn, baseOf}
+use Rattle.session.specs.Picture.{GoodIn, shown, baseIn}
 use Rattle.session.specs.Calls.{Answers}
 use Rattle.session.specs.Changed.{Numbered, chanIn, Changed}
-use Rattle.session.proofs.Facts.{Bounds, bounds, opened-good}
+use Rattle.session.proofs.Facts.{Bounds, bounds, place}
 use Rattle.responses.specs.Stands.{response, Stands}
 use Rattle.own.specs.Replies.{told}
-use Rattle.own.proofs.Replies.{told-answers}
+use Rattle.opening.specs.Unused.{openFrom}
+use Rattle.opening.proofs.Unused.{open-shown}
+use Rattle.own.proofs.Replies.{told-answers, left-answers}
 
 -- a bearer that fits is there, and is written as it was read
 pub bearer-there : (v : List ℕ) → bearerFits v ≡ true → 0 < length v
@@ -46,13 +48,12 @@ bearer-back [] e = absurd (false≢true e)
 bearer-back (x ∷ v) e = refl
 
 -- one that is served has at most seven bytes
-pub bearer-few :
-    (p v : List ℕ) (x : Bool) → ((b : Bearer) → b .kind ≡ getD v 0 0 → x ≡ served p b) → not x ≡ false → bearerFits v ≡ true → length v ≤ 7
+pub bearer-few : (t v : List ℕ) (x : Bool) → x ≡ allowsBearer t (getD v 0 0) → not x ≡ false → bearerFits v ≡ true → length v ≤ 7
 unfolding bearerIn
-bearer-few p v x bearer s e =
+bearer-few t v x bearer s e =
     let back = bearer-back v e in
     subst (λ (w : List ℕ). length w ≤ 7) back
-    (bearer-short p (bearerIn v) (sym (bearer (bearerIn v) refl) ∙ not-not x s) (subst (λ (w : List ℕ). bearerFits w ≡ true) (sym back) e))
+    (bearer-short t (bearerIn v) (sym bearer ∙ not-not x s) (subst (λ (w : List ℕ). bearerFits w ≡ true) (sym back) e))
 
 -- the first channel that does not stand open, if it is not the one behind the first n, has no grant
 first-closed : (n : ℕ) (cs : List Chan) → (openBefore n cs ≡ n → ⊥) → getD cs (openBefore n cs) closed .grant ≡ 0
@@ -65,8 +66,8 @@ first-closed (suc n) (c ∷ cs) h =
     h
 
 -- the numbers of a good session
-pub numbers : (l : Ledger) (p : List ℕ) → GoodIn l p → Bounds l p (record { 0 = 1 })
-numbers l p g = bounds l p (record { 0 = 1 }) (record { good = g; low = omega arith; high = omega arith })
+pub numbers : (t p : List ℕ) → GoodIn t p → Bounds t p (record { 0 = 1 })
+numbers t p g = bounds t p (record { 0 = 1 }) (record { good = g; low = omega arith; high = omega arith })
 
 -- the profile allows at most seven channels
 pub few-channels : (p : List ℕ) (n : ℕ) → n ≡ channels p → n ≤ 7
@@ -74,110 +75,126 @@ unfolding channels
 few-channels p n e = omega arith
 
 -- the number that is opened, and the cells that are free, as the rules have them
-module _ (l : Ledger) (p : List ℕ) (g : GoodIn l p) where
-  module _ (n k : ℕ) (en : n ≡ channels (l .profile)) (ek : (r : List ℕ) → k ≡ openBefore n (chansIn (l .channels) r)) where
-    number-is : (k ≡ openBefore (channels (shown l p .profile)) (shown l p .chans)) × (n ≡ channels (shown l p .profile))
+module _ (t p : List ℕ) (g : GoodIn t p) where
+  abbrev a : State
+  a = shown t p
+
+  module _ (n k : ℕ) (en : n ≡ channels t) (ek : k ≡ openFrom t 0 n) where
+    channels-is : n ≡ channels (a .profile)
     unfolding shown
-    number-is = (ek p ∙ ap (λ (m : ℕ). openBefore m (chansIn (l .channels) p)) en, en)
+    channels-is = en ∙ sym (front-channels t)
+
+    number-is : k ≡ openBefore (channels (a .profile)) (a .chans)
+    number-is = ek ∙ open-shown t p g n (few-channels t n en) ∙ ap (λ (m : ℕ). openBefore m (a .chans)) channels-is
 
     module _ (u : k ≡ n → ⊥) where
-      unused : openBefore (channels (shown l p .profile)) (shown l p .chans) ≡ channels (shown l p .profile) → ⊥
-      unused e = u (number-is .0 ∙ e ∙ sym (number-is .1))
+      unused : openBefore (channels (a .profile)) (a .chans) ≡ channels (a .profile) → ⊥
+      unused e = u (number-is ∙ e ∙ sym channels-is)
 
-      pub numbered : Numbered l p (record { 0 = k + 1 })
+      pub numbered : Numbered t p (record { 0 = k + 1 })
       numbered =
-          let z = opened-place (shown l p) (k + 1) (g .sound) (ap (λ (j : ℕ). j + 1) (number-is .0)) unused in
+          let z = opened-place a (k + 1) (g .sound) (ap (λ (j : ℕ). j + 1) number-is) unused in
           record { good = g; low = z .0; high = z .1 }
 
-      pub unopened : chanIn l p (record { 0 = k + 1 }) .grant ≡ 0
+      pub unopened : chanIn t p (record { 0 = k + 1 }) .grant ≡ 0
       unfolding chan
       unopened =
-          let z : k + 1 - 1 ≡ openBefore (channels (shown l p .profile)) (shown l p .chans) = omega (arith, number-is .0) in
-          ap (λ (j : ℕ). getD (shown l p .chans) j closed .grant) z ∙ first-closed _ _ unused
+          let z : k + 1 - 1 ≡ openBefore (channels (a .profile)) (a .chans) = omega (arith, number-is) in
+          ap (λ (j : ℕ). getD (a .chans) j closed .grant) z ∙ first-closed _ _ unused
 
-  module _ (f : ℕ) (ef : f ≡ 256 - baseOf (l .channels) 7 / 32) where
-    free-is : f ≡ unpromised (shown l p)
+  module _ (f : ℕ) (ef : f ≡ cellCount - baseIn t 7 / cellSize) where
+    free-is : f ≡ unpromised a
     unfolding unpromised
-    free-is = let z = numbers l p g .used-is in omega arith
+    free-is = let z = numbers t p g .used-is in omega arith
 
-    grant-is : (size w : ℕ) → w ≡ grantFor size f → w ≡ grantFor size (unpromised (shown l p))
+    grant-is : (size w : ℕ) → w ≡ grantFor size f → w ≡ grantFor size (unpromised a)
     grant-is size w e = e ∙ ap (grantFor size) free-is
 
-    granted : (size w : ℕ) → w ≡ grantFor size f → Granted size (unpromised (shown l p)) w
-    granted size w e = subst (Granted size (unpromised (shown l p))) (sym (grant-is size w e)) (grant-law size (unpromised (shown l p)))
+    granted : (size w : ℕ) → w ≡ grantFor size f → Granted size (unpromised a) w
+    granted size w e = subst (Granted size (unpromised a)) (sym (grant-is size w e)) (grant-law size (unpromised a))
 
-    pub grant-fits : (size w : ℕ) → w ≡ grantFor size f → 2 * cells w ≤ unpromised (shown l p)
+    pub grant-fits : (size w : ℕ) → w ≡ grantFor size f → 2 * cells w ≤ unpromised a
     grant-fits size w e = granted size w e .fits
 
--- the checks in their order: the bearer, of which the code tells x; the transport, o; the size; the number, k of n; the free cells, f
-module _ (l : Ledger) (p : List ℕ) (q : ℕ) (v : List ℕ) (size : ℕ) (t : Option Transport) (i : Bool) (x : Bool)
-    (bearer : (b : Bearer) → b .kind ≡ getD v 0 0 → x ≡ served (l .profile) b) (o : Bool) (tcp : isTcp t ≡ o) where
-  abbrev a : State
-  a = shown l p
+-- the checks in their order: the bearer, of which the code tells x; the protocol; the size; the number, k of n; the free cells, f
+module _ (t p : List ℕ) (g : GoodIn t p) (d : Details) (v : List ℕ) (size protocol : ℕ) (i : Bool) (x : Bool) (bearer : x ≡ allowsBearer t (getD v 0 0))
+    (count : ℕ) (before after : List ℕ) where
+  abbrev b : State
+  b = shown t p
 
   abbrev all : Reply
-  all = opening a q (bearerIn v) size t i
+  all = opening b (d .qualifier) (bearerIn v) size protocol i
 
-  served-is : not (served (a .profile) (bearerIn v)) ≡ not x
+  abbrev answer : List ℕ → List ℕ → Type 0
+  answer u r = Answers (told d all) u r (Wrote count) before after
+
+  served-is : not (allowsBearer (b .profile) (bearerIn v .kind)) ≡ not x
   unfolding shown bearerIn
-  served-is = ap not (sym (bearer (bearerIn v) refl))
+  served-is = ap not (front-bearer t (getD v 0 0) ∙ sym bearer)
 
-  pub unserved : not x ≡ true → all ≡ reply a (error 0x30)
+  pub unserved : not x ≡ true → Stands (response d (error 0x30)) count before after → answer t p
   unfolding opening
-  unserved e = stop _ _ _ (served-is ∙ e)
+  unserved e w = left-answers d all (error 0x30) t p count before after (stop _ _ _ (served-is ∙ e)) g w
 
   module _ (s : not x ≡ false) where
-    pub untcp : not o ≡ true → all ≡ reply a (problem 0x06)
+    pub untcp : (protocol ≡ 0x02 → ⊥) → Stands (response d (problem 0x06)) count before after → answer t p
     unfolding opening
-    untcp e = skip _ _ _ (served-is ∙ s) ∙ stop _ _ _ (ap not tcp ∙ e)
+    untcp e w = left-answers d all (problem 0x06) t p count before after (skip _ _ _ (served-is ∙ s) ∙ stop _ _ _ (ap not (ne-eqb protocol 0x02 e))) g w
 
-    module _ (c : not o ≡ false) where
-      pub sizeless : size < 1 → all ≡ reply a (problem 0x04)
+    module _ (c : protocol ≡ 0x02) where
+      tcp : not (eqb protocol 0x02) ≡ false
+      tcp = ap not (eq-eqb protocol 0x02 c)
+
+      pub sizeless : size < 1 → Stands (response d (problem 0x04)) count before after → answer t p
       unfolding opening
-      sizeless e = skip _ _ _ (served-is ∙ s) ∙ skip _ _ _ (ap not tcp ∙ c) ∙ stop _ _ _ (eq-eqb size 0 (omega arith))
+      sizeless e w =
+          left-answers d all (problem 0x04) t p count before after
+          (skip _ _ _ (served-is ∙ s) ∙ skip _ _ _ tcp ∙ stop _ _ _ (eq-eqb size 0 (omega arith))) g w
 
-      module _ (z : 1 ≤ size) (g : GoodIn l p) (n k : ℕ) (en : n ≡ channels (l .profile)) (ek : (r : List ℕ) → k ≡ openBefore n (chansIn (l .channels) r)) where
+      module _ (z : 1 ≤ size) (n k : ℕ) (en : n ≡ channels t) (ek : k ≡ openFrom t 0 n) where
         asked : eqb size 0 ≡ false
         asked = ne-eqb size 0 (λ e. omega arith)
 
-        pub numberless : k ≡ n → all ≡ reply a (problem 0x01)
+        pub numberless : k ≡ n → Stands (response d (problem 0x01)) count before after → answer t p
         unfolding opening
-        numberless e =
-            skip _ _ _ (served-is ∙ s) ∙ skip _ _ _ (ap not tcp ∙ c) ∙ skip _ _ _ asked
-            ∙ stop _ _ _ (eq-eqb _ _ (sym (number-is l p g n k en ek .0) ∙ e ∙ number-is l p g n k en ek .1))
+        numberless e w =
+            left-answers d all (problem 0x01) t p count before after
+            (skip _ _ _ (served-is ∙ s) ∙ skip _ _ _ tcp ∙ skip _ _ _ asked
+            ∙ stop _ _ _ (eq-eqb _ _ (sym (number-is t p g n k en ek) ∙ e ∙ channels-is t p g n k en ek))) g w
 
-        module _ (u : k ≡ n → ⊥) (f : ℕ) (ef : f ≡ 256 - baseOf (l .channels) 7 / 32) where
-          pub cellless : f < 2 → all ≡ reply a (problem 0x04)
+        module _ (u : k ≡ n → ⊥) (f : ℕ) (ef : f ≡ cellCount - baseIn t 7 / cellSize) where
+          pub cellless : f < 2 → Stands (response d (problem 0x04)) count before after → answer t p
           unfolding opening
-          cellless e =
-              skip _ _ _ (served-is ∙ s) ∙ skip _ _ _ (ap not tcp ∙ c) ∙ skip _ _ _ asked ∙ skip _ _ _ (ne-eqb _ _ (unused l p g n k en ek u))
-              ∙ stop _ _ _ (lt-ltb _ 2 (subst (λ (j : ℕ). j < 2) (free-is l p g f ef) e))
+          cellless e w =
+              left-answers d all (problem 0x04) t p count before after
+              (skip _ _ _ (served-is ∙ s) ∙ skip _ _ _ tcp ∙ skip _ _ _ asked ∙ skip _ _ _ (ne-eqb _ _ (unused t p g n k en ek u))
+              ∙ stop _ _ _ (lt-ltb _ 2 (subst (λ (j : ℕ). j < 2) (free-is t p g f ef) e))) g w
 
           -- the reply that opens the channel j + 1 with the grant w
           abbrev made : ℕ → ℕ → Link → ℕ → Reply
           made j w link y =
-              reply (withChan a (record { 0 = j + 1 }) (fresh w link))
+              reply (withChan b (record { 0 = j + 1 }) (fresh w link))
               (done y (opened (record { number = record { 0 = j + 1 }; link = link }) (bearerIn v) w))
 
-          module _ (w : ℕ) (link : Link) (y : ℕ) (ew : w ≡ grantFor size f) (el : link ≡ (bit1 q ⇒ Established else NotYet))
+          module _ (w : ℕ) (link : Link) (y : ℕ) (ew : w ≡ grantFor size f) (el : link ≡ (bit1 (d .qualifier) ⇒ Established else NotYet))
               (ey : y ≡ (ltb w size ⇒ 0x07 else plain i)) where
             opens : 2 ≤ f → all ≡ made k w link y
             unfolding opening
             opens e =
-                let ek′ = number-is l p g n k en ek .0 in
-                let ew′ = grant-is l p g f ef size w ew in
-                skip _ _ _ (served-is ∙ s) ∙ skip _ _ _ (ap not tcp ∙ c) ∙ skip _ _ _ asked ∙ skip _ _ _ (ne-eqb _ _ (unused l p g n k en ek u))
-                ∙ skip _ _ _ (le-ltb _ 2 (subst (λ (j : ℕ). 2 ≤ j) (free-is l p g f ef) e))
+                let ek′ = number-is t p g n k en ek in
+                let ew′ = grant-is t p g f ef size w ew in
+                skip _ _ _ (served-is ∙ s) ∙ skip _ _ _ tcp ∙ skip _ _ _ asked ∙ skip _ _ _ (ne-eqb _ _ (unused t p g n k en ek u))
+                ∙ skip _ _ _ (le-ltb _ 2 (subst (λ (j : ℕ). 2 ≤ j) (free-is t p g f ef) e))
                 ∙ sym (λ j. made (ek′ j) (ew′ j) (el j) (ltb (ew′ j) size ⇒ 0x07 else plain i)) ∙ ap (made k w link) (sym ey)
 
             pub open-done :
-                (d : Details) (m : Ledger) (r : List ℕ) (count : ℕ) (before after : List ℕ) → 2 ≤ f → bearerFits v ≡ true →
-                Changed l p (record { 0 = k + 1 }) (fresh w link) m r →
-                ((b : Bearer) → bearerBytes b ≡ v →
-                Stands (response d (done y (opened (record { number = record { 0 = k + 1 }; link = link }) b w))) count before after) →
-                Answers (told d all) m r (Wrote count) before after
-            open-done d m r count before after e fits h stands =
-                let grant = granted l p g f ef size w ew in
-                told-answers d all _ _ m r count before after (opens e) h
-                (opened-good l p (record { 0 = k + 1 }) (numbered l p g n k en ek u) w link m r (grant .capped) (grant .fits) h)
-                (stands (bearerIn v) (bearer-back v fits))
+                (m r : List ℕ) → 2 ≤ f → Changed t p (record { 0 = k + 1 }) (fresh w link) m r →
+                Stands (response d (done y (opened (record { number = record { 0 = k + 1 }; link = link }) (bearerIn v) w))) count before after →
+                answer m r
+            open-done m r e h stands =
+                let grant = granted t p g f ef size w ew in
+                let number : ChannelNumber = record { 0 = k + 1 } in
+                told-answers d all _ _ m r count before after (opens e)
+                (with-sound b number (fresh w link) (g .sound) (place t p number (numbered t p g n k en ek u)) (fresh-sound w link (grant .capped))
+                (fresh-cells b number w link (grant .fits)))
+                h stands

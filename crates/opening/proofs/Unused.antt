@@ -1,63 +1,73 @@
--- The channels that stand open before the first that does not, read from the entries alone.
+-- The channels that stand open before the first that does not, read from the ledger.
 -- Assumes nothing.
-use Prim.Native.Nat.{ℕ, zero, suc, _+_, _≤_, _<_}
+use Prim.Native.Nat.{ℕ, zero, suc, _+_, _-_, _≤_, _<_}
 use mathlib.Core.Path.{_≡_, refl, sym, ap, subst, _∙_}
-use mathlib.Core.List.{List, [], _∷_}
+use mathlib.Core.List.{List, _∷_}
 use native.Mathlib.Omega.{arith}
-use native.Mathlib.Nat.{le-of-suc-le-suc, not-suc-le-zero}
 use native.Mathlib.Numerals.{add-one}
-use lib.ListN.{length, getD}
+use native.Mathlib.Nat.{add-zero}
+use lib.ListN.{length, getD, drop}
+use lib.Seq.{drop-cons}
+use lib.Dec.{leb}
 use borrow.Author.Tests.{le-leb, lt-leb}
-use Rattle.rules.specs.State.{isOpen}
+use Rattle.rules.specs.Checks.{_⇒_else_}
+use Rattle.rules.specs.Profile.{profileSize}
+use Rattle.rules.specs.State.{State, closed, isOpen}
 use Rattle.rules.specs.Own.{openBefore}
 use Rattle.rules.proofs.Laws.{stop, skip}
 use Rattle.session.specs.declared.Channel.{Channel}
-use Rattle.session.specs.Picture.{chansIn}
+use Rattle.session.specs.Book.{entryAt, entryFrom}
+use Rattle.session.specs.Picture.{ledgerOf, shown, GoodIn}
+use Rattle.session.proofs.Ledgers.{grant-read}
+use Rattle.opening.specs.Unused.{openFrom}
 
--- the first k entries have a grant
-abbrev Granted : List Channel → ℕ → Type 0
-Granted es zero = Unit {0}
-Granted [] (suc k) = ⊥
-Granted (e ∷ es) (suc k) = (1 ≤ e .grant) × Granted es k
-
--- of the first n, k were seen, and each has a grant
-pub record Seen (es : List Channel) (n k : ℕ) : Type 0 where
+-- the first k of the n stand open, and the count goes on from there
+pub record Seen (t : List ℕ) (n k : ℕ) : Type 0 where
   pub upto : k ≤ n
-  pub open-all : Granted es k
+  pub on : openFrom t 0 n ≡ k + openFrom t k (n - k)
 
-granted-more : (es : List Channel) (k : ℕ) (d : Channel) → Granted es k → k < length es → 1 ≤ getD es k d .grant → Granted es (suc k)
-granted-more [] k d b h o = absurd (not-suc-le-zero h)
-granted-more (e ∷ es) zero d b h o = (o, tt)
-granted-more (e ∷ es) (suc k) d b h o = (b .0, granted-more es k d (b .1) (le-of-suc-le-suc h) o)
+module _ (t : List ℕ) (n : ℕ) where
+  pub seen-none : Seen t n 0
+  seen-none =
+      let e : openFrom t 0 n ≡ openFrom t 0 (n - 0) = ap (openFrom t 0) (let z : n ≡ n - 0 = omega arith in z) in
+      record { upto = omega arith; on = omega arith }
 
-granted-stop :
-    (es : List Channel) (n k : ℕ) (d : Channel) (p : List ℕ) → Granted es k → k < n → k < length es → getD es k d .grant < 1 →
-    k ≡ openBefore n (chansIn es p)
-unfolding openBefore chansIn isOpen
-granted-stop es zero k d p b m h o = absurd (not-suc-le-zero m)
-granted-stop [] (suc n) k d p b m h o = absurd (not-suc-le-zero h)
-granted-stop (e ∷ es) (suc n) zero d p b m h o = sym (skip _ _ _ (lt-leb 1 (e .grant) o))
-granted-stop (e ∷ es) (suc n) (suc k) d p b m h o =
-    ap suc (granted-stop es n k d _ (b .1) (le-of-suc-le-suc m) (le-of-suc-le-suc h) o) ∙ sym (stop _ _ _ (le-leb 1 (e .grant) (b .0)))
+  -- an entry that was read at the place k
+  module _ (k : ℕ) (e : Channel) (s : Seen t n k) (h : k < n) (q : e ≡ entryFrom t (entryAt (k + 1 - 1))) where
+    grant-at : e .grant ≡ getD t (entryAt k) 0
+    grant-at = ap (λ (x : Channel). x .grant) q ∙ ap (λ (j : ℕ). getD t (entryAt j) 0) (let z : k + 1 - 1 ≡ k = omega arith in z)
 
-granted-all : (es : List Channel) (n : ℕ) (p : List ℕ) → Granted es n → n ≡ openBefore n (chansIn es p)
-unfolding openBefore chansIn isOpen
-granted-all es zero p b = refl
-granted-all [] (suc n) p b = absurd b
-granted-all (e ∷ es) (suc n) p b = ap suc (granted-all es n _ (b .1)) ∙ sym (stop _ _ _ (le-leb 1 (e .grant) (b .0)))
+    here : openFrom t k (n - k) ≡ (leb 1 (getD t (entryAt k) 0) ⇒ suc (openFrom t (k + 1) (n - (k + 1))) else 0)
+    unfolding openFrom
+    here = ap (openFrom t k) (let z : n - k ≡ suc (n - (k + 1)) = omega arith in z)
 
-module _ (es : List Channel) (n : ℕ) (l : length es ≡ 7) (m : n ≤ 7) where
-  pub seen-none : Seen es n 0
-  seen-none = record { upto = omega arith; open-all = tt }
+    pub seen-more : 1 ≤ e .grant → Seen t n (k + 1)
+    seen-more o =
+        let m = here ∙ stop _ _ _ (le-leb 1 _ (subst (λ (g : ℕ). 1 ≤ g) grant-at o)) in
+        record { upto = omega arith; on = let z = s .on in omega arith }
 
-  pub seen-more : (k : ℕ) (d : Channel) → Seen es n k → k < n → 1 ≤ getD es k d .grant → Seen es n (k + 1)
-  seen-more k d s h o =
-      record { upto = omega arith; open-all = subst (Granted es) (sym (add-one k)) (granted-more es k d (s .open-all) (omega arith) o) }
+    pub seen-stop : e .grant < 1 → k ≡ openFrom t 0 n
+    seen-stop o =
+        let m = here ∙ skip _ _ _ (lt-leb 1 _ (subst (λ (g : ℕ). g < 1) grant-at o)) in
+        let z = s .on in
+        omega arith
 
-  pub seen-stop : (k : ℕ) (d : Channel) → Seen es n k → k < n → getD es k d .grant < 1 → (p : List ℕ) → k ≡ openBefore n (chansIn es p)
-  seen-stop k d s h o p = granted-stop es n k d p (s .open-all) h (omega arith) o
+  pub seen-all : (k : ℕ) → Seen t n k → n ≤ k → k ≡ openFrom t 0 n
+  unfolding openFrom
+  seen-all k s h =
+      let e : n - k ≡ 0 = omega arith in
+      let z : openFrom t 0 n ≡ k + 0 = s .on ∙ ap (λ (m : ℕ). k + openFrom t k m) e in
+      omega arith
 
-  pub seen-all : (k : ℕ) → Seen es n k → n ≤ k → (p : List ℕ) → k ≡ openBefore n (chansIn es p)
-  seen-all k s h p =
-      let e : k ≡ n = omega (arith, s .upto) in
-      subst (λ (j : ℕ). k ≡ openBefore j (chansIn es p)) e (granted-all es k p (s .open-all))
+-- it is the count of the state whose ledger it is
+from-entries : (a : State) → length (a .profile) ≡ profileSize → (k m : ℕ) → k + m ≤ length (a .chans) → openFrom (ledgerOf a) k m ≡ openBefore m (drop k (a .chans))
+unfolding openFrom openBefore isOpen
+from-entries a h k zero e = refl
+from-entries a h k (suc m) e =
+    let later = from-entries a h (k + 1) m (omega arith) ∙ ap (λ (j : ℕ). openBefore m (drop j (a .chans))) (add-one k) in
+    (λ i. leb 1 (grant-read a h k i) ⇒ suc (later i) else 0)
+    ∙ sym (ap (openBefore (suc m)) (drop-cons (a .chans) k closed (omega arith)))
+
+pub open-shown : (t p : List ℕ) → GoodIn t p → (n : ℕ) → n ≤ 7 → openFrom t 0 n ≡ openBefore n (shown t p .chans)
+open-shown t p g n h =
+    ap (λ (u : List ℕ). openFrom u 0 n) (g .shows .ledger) ∙ from-entries (shown t p) (g .sound .thirteen) 0 n (omega (arith, g .sound .seven))

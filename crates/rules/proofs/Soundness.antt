@@ -143,7 +143,7 @@ start-sound p =
 abbrev After : Reply → Type 0
 After r = Sound (r .state)
 
-fresh-cells : (a : State) (n : ChannelNumber) (g : ℕ) (l : Link) → 2 * cells g ≤ unpromised a → 2 * cells (fresh g l .grant) ≤ 2 * cells (chan a n .grant) + unpromised a
+pub fresh-cells : (a : State) (n : ChannelNumber) (g : ℕ) (l : Link) → 2 * cells g ≤ unpromised a → 2 * cells (fresh g l .grant) ≤ 2 * cells (chan a n .grant) + unpromised a
 unfolding fresh
 fresh-cells a n g l h = omega arith
 
