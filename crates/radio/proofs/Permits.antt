@@ -1,142 +1,135 @@
--- R3, R4 and R5 as one check, and each call of the radio by that check.
+-- R3, R4 and R5, which the code finds in the entry, as the definitions have them of the channel.
 -- Assumes nothing.
-use Prim.Native.Nat.{ℕ, _+_, _≤_, _<_, min}
-use mathlib.Core.Path.{_≡_, refl, sym, ap, _∙_}
-use mathlib.Core.Bool.{Bool, true, false, not, _&&_}
+use Prim.Native.Nat.{ℕ, _≤_, _<_}
+use mathlib.Core.Path.{_≡_, refl, sym, ap, subst, _∙_}
+use mathlib.Core.Bool.{true, not, false≢true}
 use mathlib.Core.List.{List}
-use native.Mathlib.Omega.{arith}
-use lib.ListN.{length, take}
-use lib.Dec.{ltb, leb}
-use borrow.Author.Tests.{lt-ltb, le-ltb, le-leb, lt-leb}
+use lib.ListN.{length}
+use lib.Dec.{leb, eqb}
+use borrow.Author.Tests.{lt-ltb, le-ltb, le-leb, lt-leb, leb-true, eq-eqb, ne-eqb}
 use Rattle.rules.specs.declared.ChannelNumber.{ChannelNumber}
 use Rattle.rules.specs.declared.Link.{Link}
 use Rattle.rules.specs.declared.Link.the-variants.{NotYet, Established, Dropped}
 use Rattle.rules.specs.declared.Refusal.{Refusal}
-use Rattle.rules.specs.declared.Refusal.the-variants.{ShortBuffer, NoChannel, Unopened, Unlinked, Overfull}
+use Rattle.rules.specs.declared.Refusal.the-variants.{NoChannel, Unopened, Unlinked, ShortBuffer}
 use Rattle.rules.specs.Checks.{_⇒_else_}
-use Rattle.rules.specs.State.{State, Chan, chan, withChan, isOpen, isEstablished, room, arrived, taken, dropped}
-use Rattle.rules.specs.Command.{Answer, answered, refusal}
-use Rattle.rules.specs.Radio.{numbered, arrivalEvent, arrival, taking, dropEvent, dropping}
-use Rattle.rules.proofs.Laws.{stop, skip}
+use Rattle.rules.specs.State.{isOpen, isEstablished}
+use Rattle.rules.specs.Command.{Answer, refusal}
+use Rattle.rules.specs.Radio.{numbered, arrival, taking, dropping}
+use Rattle.rules.proofs.Laws.{branch, stop, skip, not-not, both-left, both-right}
+use Rattle.session.specs.declared.Channel.{Channel}
+use Rattle.session.specs.declared.Ended.the-variants.{Refused}
+use Rattle.session.specs.Book.{entryIn}
+use Rattle.session.specs.Picture.{linkNumber, entry, shown, GoodIn}
+use Rattle.session.specs.Calls.{Answers}
+use Rattle.session.specs.Changed.{Numbered, chanIn}
+use Rattle.session.proofs.Facts.{entry-is}
+use Rattle.session.proofs.Answers.{refuse-answers}
 use Rattle.radio.specs.declared.Permit.{Permit}
 use Rattle.radio.specs.declared.Permit.the-variants.{Pass, Refuse}
-use Rattle.radio.specs.Permits.{permitOf}
+use Rattle.radio.specs.Permits.{permitIn, Usable}
 
-numbered-low : (n : ChannelNumber) → n .0 < 1 → not (numbered n) ≡ true
-unfolding numbered
-numbered-low n h = ap (λ (b : Bool). not (b && leb (n .0) 7)) (lt-leb 1 (n .0) h)
+-- each return of the check, over what it found
+module _ (t : List ℕ) (n : ChannelNumber) where
+  pub permit-low : n .0 < 1 → Refuse NoChannel ≡ permitIn t n
+  unfolding permitIn numbered _⇒_else_
+  permit-low l = simp (lt-leb 1 (n .0) l)
 
-numbered-high : (n : ChannelNumber) → 1 ≤ n .0 → 7 < n .0 → not (numbered n) ≡ true
-unfolding numbered
-numbered-high n l h = λ i. not (le-leb 1 (n .0) l i && lt-leb (n .0) 7 h i)
+  pub permit-high : 1 ≤ n .0 → 7 < n .0 → Refuse NoChannel ≡ permitIn t n
+  unfolding permitIn numbered _⇒_else_
+  permit-high l h = simp (le-leb 1 (n .0) l, lt-leb (n .0) 7 h)
 
-numbered-yes : (n : ChannelNumber) → 1 ≤ n .0 → n .0 ≤ 7 → not (numbered n) ≡ false
-unfolding numbered
-numbered-yes n l h = λ i. not (le-leb 1 (n .0) l i && le-leb (n .0) 7 h i)
+  module _ (l : 1 ≤ n .0) (h : n .0 ≤ 7) (x : Channel) (is : x ≡ entryIn t n) where
+    grant-is : entryIn t n .grant ≡ x .grant
+    grant-is = ap (λ (y : Channel). y .grant) (sym is)
 
--- a refusal is no pass
-pub refuse-pass : {r : Refusal} {X : Type 0} → Refuse r ≡ Pass → X
-refuse-pass e = absurd (let z : _≡_ {A = ℕ} 0 1 = cc in omega arith)
+    link-is : entryIn t n .link ≡ x .link
+    link-is = ap (λ (y : Channel). y .link) (sym is)
 
--- the permit that a link gives
-abbrev pub byLink : Link → Permit
-byLink NotYet = Refuse Unlinked
-byLink Established = Pass
-byLink Dropped = Refuse Unlinked
+    pub permit-closed : x .grant < 1 → Refuse Unopened ≡ permitIn t n
+    unfolding permitIn numbered _⇒_else_
+    permit-closed g = simp (le-leb 1 (n .0) l, le-leb (n .0) 7 h, grant-is, lt-leb 1 (x .grant) g)
 
-linked-by : (l : Link) → (not (isEstablished l) ⇒ Refuse Unlinked else Pass) ≡ byLink l
-unfolding isEstablished _⇒_else_
+    pub permit-unlinked : 1 ≤ x .grant → (x .link ≡ 1 → ⊥) → Refuse Unlinked ≡ permitIn t n
+    unfolding permitIn numbered _⇒_else_
+    permit-unlinked g k = simp (le-leb 1 (n .0) l, le-leb (n .0) 7 h, grant-is, le-leb 1 (x .grant) g, link-is, ne-eqb (x .link) 1 k)
+
+    pub permit-pass : 1 ≤ x .grant → x .link ≡ 1 → Pass x ≡ permitIn t n
+    unfolding permitIn numbered _⇒_else_
+    permit-pass g k = simp (le-leb 1 (n .0) l, le-leb (n .0) 7 h, le-leb 1 (entryIn t n .grant) (rw grant-is g), eq-eqb (entryIn t n .link) 1 (link-is ∙ k)) (ap Pass is)
+
+linked-by : (l : Link) → eqb (linkNumber l) 1 ≡ isEstablished l
+unfolding isEstablished
 linked-by NotYet = refl
 linked-by Established = refl
 linked-by Dropped = refl
 
-module _ (a : State) (n : ChannelNumber) where
-  pub permit-low : n .0 < 1 → permitOf a n ≡ Refuse NoChannel
-  unfolding permitOf
-  permit-low h = stop _ _ _ (numbered-low n h)
+established-is : (l : Link) → isEstablished l ≡ true → l ≡ Established
+unfolding isEstablished
+established-is NotYet e = absurd (false≢true e)
+established-is Established e = refl
+established-is Dropped e = absurd (false≢true e)
 
-  pub permit-high : 1 ≤ n .0 → 7 < n .0 → permitOf a n ≡ Refuse NoChannel
-  unfolding permitOf
-  permit-high l h = stop _ _ _ (numbered-high n l h)
+module _ (t p : List ℕ) (n : ChannelNumber) where
+  -- R3, R4 and R5 as the definitions have them, before what a call does
+  abbrev checked : Answer → Answer
+  checked x =
+      not (numbered n) ⇒ refusal (shown t p) NoChannel else
+      not (isOpen (chanIn t p n)) ⇒ refusal (shown t p) Unopened else
+      not (isEstablished (chanIn t p n .link)) ⇒ refusal (shown t p) Unlinked else
+      x
 
-  pub permit-closed : 1 ≤ n .0 → n .0 ≤ 7 → chan a n .grant < 1 → permitOf a n ≡ Refuse Unopened
-  unfolding permitOf isOpen
-  permit-closed l h g = skip _ _ _ (numbered-yes n l h) ∙ stop _ _ _ (ap not (lt-leb 1 (chan a n .grant) g))
+  -- a channel that may be used passes them
+  pub passing : {x : Channel} → Usable t p n x → (y : Answer) → checked y ≡ y
+  unfolding numbered isEstablished _⇒_else_
+  passing u y = simp (le-leb 1 (n .0) (u .numbered .low), le-leb (n .0) 7 (u .numbered .high), u .stands, u .link)
 
-  pub permit-link : (l : Link) → 1 ≤ n .0 → n .0 ≤ 7 → 1 ≤ chan a n .grant → chan a n .link ≡ l → permitOf a n ≡ byLink l
-  unfolding permitOf isOpen
-  permit-link k l h g e =
-      skip _ _ _ (numbered-yes n l h) ∙ skip _ _ _ (ap not (le-leb 1 (chan a n .grant) g)) ∙ linked-by (chan a n .link) ∙ ap byLink e
+  -- what a permit tells of them
+  abbrev Verdict : Permit → Type 0
+  Verdict (Pass x) = Usable t p n x
+  Verdict (Refuse why) = (y : Answer) → checked y ≡ refusal (shown t p) why
 
--- what is done by a permit
-abbrev pub permitting : {A : Type 0} → Permit → (Refusal → A) → A → A
-permitting Pass f x = x
-permitting (Refuse r) f x = f r
+  verdict : GoodIn t p → Verdict (permitIn t n)
+  unfolding permitIn numbered isOpen entry
+  verdict g =
+      branch Verdict _ _ _ (λ e₃ y. stop _ _ _ e₃) (λ e₃.
+      let low = leb-true 1 (n .0) (both-left (leb 1 (n .0)) (leb (n .0) 7) (not-not _ e₃)) in
+      let high = leb-true (n .0) 7 (both-right (leb 1 (n .0)) (leb (n .0) 7) (not-not _ e₃)) in
+      let h : Numbered t p n = record { good = g; low = low; high = high } in
+      let is = sym (entry-is t p n h) in
+      let opens = ap (λ (x : Channel). not (leb 1 (x .grant))) is in
+      let links = ap not (sym (linked-by (chanIn t p n .link))) ∙ ap (λ (x : Channel). not (eqb (x .link) 1)) is in
+      branch Verdict _ _ _ (λ e₄ y. skip _ _ _ e₃ ∙ stop _ _ _ (opens ∙ e₄)) (λ e₄.
+      branch Verdict _ _ _ (λ e₅ y. skip _ _ _ e₃ ∙ skip _ _ _ (opens ∙ e₄) ∙ stop _ _ _ (links ∙ e₅)) (λ e₅.
+      record { numbered = h; entry = refl; stands = not-not _ (opens ∙ e₄); link = established-is _ (not-not _ (links ∙ e₅)) })))
 
-three :
-    {A : Type 0} (b₁ b₂ b₃ : Bool) (f : Refusal → A) (x : A) →
-    (b₁ ⇒ f NoChannel else b₂ ⇒ f Unopened else b₃ ⇒ f Unlinked else x) ≡
-    permitting (b₁ ⇒ Refuse NoChannel else b₂ ⇒ Refuse Unopened else b₃ ⇒ Refuse Unlinked else Pass) f x
-unfolding _⇒_else_
-three true b₂ b₃ f x = refl
-three false true b₃ f x = refl
-three false false true f x = refl
-three false false false f x = refl
+  module _ (r : Permit) (g : GoodIn t p) (e : r ≡ permitIn t n) where
+    pub usable : (x : Channel) → r ≡ Pass x → Usable t p n x
+    usable x f = subst Verdict (sym e ∙ f) (verdict g)
 
-module _ (a : State) (buffer : ℕ) (n : ChannelNumber) where
-  pub arrival-by :
-      (s : List ℕ) → 16 ≤ buffer →
-      arrival a buffer n s ≡
-      permitting (permitOf a n) (refusal a)
-      (ltb (room (chan a n .grant) (chan a n .recv)) (length s) ⇒ refusal a Overfull else
-      answered (withChan a n (arrived (chan a n) s)) (arrivalEvent a n s))
-  unfolding arrival permitOf
-  arrival-by s h = skip _ _ _ (le-ltb buffer 16 h) ∙ three _ _ _ (refusal a) _
+    -- a permit that refuses, refuses each of the calls
+    module _ (why : Refusal) (f : r ≡ Refuse why) (out : List ℕ) where
+      refused : (x y : Answer) → x ≡ checked y → Answers x t p (Refused why) out out
+      refused x y k = refuse-answers x t p out why g (k ∙ subst Verdict (sym e ∙ f) (verdict g) y)
 
-  pub arrival-short : (s : List ℕ) → buffer < 16 → arrival a buffer n s ≡ refusal a ShortBuffer
+      pub arrival-refused : (s : List ℕ) → 16 ≤ length out → Answers (arrival (shown t p) (length out) n s) t p (Refused why) out out
+      unfolding arrival
+      arrival-refused s b = refused _ _ (skip _ _ _ (le-ltb (length out) 16 b))
+
+      pub taking-refused : Answers (taking (shown t p) (length out) n) t p (Refused why) out out
+      unfolding taking
+      taking-refused = refused _ _ refl
+
+      pub dropping-refused : 16 ≤ length out → Answers (dropping (shown t p) (length out) n) t p (Refused why) out out
+      unfolding dropping
+      dropping-refused b = refused _ _ (skip _ _ _ (le-ltb (length out) 16 b))
+
+-- R1
+module _ (t p : List ℕ) (n : ChannelNumber) (out : List ℕ) (g : GoodIn t p) (h : length out < 16) where
+  pub arrival-short : (s : List ℕ) → Answers (arrival (shown t p) (length out) n s) t p (Refused ShortBuffer) out out
   unfolding arrival
-  arrival-short s h = stop _ _ _ (lt-ltb buffer 16 h)
+  arrival-short s = refuse-answers _ t p out _ g (stop _ _ _ (lt-ltb (length out) 16 h))
 
-  pub taking-by :
-      taking a buffer n ≡
-      permitting (permitOf a n) (refusal a)
-      (answered (withChan a n (taken (chan a n) (min buffer (chan a n .ready)))) (take (min buffer (chan a n .ready)) (chan a n .send)))
-  unfolding taking permitOf
-  taking-by = three _ _ _ (refusal a) _
-
-  pub dropping-by :
-      16 ≤ buffer → dropping a buffer n ≡ permitting (permitOf a n) (refusal a) (answered (withChan a n (dropped (chan a n))) (dropEvent a n))
-  unfolding dropping permitOf
-  dropping-by h = skip _ _ _ (le-ltb buffer 16 h) ∙ three _ _ _ (refusal a) _
-
-  pub dropping-short : buffer < 16 → dropping a buffer n ≡ refusal a ShortBuffer
+  pub dropping-short : Answers (dropping (shown t p) (length out) n) t p (Refused ShortBuffer) out out
   unfolding dropping
-  dropping-short h = stop _ _ _ (lt-ltb buffer 16 h)
-
-  -- a permit that refuses, refuses the call
-  pub arrival-refused : (s : List ℕ) (r : Refusal) → 16 ≤ buffer → permitOf a n ≡ Refuse r → arrival a buffer n s ≡ refusal a r
-  arrival-refused s r h e = arrival-by s h ∙ ap (λ (x : Permit). permitting x (refusal a) (stored s)) e
-    where
-      stored : List ℕ → Answer
-      stored s =
-          ltb (room (chan a n .grant) (chan a n .recv)) (length s) ⇒ refusal a Overfull else
-          answered (withChan a n (arrived (chan a n) s)) (arrivalEvent a n s)
-
-  pub taking-permit :
-      (x : Permit) → permitOf a n ≡ x →
-      taking a buffer n ≡
-      permitting x (refusal a)
-      (answered (withChan a n (taken (chan a n) (min buffer (chan a n .ready)))) (take (min buffer (chan a n .ready)) (chan a n .send)))
-  taking-permit x e =
-      taking-by
-      ∙ ap
-      (λ (y : Permit).
-      permitting y (refusal a)
-      (answered (withChan a n (taken (chan a n) (min buffer (chan a n .ready)))) (take (min buffer (chan a n .ready)) (chan a n .send))))
-      e
-
-  pub dropping-permit :
-      (x : Permit) → 16 ≤ buffer → permitOf a n ≡ x →
-      dropping a buffer n ≡ permitting x (refusal a) (answered (withChan a n (dropped (chan a n))) (dropEvent a n))
-  dropping-permit x h e =
-      dropping-by h ∙ ap (λ (y : Permit). permitting y (refusal a) (answered (withChan a n (dropped (chan a n))) (dropEvent a n))) e
+  dropping-short = refuse-answers _ t p out _ g (stop _ _ _ (lt-ltb (length out) 16 h))

@@ -1,12 +1,7 @@
--- Each contract of the radio settles its outcome. Where the pool is not lent, it is one of those that the ledger belongs to.
+-- Each contract of the radio settles its outcome.
 -- Assumes nothing.
-use mathlib.Core.Path.{refl, sym, _∙_}
 use Rattle.outcomes.specs.Determined.{Determined}
 use Rattle.session.proofs.Alike.{ended-alike, ledger-told, lent-alike, pool-told, answered-alike}
-use Rattle.radio.proofs.tell_arrival.Kinds as tell-arrival-kinds
-use Rattle.radio.proofs.tell_arrival.Reads as tell-arrival-reads
-use Rattle.radio.proofs.tell_drop.Kinds as tell-drop-kinds
-use Rattle.radio.proofs.tell_drop.Reads as tell-drop-reads
 use Rattle.radio.proofs.arrival_in.Kinds as arrival-in-kinds
 use Rattle.radio.proofs.arrival_in.Reads as arrival-in-reads
 use Rattle.radio.proofs.taking_in.Kinds as taking-in-kinds
@@ -20,23 +15,14 @@ use Rattle.radio.proofs.take.Reads as take-reads
 use Rattle.radio.proofs.drop.Kinds as drop-kinds
 use Rattle.radio.proofs.drop.Reads as drop-reads
 
-pub tell-arrival-settled : Determined 1 tell-arrival-kinds.ps tell-arrival-kinds.r tell-arrival-reads.Pre tell-arrival-reads.Post
-tell-arrival-settled κs a _ x y v w p q = (refl, λ i. ((p ∙ sym q) i, v .1))
-
-pub tell-drop-settled : Determined 1 tell-drop-kinds.ps tell-drop-kinds.r tell-drop-reads.Pre tell-drop-reads.Post
-tell-drop-settled κs a _ x y v w p q = (refl, λ i. ((p ∙ sym q) i, v .1))
-
 pub arrival-in-settled : Determined 4 arrival-in-kinds.ps arrival-in-kinds.r arrival-in-reads.Pre arrival-in-reads.Post
 arrival-in-settled κs a _ x y v w p q = (ended-alike p q, λ i. (ledger-told p q i, (pool-told p q i, (tt, (tt, (lent-alike p q i, tt))))))
 
 pub taking-in-settled : Determined 3 taking-in-kinds.ps taking-in-kinds.r taking-in-reads.Pre taking-in-reads.Post
 taking-in-settled κs a _ x y v w p q = (ended-alike p q, λ i. (ledger-told p q i, (pool-told p q i, (tt, (lent-alike p q i, tt)))))
 
-pub dropping-in-settled : Determined 2 dropping-in-kinds.ps dropping-in-kinds.r dropping-in-reads.Pre dropping-in-reads.Post
-dropping-in-settled κs a b x y v w p q =
-    let s = p (b .pool) (b .good) in
-    let t = q (b .pool) (b .good) in
-    (ended-alike s t, λ i. (ledger-told s t i, (tt, (lent-alike s t i, tt))))
+pub dropping-in-settled : Determined 3 dropping-in-kinds.ps dropping-in-kinds.r dropping-in-reads.Pre dropping-in-reads.Post
+dropping-in-settled κs a _ x y v w p q = (ended-alike p q, λ i. (ledger-told p q i, (tt, (tt, (lent-alike p q i, tt)))))
 
 pub arrival-settled : Determined 2 arrival-kinds.ps arrival-kinds.r arrival-reads.Pre arrival-reads.Post
 arrival-settled κs a _ x y v w p q = (answered-alike x y p q, λ i. (tt, (tt, (tt, (lent-alike p q i, tt)))))
