@@ -1,65 +1,55 @@
 -- An object that may stand counts at its first place, so it is there, and has its value, among the objects that count.
 -- Assumes nothing.
-use Prim.Native.Nat.{ℕ, suc, _+_, _≤_, _<_}
+use Prim.Native.Nat.{ℕ, _≤_}
 use mathlib.Core.Path.{_≡_, refl, sym, ap, _∙_}
-use mathlib.Core.Bool.{Bool, true, false}
+use mathlib.Core.Bool.{Bool, true, false, _||_, true≢false}
 use mathlib.Core.List.{List, [], _∷_}
 use native.Mathlib.Omega.{arith}
 use lib.Dec.{ltb, eqb}
-use borrow.Author.Tests.{lt-ltb, eqb-true, eqb-false, ne-eqb}
-use Rattle.rules.specs.Checks.{_⇒_else_, occurrences}
+use borrow.Author.Tests.{lt-ltb, eqb-true}
+use Rattle.rules.specs.Checks.{_⇒_else_, occurrences, member, some-of}
 use Rattle.rules.specs.Frames.{Object}
 use Rattle.rules.specs.Table.{Row, Sifted, sift, times, present, valueOf}
-use Rattle.rules.proofs.Laws.{stop, skip}
-use Rattle.objects.proofs.Walking.{present-first, present-later, value-first, value-later}
+use Rattle.rules.proofs.Laws.{branch, stop, skip}
 
-unseen : (n x : ℕ) (seen : List ℕ) → occurrences n seen ≡ 0 → (n ≡ x → ⊥) → occurrences n (x ∷ seen) ≡ 0
-unfolding occurrences
-unseen n x seen e h = skip _ _ _ (ne-eqb n x h) ∙ e
-
--- the two facts that a list of objects and those of it that count share
+-- an object of a number is there in both lists or in none, and the first has one value
 pub record Alike (n : ℕ) (xs ys : List Object) : Type 0 where
   pub there : present n xs ≡ present n ys
   pub value : valueOf n xs ≡ valueOf n ys
 
--- one object before the others
-abbrev before : Bool → Object → Sifted → Sifted
-before b o w =
-    b ⇒ record { counting = o ∷ w .counting; unexpected = w .unexpected } else record { counting = w .counting; unexpected = o ∷ w .unexpected }
+module _ (n : ℕ) (o : Object) (xs ys : List Object) where
+  heads : eqb n (o .number) ≡ true → Alike n (o ∷ xs) (o ∷ ys)
+  unfolding present member some-of valueOf
+  heads e =
+      record {
+        there = ap (λ (b : Bool). b || present n xs) e ∙ sym (ap (λ (b : Bool). b || present n ys) e);
+        value = stop _ _ _ e ∙ sym (stop _ _ _ e);
+      }
 
-later : (n : ℕ) (o : Object) (b : Bool) (w : Sifted) (os : List Object) → (n ≡ o .number → ⊥) → Alike n (w .counting) os →
-    Alike n (before b o w .counting) (o ∷ os)
-unfolding _⇒_else_
-later n o true w os h a =
-    record {
-      there = present-later n o (w .counting) h ∙ a .there ∙ sym (present-later n o os h);
-      value = value-later n o (w .counting) h ∙ a .value ∙ sym (value-later n o os h);
-    }
-later n o false w os h a =
-    record { there = a .there ∙ sym (present-later n o os h); value = a .value ∙ sym (value-later n o os h) }
+  behind : eqb n (o .number) ≡ false → Alike n xs ys → Alike n xs (o ∷ ys)
+  unfolding present member some-of valueOf
+  behind e a = record { there = a .there ∙ sym (ap (λ (b : Bool). b || present n ys) e); value = a .value ∙ sym (skip _ _ _ e) }
 
-first : (n : ℕ) (o : Object) (b : Bool) (w : Sifted) (os : List Object) → n ≡ o .number → b ≡ true →
-    Alike n (before b o w .counting) (o ∷ os)
-first n o b w os e t =
-    let k = ap (λ (x : Sifted). x .counting) (stop b (record { counting = o ∷ w .counting; unexpected = w .unexpected }) (record { counting = w .counting; unexpected = o ∷ w .unexpected }) t) in
-    record {
-      there = ap (λ (l : List Object). present n l) k ∙ present-first n o (w .counting) e ∙ sym (present-first n o os e);
-      value = ap (λ (l : List Object). valueOf n l) k ∙ value-first n o (w .counting) e ∙ sym (value-first n o os e);
-    }
+  tails : eqb n (o .number) ≡ false → Alike n xs ys → Alike n (o ∷ xs) (o ∷ ys)
+  unfolding present member some-of valueOf
+  tails e a =
+      let w = behind e a in
+      record { there = ap (λ (b : Bool). b || present n xs) e ∙ w .there; value = skip _ _ _ e ∙ w .value }
 
-alike-by :
-    (r : Row) (n : ℕ) (seen : List ℕ) (o : Object) (os : List Object) (b : Bool) → eqb n (o .number) ≡ b → 1 ≤ times r n → occurrences n seen ≡ 0 →
-    (occurrences n (o .number ∷ seen) ≡ 0 → Alike n (sift r (o .number ∷ seen) os .counting) os) → Alike n (sift r seen (o ∷ os) .counting) (o ∷ os)
-unfolding sift
-alike-by r n seen o os true e h z ih =
-    let q = eqb-true n (o .number) e in
-    first n o _ (sift r (o .number ∷ seen) os) os q
-    (ap (λ (k : ℕ). ltb (occurrences k seen) (times r k)) (sym q) ∙ lt-ltb (occurrences n seen) (times r n) (omega arith))
-alike-by r n seen o os false e h z ih =
-    let q = eqb-false n (o .number) e in
-    later n o _ (sift r (o .number ∷ seen) os) os q (ih (unseen n (o .number) seen z q))
+alike-from : (r : Row) (n : ℕ) (seen : List ℕ) (os : List Object) → 1 ≤ times r n → occurrences n seen ≡ 0 → Alike n (sift r seen os .counting) os
+unfolding sift occurrences
+alike-from r n seen [] h z = record { there = refl; value = refl }
+alike-from r n seen (o ∷ os) h z = by (eqb n (o .number)) refl (alike-from r n (o .number ∷ seen) os h)
+  where
+    by : (b : Bool) → eqb n (o .number) ≡ b →
+        (occurrences n (o .number ∷ seen) ≡ 0 → Alike n (sift r (o .number ∷ seen) os .counting) os) → Alike n (sift r seen (o ∷ os) .counting) (o ∷ os)
+    by true e ih =
+        let q = ap (λ (k : ℕ). ltb (occurrences k seen) (times r k)) (sym (eqb-true n (o .number) e)) ∙ lt-ltb (occurrences n seen) (times r n) (omega arith) in
+        branch (λ (w : Sifted). Alike n (w .counting) (o ∷ os)) _ _ _ (λ _. heads n o _ os e) (λ f. absurd (true≢false (sym q ∙ f)))
+    by false e ih =
+        let a = ih (skip _ _ _ e ∙ z) in
+        branch (λ (w : Sifted). Alike n (w .counting) (o ∷ os)) _ _ _ (λ _. tails n o _ os e a) (λ _. behind n o _ os e a)
 
-pub alike : (r : Row) (n : ℕ) (seen : List ℕ) (os : List Object) → 1 ≤ times r n → occurrences n seen ≡ 0 → Alike n (sift r seen os .counting) os
-unfolding sift
-alike r n seen [] h z = record { there = refl; value = refl }
-alike r n seen (o ∷ os) h z = alike-by r n seen o os (eqb n (o .number)) refl h z (λ k. alike r n (o .number ∷ seen) os h k)
+pub alike : (r : Row) (n : ℕ) (os : List Object) → 1 ≤ times r n → Alike n (sift r [] os .counting) os
+unfolding occurrences
+alike r n os h = alike-from r n [] os h refl

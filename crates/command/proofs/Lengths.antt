@@ -1,11 +1,12 @@
 -- The lengths of values, number by number.
 -- Assumes nothing.
-use Prim.Native.Nat.{ℕ, suc, _+_, _-_, _≤_, _<_}
+use Prim.Native.Nat.{ℕ, suc, _+_, _-_, _≤_}
 use mathlib.Core.Path.{_≡_, refl, sym, ap, _∙_}
-use mathlib.Core.Logic.{_⊎_, ⊎-elim}
-use mathlib.Core.Bool.{Bool, true, false, _||_}
+use mathlib.Core.Logic.{inl, inr, ⊎-elim}
+use mathlib.Core.Bool.{Bool, true, false}
 use mathlib.Core.List.{List, [], _∷_}
 use native.Mathlib.Omega.{arith}
+use types.Run.{OneOf}
 use lib.ListN.{length, getD}
 use lib.Dec.{eqb}
 use borrow.Author.Tests.{eq-eqb, ne-eqb}
@@ -15,7 +16,18 @@ use Rattle.rules.proofs.Laws.{stop, skip}
 use Rattle.octets.specs.Parts.{part}
 use Rattle.octets.proofs.Copies.{part-get, length-part}
 
--- a part's length, and its first byte
+-- no bytes, or some
+pub empty : (l : List ℕ) → length l ≡ 0 → isEmpty l ≡ true
+unfolding isEmpty
+empty [] e = refl
+empty (x ∷ l) e = absurd (let z : suc (length l) ≡ 0 = e in omega arith)
+
+pub filled : (l : List ℕ) → (length l ≡ 0 → ⊥) → isEmpty l ≡ false
+unfolding isEmpty
+filled [] h = absurd (h refl)
+filled (x ∷ l) h = refl
+
+-- a part's length, and its bytes
 pub part-size : (s : List ℕ) (start n : ℕ) → start + n ≤ length s → length (part start (start + n) s) ≡ n
 part-size s start n h = length-part start (start + n) s h ∙ (let e : start + n - start ≡ n = omega arith in e)
 
@@ -24,50 +36,54 @@ part-first s start n h =
     let e : start + 0 ≡ start = omega arith in
     part-get start (start + n) 0 s (omega arith) ∙ ap (λ (k : ℕ). getD s k 0) e
 
-module _ (v : List ℕ) (n : ℕ) (l : length v ≡ n) where
-  pub bearer-none : n ≡ 0 → false ≡ bearerFits v
-  unfolding bearerFits isEmpty _⇒_else_
-  bearer-none e = by v (l ∙ e)
-    where
-      by : (w : List ℕ) → length w ≡ 0 → false ≡ bearerFits w
-      by [] q = refl
-      by (x ∷ w) q = absurd (let z : suc (length w) ≡ 0 = q in omega arith)
+pub part-at : (s : List ℕ) (start n k : ℕ) → k + 1 ≤ n → getD (part start (start + n) s) k 0 ≡ getD s (start + k) 0
+part-at s start n k h = part-get start (start + n) k s (omega arith)
 
-  some : (n ≡ 0 → ⊥) → isEmpty v ≡ false
-  unfolding isEmpty
-  some h = by v l
-    where
-      by : (w : List ℕ) → length w ≡ n → isEmpty w ≡ false
-      by [] q = absurd (h (sym q))
-      by (x ∷ w) q = refl
+-- the value of an object, at its place
+module _ (s : List ℕ) (start n : ℕ) (w : start + n ≤ length s) where
+  abbrev v : List ℕ
+  v = part start (start + n) s
+
+  size : (k : ℕ) → eqb n k ≡ eqb (length v) k
+  size k = ap (λ (m : ℕ). eqb m k) (sym (part-size s start n w))
+
+  pub bearer-none : n ≡ 0 → false ≡ bearerFits v
+  unfolding bearerFits
+  bearer-none e = sym (stop _ _ _ (empty v (part-size s start n w ∙ e)))
 
   module _ (h : n ≡ 0 → ⊥) where
-    pub bearer-two : getD v 0 0 ≡ 0x02 → eqb n 7 ≡ bearerFits v
-    unfolding bearerFits
-    bearer-two e = ap (λ (k : ℕ). eqb k 7) (sym l) ∙ sym (skip _ _ _ (some h) ∙ stop _ _ _ (eq-eqb (getD v 0 0) 0x02 e))
+    some-bytes : isEmpty v ≡ false
+    some-bytes = filled v (λ e. h (sym (part-size s start n w) ∙ e))
 
-    pub bearer-three : getD v 0 0 ≡ 0x03 → eqb n 1 ≡ bearerFits v
+    first : getD v 0 0 ≡ getD s start 0
+    first = part-first s start n (omega arith)
+
+    pub bearer-two : getD s start 0 ≡ 0x02 → eqb n 7 ≡ bearerFits v
+    unfolding bearerFits
+    bearer-two e = size 7 ∙ sym (skip _ _ _ some-bytes ∙ stop _ _ _ (eq-eqb (getD v 0 0) 0x02 (first ∙ e)))
+
+    pub bearer-three : getD s start 0 ≡ 0x03 → eqb n 1 ≡ bearerFits v
     unfolding bearerFits
     bearer-three e =
-        ap (λ (k : ℕ). eqb k 1) (sym l)
-        ∙ sym (skip _ _ _ (some h) ∙ skip _ _ _ (ne-eqb (getD v 0 0) 0x02 (omega arith)) ∙ stop _ _ _ (eq-eqb (getD v 0 0) 0x03 e))
+        let f = first ∙ e in
+        size 1 ∙ sym (skip _ _ _ some-bytes ∙ skip _ _ _ (ne-eqb (getD v 0 0) 0x02 (omega arith)) ∙ stop _ _ _ (eq-eqb (getD v 0 0) 0x03 f))
 
-    pub bearer-any : (getD v 0 0 ≡ 0x02 → ⊥) → (getD v 0 0 ≡ 0x03 → ⊥) → true ≡ bearerFits v
+    pub bearer-any : (Unit {0} × (getD s start 0 ≡ 0x02 → ⊥)) × (getD s start 0 ≡ 0x03 → ⊥) → true ≡ bearerFits v
     unfolding bearerFits
-    bearer-any a b = sym (skip _ _ _ (some h) ∙ skip _ _ _ (ne-eqb (getD v 0 0) 0x02 a) ∙ skip _ _ _ (ne-eqb (getD v 0 0) 0x03 b))
+    bearer-any o =
+        sym
+        (skip _ _ _ some-bytes ∙ skip _ _ _ (ne-eqb (getD v 0 0) 0x02 (λ e. o .0 .1 (sym first ∙ e)))
+        ∙ skip _ _ _ (ne-eqb (getD v 0 0) 0x03 (λ e. o .1 (sym first ∙ e))))
 
   module _ (t : ℕ) where
     at : (k : ℕ) → t ≡ k → lengthFits k v ≡ lengthFits t v
     at k e = ap (λ (x : ℕ). lengthFits x v) (sym e)
 
-    size : (k : ℕ) → eqb n k ≡ eqb (length v) k
-    size k = ap (λ (m : ℕ). eqb m k) (sym l)
-
-    pub fits-three : (t ≡ 0x01) ⊎ (t ≡ 0x3C) → eqb n 3 ≡ lengthFits t v
+    pub fits-three : OneOf (0x01 ∷ 0x3C ∷ []) t → eqb n 3 ≡ lengthFits t v
     unfolding lengthFits _⇒_else_
     fits-three = ⊎-elim (λ e. size 3 ∙ at 0x01 e) (λ e. size 3 ∙ at 0x3C e)
 
-    pub fits-two : (t ≡ 0x02) ⊎ ((t ≡ 0x04) ⊎ ((t ≡ 0x1E) ⊎ (t ≡ 0x39))) → eqb n 2 ≡ lengthFits t v
+    pub fits-two : OneOf (0x02 ∷ 0x04 ∷ 0x1E ∷ 0x39 ∷ []) t → eqb n 2 ≡ lengthFits t v
     unfolding lengthFits _⇒_else_
     fits-two = ⊎-elim (λ e. size 2 ∙ at 0x02 e) (⊎-elim (λ e. size 2 ∙ at 0x04 e) (⊎-elim (λ e. size 2 ∙ at 0x1E e) (λ e. size 2 ∙ at 0x39 e)))
 
@@ -80,8 +96,19 @@ module _ (v : List ℕ) (n : ℕ) (l : length v ≡ n) where
     fits-bearer e = at 0x35 e
 
     pub fits-any :
-        (t ≡ 0x01 → ⊥) → (t ≡ 0x3C → ⊥) → (t ≡ 0x02 → ⊥) → (t ≡ 0x04 → ⊥) → (t ≡ 0x1E → ⊥) → (t ≡ 0x39 → ⊥) → (t ≡ 0x37 → ⊥) → (t ≡ 0x35 → ⊥) →
+        (((Unit {0} × (OneOf (0x01 ∷ 0x3C ∷ []) t → ⊥)) × (OneOf (0x02 ∷ 0x04 ∷ 0x1E ∷ 0x39 ∷ []) t → ⊥)) × (t ≡ 0x37 → ⊥)) × (t ≡ 0x35 → ⊥) →
         true ≡ lengthFits t v
     unfolding lengthFits _⇒_else_
-    fits-any a b c d e f g h =
-        simp (ne-eqb t 0x01 a, ne-eqb t 0x3C b, ne-eqb t 0x02 c, ne-eqb t 0x04 d, ne-eqb t 0x1E e, ne-eqb t 0x39 f, ne-eqb t 0x37 g, ne-eqb t 0x35 h)
+    fits-any o =
+        let three = o .0 .0 .0 .1 in
+        let two = o .0 .0 .1 in
+        simp (
+          ne-eqb t 0x01 (λ e. three (inl e)),
+          ne-eqb t 0x3C (λ e. three (inr e)),
+          ne-eqb t 0x02 (λ e. two (inl e)),
+          ne-eqb t 0x04 (λ e. two (inr (inl e))),
+          ne-eqb t 0x1E (λ e. two (inr (inr (inl e)))),
+          ne-eqb t 0x39 (λ e. two (inr (inr (inr e)))),
+          ne-eqb t 0x37 (o .0 .1),
+          ne-eqb t 0x35 (o .1),
+        )

@@ -1,11 +1,11 @@
+pub mod Keys
 pub mod Tables
+pub mod Lengths
 pub mod Sifting
 pub mod Sorting
-pub mod Lengths
 pub mod Framing
-pub mod Counting
 pub mod Steps
-pub mod Required
+pub mod Counting
 pub mod Known
 pub mod Settling
 pub mod Opening

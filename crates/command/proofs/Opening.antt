@@ -1,157 +1,129 @@
 -- The beginning of a reading: the first object, the ending of the walk, and the plan of the type.
 -- Assumes nothing.
-use Prim.Native.Nat.{ℕ, suc, _+_, _%_, _≤_, _<_}
+use Prim.Native.Nat.{ℕ, _+_, _≤_}
 use mathlib.Core.Path.{_≡_, refl, sym, ap, subst, _∙_}
-use mathlib.Core.Bool.{Bool, true, false, not, _&&_}
+use mathlib.Core.Bool.{Bool, true, false, not, _&&_, true≢false}
 use mathlib.Core.List.{List, [], _∷_}
 use native.Mathlib.Omega.{arith}
 use lib.ListN.{length, drop, getD}
 use lib.Dec.{eqb}
-use borrow.Author.Tests.{eq-eqb, ne-eqb}
+use borrow.Author.Tests.{eq-eqb, ne-eqb, not-true, not-false}
 use Rattle.rules.specs.declared.Details.{Details}
 use Rattle.rules.specs.declared.Ending.{Ending}
-use Rattle.rules.specs.declared.Ending.the-variants.{End}
-use Rattle.rules.specs.Checks.{isEmpty, member, some-of}
+use Rattle.rules.specs.Checks.{_⇒_else_, isEmpty}
 use Rattle.rules.specs.Frames.{Object, objectAt, faulty, Walk, walk}
-use Rattle.rules.specs.Table.{table, known, valueOf}
+use Rattle.rules.specs.Table.{known, valueOf}
 use Rattle.rules.specs.Profile.{bit, allowsType}
 use Rattle.rules.specs.Reading.{wrong, zeros, detailsIn, startsWithDetails, isFault, readObjects}
+use Rattle.rules.proofs.Laws.{stop}
 use Rattle.rules.proofs.Walks.{walk-fault}
 use Rattle.octets.specs.Parts.{part}
-use Rattle.octets.proofs.Copies.{part-get}
-use Rattle.objects.specs.Places.{Stands}
-use Rattle.objects.proofs.Sizes.{objectOf}
-use Rattle.objects.proofs.Walking.{here-object, value-first}
-use Rattle.command.specs.declared.Handler.{Handler}
-use Rattle.command.specs.declared.Handler.the-variants.{MoreTime, EventList, Open, Close, Receive, Send, Status}
+use Rattle.objects.specs.Places.{objectOf, Stands}
+use Rattle.objects.proofs.Walking.{here-object}
 use Rattle.command.specs.declared.Plan.{Plan}
-use Rattle.command.specs.Plans.{handlerKind, PlanOf}
-use Rattle.command.specs.Requests.{theDetails, Began, Typed, Begun, Headed, Detailed}
-use Rattle.command.proofs.Lengths.{part-size, part-first}
+use Rattle.command.specs.declared.Sorted.{Sorted}
+use Rattle.command.specs.Plans.{RowFor, PlanOf}
+use Rattle.command.specs.Requests.{theDetails, detailsAt, Began, Detailed, Headed, Typed, Sorts, Begun}
+use Rattle.command.proofs.Lengths.{empty, filled, part-size, part-first, part-at}
 use Rattle.command.proofs.Steps.{read-none, read-faulty, read-stranger, read-cut, read-unknown, read-forbidden}
 
--- no bytes, or some
-empty : (l : List ℕ) → length l ≡ 0 → isEmpty l ≡ true
+no-first : (s : List ℕ) (e : Ending) → isEmpty s ≡ false → objectAt s ≡ faulty e → isEmpty (walk s .objects) ≡ true
 unfolding isEmpty
-empty [] e = refl
-empty (x ∷ l) e = absurd (let z : suc (length l) ≡ 0 = e in omega arith)
-
-some : (l : List ℕ) → (length l ≡ 0 → ⊥) → isEmpty l ≡ false
-unfolding isEmpty
-some [] h = absurd (h refl)
-some (x ∷ l) h = refl
-
-no-first : (s : List ℕ) (e : Ending) → (length s ≡ 0 → ⊥) → objectAt s ≡ faulty e → isEmpty (walk s .objects) ≡ true
-unfolding isEmpty
-no-first [] e h f = absurd (h refl)
+no-first [] e h f = absurd (true≢false h)
 no-first (b ∷ s) e h f = ap (λ (w : Walk). isEmpty (w .objects)) (walk-fault b s e f)
 
 pub none-read : (p s : List ℕ) → length s ≡ 0 → readObjects p s ≡ wrong zeros 0x36
 none-read p s e = read-none p s (empty s e)
 
-module _ (s : List ℕ) (h : length s ≡ 0 → ⊥) where
-  pub faulty-read : (p : List ℕ) (e : Ending) → objectAt s ≡ faulty e → readObjects p s ≡ wrong zeros 0x32
-  faulty-read p e f = read-faulty p s (some s h) (no-first s e h f)
+module _ (p s : List ℕ) (h : length s ≡ 0 → ⊥) where
+  pub faulty-read : (e : Ending) → objectAt s ≡ faulty e → readObjects p s ≡ wrong zeros 0x32
+  faulty-read e f = read-faulty p s (filled s h) (no-first s e (filled s h) f)
 
-  -- the first object stands
-  module _ (tag start n next : ℕ) (st : Stands s 0 tag start n next) where
-    abbrev o : Object
-    o = objectOf s tag start n
+-- the first object stands
+module _ {s : List ℕ} (h : length s ≡ 0 → ⊥) {number : ℕ} {flag : Bool} {start n next : ℕ} (st : Stands s 0 number flag start n next) where
+  abbrev o : Object
+  o = objectOf s number flag start n
 
-    first-is : walk s .objects ≡ o ∷ walk (drop next s) .objects
-    first-is = ap (λ (w : Walk). w .objects) (here-object s 0 tag start n next st)
+  first-is : walk s .objects ≡ o ∷ walk (drop next s) .objects
+  first-is = ap (λ (w : Walk). w .objects) (here-object st)
 
-    some-objects : isEmpty (walk s .objects) ≡ false
-    unfolding isEmpty
-    some-objects = ap isEmpty first-is
+  some-objects : isEmpty (walk s .objects) ≡ false
+  unfolding isEmpty
+  some-objects = ap isEmpty first-is
 
-    begins : startsWithDetails (walk s .objects) ≡ eqb (tag % 128) 0x01 && eqb (length (part start (start + n) s)) 3
-    unfolding startsWithDetails
-    begins = ap startsWithDetails first-is
+  fits : start + n ≤ length s
+  fits = omega (arith, st .ends, st .within)
 
-    fits : start + n ≤ length s
-    fits = omega (arith, st .ends, st .within)
+  begins : startsWithDetails (walk s .objects) ≡ eqb number 0x01 && eqb n 3
+  unfolding startsWithDetails
+  begins = ap startsWithDetails first-is ∙ ap (λ (k : ℕ). eqb number 0x01 && eqb k 3) (part-size s start n fits)
 
-    pub stranger-number : (p : List ℕ) → (tag % 128 ≡ 0x01 → ⊥) → readObjects p s ≡ wrong zeros 0x36
-    stranger-number p e =
-        read-stranger p s (some s h) some-objects
-        (begins ∙ ap (λ (b : Bool). b && eqb (length (part start (start + n) s)) 3) (ne-eqb (tag % 128) 0x01 e))
+  pub stranger-number : (number ≡ 0x01 → ⊥) → (p : List ℕ) → readObjects p s ≡ wrong zeros 0x36
+  stranger-number e p =
+      read-stranger p s (filled s h) some-objects (begins ∙ ap (λ (b : Bool). b && eqb n 3) (ne-eqb number 0x01 e))
 
-    pub stranger-length : (p : List ℕ) → tag % 128 ≡ 0x01 → (n ≡ 3 → ⊥) → readObjects p s ≡ wrong zeros 0x36
-    stranger-length p e l =
-        let z = part-size s start n fits in
-        read-stranger p s (some s h) some-objects
-        (begins
-        ∙ (λ i. eq-eqb (tag % 128) 0x01 e i && ne-eqb (length (part start (start + n) s)) 3 (λ q. l (sym z ∙ q)) i))
+  module _ (e : number ≡ 0x01) where
+    pub stranger-length : (n ≡ 3 → ⊥) → (p : List ℕ) → readObjects p s ≡ wrong zeros 0x36
+    stranger-length l p = read-stranger p s (filled s h) some-objects (begins ∙ (λ i. eq-eqb number 0x01 e i && ne-eqb n 3 l i))
 
-    pub headed : tag % 128 ≡ 0x01 → n ≡ 3 → Headed s next
-    headed e l = record { tag = tag; start = start; stands = subst (λ (k : ℕ). Stands s 0 tag start k next) l st; number = e }
+    module _ (l : n ≡ 3) where
+      pub headed : Headed s start
+      headed =
+          let q : next ≡ start + 3 = omega (arith, st .ends) in
+          record { flag = flag; stands = subst (λ (k : ℕ). Stands s 0 0x01 flag start 3 k) q (subst (λ (k : ℕ). Stands s 0 0x01 flag start k next) l (subst (λ (k : ℕ). Stands s 0 k flag start n next) e st)) }
 
-    pub detailed :
-        tag % 128 ≡ 0x01 → n ≡ 3 → length s ≤ 256 →
-        Detailed s (record { number = getD s start 0; kind = getD s (start + 1) 0; qualifier = getD s (start + 2) 0 })
-    unfolding detailsIn
-    detailed e l small =
-        let z = part-size s start n fits in
-        let v = ap (λ (os : List Object). valueOf 0x01 os) first-is ∙ value-first 0x01 o (walk (drop next s) .objects) (sym e) in
-        let a = ap (λ (x : List ℕ). getD x 0 0) v ∙ part-first s start n (omega arith) in
-        let b = ap (λ (x : List ℕ). getD x 1 0) v ∙ part-get start (start + n) 1 s (omega arith) in
-        let c = ap (λ (x : List ℕ). getD x 2 0) v ∙ part-get start (start + n) 2 s (omega arith) in
-        record {
-          began =
-              record {
-                bytes = some s h;
-                objects = some-objects;
-                details = begins ∙ (λ i. eq-eqb (tag % 128) 0x01 e i && eq-eqb (length (part start (start + n) s)) 3 (z ∙ l) i);
-              };
-          details = λ i. record { number = a i; kind = b i; qualifier = c i };
-          small = small;
-        }
+      pub first-within : start + 3 ≤ length s
+      first-within = omega (arith, fits)
 
--- the type of a handler is one of the seven
-known-handler : (h : Handler) → known (handlerKind h) ≡ true
-unfolding known table member some-of
-known-handler MoreTime = refl
-known-handler EventList = refl
-known-handler Open = refl
-known-handler Close = refl
-known-handler Receive = refl
-known-handler Send = refl
-known-handler Status = refl
-
--- the ending of the walk
-fault-of : {x y : Ending} → x ≡ y → isFault x ≡ isFault y
-fault-of e = ap isFault e
-
-module _ (s : List ℕ) (d : Details) (g : Detailed s d) where
-  pub cut-read : (p : List ℕ) (e : Ending) → e ≡ walk s .ending → isFault e ≡ true → readObjects p s ≡ wrong d 0x32
-  cut-read p e q f = read-cut p s (g .began) (fault-of (sym q) ∙ f) ∙ ap (λ (x : Details). wrong x 0x32) (g .details)
-
-  module _ (w : isFault (walk s .ending) ≡ false) where
-    pub unknown-read : (p : List ℕ) → known (d .kind) ≡ false → readObjects p s ≡ wrong d 0x31
-    unknown-read p e =
-        read-unknown p s (g .began) w (ap (λ (x : Details). known (x .kind)) (g .details) ∙ e) ∙ ap (λ (x : Details). wrong x 0x31) (g .details)
-
-    module _ (pl : Plan) (k : PlanOf pl (d .kind)) where
-      known-plan : known (d .kind) ≡ true
-      known-plan = ap known (k .kind-is) ∙ known-handler (pl .handler)
-
-      allows-is : (p : List ℕ) → allowsType p (theDetails s .kind) ≡ bit p (pl .place .byte) (pl .place .bit)
-      allows-is p = ap (λ (x : Details). allowsType p (x .kind)) (g .details) ∙ sym (k .place-is p)
-
-      pub forbidden-read : (p : List ℕ) → bit p (pl .place .byte) (pl .place .bit) ≡ false → readObjects p s ≡ wrong d 0x30
-      forbidden-read p e =
-          read-forbidden p s (g .began) w (ap (λ (x : Details). known (x .kind)) (g .details) ∙ known-plan) (allows-is p ∙ e)
-          ∙ ap (λ (x : Details). wrong x 0x30) (g .details)
-
-      pub typed-read : (p : List ℕ) → bit p (pl .place .byte) (pl .place .bit) ≡ true → Typed p s
-      typed-read p e =
+      pub detailed : length s ≤ 256 → {d : Details} → d ≡ detailsAt s start → Detailed s d
+      unfolding detailsIn valueOf
+      detailed small q =
+          let v : valueOf 0x01 (walk s .objects) ≡ part start (start + n) s = ap (valueOf 0x01) first-is ∙ stop _ _ _ (eq-eqb 0x01 number (sym e)) in
+          let a = ap (λ (x : List ℕ). getD x 0 0) v ∙ part-first s start n (omega arith) in
+          let b = ap (λ (x : List ℕ). getD x 1 0) v ∙ part-at s start n 1 (omega arith) in
+          let c = ap (λ (x : List ℕ). getD x 2 0) v ∙ part-at s start n 2 (omega arith) in
           record {
-            began = g .began;
-            whole = w;
-            kind = ap (λ (x : Details). known (x .kind)) (g .details) ∙ known-plan;
-            allowed = allows-is p ∙ e;
+            began = record { bytes = filled s h; objects = some-objects; details = begins ∙ (λ i. eq-eqb number 0x01 e i && eq-eqb n 3 l i) };
+            details = (λ i. record { number = a i; kind = b i; qualifier = c i }) ∙ sym q;
+            small = small;
           }
 
-      pub begun-read : Begun s d (pl .handler)
-      begun-read = record { details = g .details; kind = k .kind-is; small = g .small }
+-- step 4, and step 5 for a type without a plan
+module _ {s : List ℕ} {d : Details} (g : Detailed s d) where
+  pub cut-read : (e : Ending) → e ≡ walk s .ending → isFault e ≡ true → (p : List ℕ) → readObjects p s ≡ wrong d 0x32
+  cut-read e q f p = read-cut p s (g .began) (sym (ap isFault q) ∙ f) ∙ ap (λ (x : Details). wrong x 0x32) (g .details)
+
+  pub unknown-read : (e : Ending) → e ≡ walk s .ending → isFault e ≡ false → known (d .kind) ≡ false → (p : List ℕ) → readObjects p s ≡ wrong d 0x31
+  unknown-read e q f k p =
+      read-unknown p s (g .began) (sym (ap isFault q) ∙ f) (ap (λ (x : Details). known (x .kind)) (g .details) ∙ k)
+      ∙ ap (λ (x : Details). wrong x 0x31) (g .details)
+
+  -- the type has a plan
+  module _ {plan : Plan} (k : PlanOf plan d) where
+    plan-is : PlanOf plan (theDetails s)
+    plan-is = subst (λ (x : Details). PlanOf plan x) (sym (g .details)) k
+
+    pub row-is : RowFor (plan .row) (theDetails s)
+    row-is = plan-is .row
+
+    module _ {v : Sorted} (w : Sorts v s (plan .row)) where
+      pub planned-cut : not (v .whole) ≡ true → (p : List ℕ) → readObjects p s ≡ wrong d 0x32
+      planned-cut f = cut-read _ refl (not-false (isFault (walk s .ending)) (sym (w .whole) ∙ not-true (v .whole) f))
+
+      pub begun : Begun s d plan v
+      begun = record { began = g .began; details = g .details; planned = plan-is; sorted = w }
+
+      module _ (f : not (v .whole) ≡ false) where
+        unbroken : isFault (walk s .ending) ≡ false
+        unbroken = not-true (isFault (walk s .ending)) (sym (w .whole) ∙ not-false (v .whole) f)
+
+        module _ (p : List ℕ) {b : Bool} (a : b ≡ bit p (plan .place .byte) (plan .place .bit)) where
+          allows : allowsType p (theDetails s) ≡ b
+          allows = sym (a ∙ plan-is .place .is p)
+
+          pub forbidden-read : not b ≡ true → readObjects p s ≡ wrong d 0x30
+          forbidden-read e =
+              read-forbidden p s (g .began) unbroken (plan-is .known-is) (allows ∙ not-true b e) ∙ ap (λ (x : Details). wrong x 0x30) (g .details)
+
+          pub typed : not b ≡ false → Typed p s
+          typed e = record { began = g .began; whole = unbroken; kind = plan-is .known-is; allowed = allows ∙ not-false b e }

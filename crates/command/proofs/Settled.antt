@@ -2,31 +2,16 @@
 -- Assumes nothing.
 use mathlib.Core.Path.{refl, sym, _∙_}
 use Rattle.outcomes.specs.Determined.{Determined}
-use Rattle.command.proofs.Alike.{planned-alike, framed-alike, read-alike}
-use Rattle.command.proofs.plan_of.Kinds as plan-of-kinds
-use Rattle.command.proofs.plan_of.Reads as plan-of-reads
+use Rattle.command.proofs.Alike.{framed-alike, read-alike}
 use Rattle.command.proofs.allowed.Kinds as allowed-kinds
 use Rattle.command.proofs.allowed.Reads as allowed-reads
-use Rattle.command.proofs.times.Kinds as times-kinds
-use Rattle.command.proofs.times.Reads as times-reads
-use Rattle.command.proofs.fits.Kinds as fits-kinds
-use Rattle.command.proofs.fits.Reads as fits-reads
 use Rattle.command.proofs.frame_start.Kinds as frame-start-kinds
 use Rattle.command.proofs.frame_start.Reads as frame-start-reads
 use Rattle.command.proofs.read_objects.Kinds as read-objects-kinds
 use Rattle.command.proofs.read_objects.Reads as read-objects-reads
 
-pub plan-of-settled : Determined 0 plan-of-kinds.ps plan-of-kinds.r plan-of-reads.Pre plan-of-reads.Post
-plan-of-settled κs a _ x y v w p q = (planned-alike x y _ p q, refl)
-
 pub allowed-settled : Determined 1 allowed-kinds.ps allowed-kinds.r allowed-reads.Pre allowed-reads.Post
 allowed-settled κs a _ x y v w p q = (p ∙ sym q, refl)
-
-pub times-settled : Determined 0 times-kinds.ps times-kinds.r times-reads.Pre times-reads.Post
-times-settled κs a _ x y v w p q = (p ∙ sym q, refl)
-
-pub fits-settled : Determined 1 fits-kinds.ps fits-kinds.r fits-reads.Pre fits-reads.Post
-fits-settled κs a _ x y v w p q = (p ∙ sym q, refl)
 
 pub frame-start-settled : Determined 1 frame-start-kinds.ps frame-start-kinds.r frame-start-reads.Pre frame-start-reads.Post
 frame-start-settled κs a _ x y v w p q = (framed-alike x y _ p q, refl)

@@ -1,20 +1,16 @@
 -- The steps of a reading, one by one.
 -- Assumes nothing.
 use Prim.Native.Nat.{ℕ}
-use mathlib.Core.Path.{_≡_, refl, sym, ap, _∙_}
-use mathlib.Core.Bool.{Bool, true, false, not}
-use mathlib.Core.List.{List, []}
+use mathlib.Core.Path.{_≡_, ap, _∙_}
+use mathlib.Core.Bool.{true, false, not}
+use mathlib.Core.List.{List}
 use Rattle.rules.specs.Checks.{_⇒_else_, isEmpty, some-of}
 use Rattle.rules.specs.Frames.{Object, walk}
-use Rattle.rules.specs.Table.{known, rowOf, Sifted, sift, complete, measured}
+use Rattle.rules.specs.Table.{known, rowOf, complete, measured}
 use Rattle.rules.specs.Profile.{allowsType}
 use Rattle.rules.specs.Reading.{Reading, wrong, asked, zeros, startsWithDetails, isFault, addressed, readObjects}
 use Rattle.rules.proofs.Laws.{stop, skip}
-use Rattle.command.specs.Requests.{theDetails, theCommand, Began, Typed}
-
--- the sifted objects of a command
-abbrev pub sorted : List ℕ → Sifted
-sorted s = sift (rowOf (theDetails s .kind)) [] (walk s .objects)
+use Rattle.command.specs.Requests.{theDetails, theObjects, theCommand, Began, Typed}
 
 module _ (p s : List ℕ) where
   pub read-none : isEmpty s ≡ true → readObjects p s ≡ wrong zeros 0x36
@@ -41,7 +37,7 @@ module _ (p s : List ℕ) where
         skip _ _ _ (g .bytes) ∙ skip _ _ _ (g .objects) ∙ skip _ _ _ (ap not (g .details)) ∙ skip _ _ _ w ∙ stop _ _ _ (ap not e)
 
     pub read-forbidden :
-        isFault (walk s .ending) ≡ false → known (theDetails s .kind) ≡ true → allowsType p (theDetails s .kind) ≡ false →
+        isFault (walk s .ending) ≡ false → known (theDetails s .kind) ≡ true → allowsType p (theDetails s) ≡ false →
         readObjects p s ≡ wrong (theDetails s) 0x30
     unfolding readObjects
     read-forbidden w k e =
@@ -50,11 +46,11 @@ module _ (p s : List ℕ) where
   module _ (t : Typed p s) where
     abbrev rest : Reading
     rest =
-        some-of (λ (x : Object). x .flag) (sorted s .unexpected) ⇒ wrong (theDetails s) 0x32 else
-        not (complete (rowOf (theDetails s .kind)) (sorted s .counting)) ⇒ wrong (theDetails s) 0x36 else
-        not (measured (sorted s .counting)) ⇒ wrong (theDetails s) 0x32 else
+        some-of (λ (x : Object). x .flag) (theObjects s .unexpected) ⇒ wrong (theDetails s) 0x32 else
+        not (complete (rowOf (theDetails s)) (theObjects s .counting)) ⇒ wrong (theDetails s) 0x36 else
+        not (measured (theObjects s .counting)) ⇒ wrong (theDetails s) 0x32 else
         not (addressed (theDetails s .kind) (theCommand s .source) (theCommand s .destination)) ⇒ wrong (theDetails s) 0x32 else
-        asked (theCommand s) (not (isEmpty (sorted s .unexpected)))
+        asked (theCommand s) (not (isEmpty (theObjects s .unexpected)))
 
     typed : readObjects p s ≡ rest
     unfolding readObjects
@@ -62,23 +58,23 @@ module _ (p s : List ℕ) where
         skip _ _ _ (t .began .bytes) ∙ skip _ _ _ (t .began .objects) ∙ skip _ _ _ (ap not (t .began .details)) ∙ skip _ _ _ (t .whole)
         ∙ skip _ _ _ (ap not (t .kind)) ∙ skip _ _ _ (ap not (t .allowed))
 
-    pub read-flagged : some-of (λ (x : Object). x .flag) (sorted s .unexpected) ≡ true → readObjects p s ≡ wrong (theDetails s) 0x32
+    pub read-flagged : some-of (λ (x : Object). x .flag) (theObjects s .unexpected) ≡ true → readObjects p s ≡ wrong (theDetails s) 0x32
     read-flagged e = typed ∙ stop _ _ _ e
 
-    module _ (f : some-of (λ (x : Object). x .flag) (sorted s .unexpected) ≡ false) where
-      pub read-incomplete : complete (rowOf (theDetails s .kind)) (sorted s .counting) ≡ false → readObjects p s ≡ wrong (theDetails s) 0x36
+    module _ (f : some-of (λ (x : Object). x .flag) (theObjects s .unexpected) ≡ false) where
+      pub read-incomplete : complete (rowOf (theDetails s)) (theObjects s .counting) ≡ false → readObjects p s ≡ wrong (theDetails s) 0x36
       read-incomplete e = typed ∙ skip _ _ _ f ∙ stop _ _ _ (ap not e)
 
-      module _ (c : complete (rowOf (theDetails s .kind)) (sorted s .counting) ≡ true) where
-        pub read-misfit : measured (sorted s .counting) ≡ false → readObjects p s ≡ wrong (theDetails s) 0x32
+      module _ (c : complete (rowOf (theDetails s)) (theObjects s .counting) ≡ true) where
+        pub read-misfit : measured (theObjects s .counting) ≡ false → readObjects p s ≡ wrong (theDetails s) 0x32
         read-misfit e = typed ∙ skip _ _ _ f ∙ skip _ _ _ (ap not c) ∙ stop _ _ _ (ap not e)
 
-        module _ (m : measured (sorted s .counting) ≡ true) where
+        module _ (m : measured (theObjects s .counting) ≡ true) where
           pub read-misaddressed :
               addressed (theDetails s .kind) (theCommand s .source) (theCommand s .destination) ≡ false → readObjects p s ≡ wrong (theDetails s) 0x32
           read-misaddressed e = typed ∙ skip _ _ _ f ∙ skip _ _ _ (ap not c) ∙ skip _ _ _ (ap not m) ∙ stop _ _ _ (ap not e)
 
           pub read-asked :
               addressed (theDetails s .kind) (theCommand s .source) (theCommand s .destination) ≡ true →
-              readObjects p s ≡ asked (theCommand s) (not (isEmpty (sorted s .unexpected)))
+              readObjects p s ≡ asked (theCommand s) (not (isEmpty (theObjects s .unexpected)))
           read-asked e = typed ∙ skip _ _ _ f ∙ skip _ _ _ (ap not c) ∙ skip _ _ _ (ap not m) ∙ skip _ _ _ (ap not e)

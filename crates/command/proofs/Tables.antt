@@ -1,110 +1,299 @@
--- The table's counts and the profile's places, as the code goes through them.
+-- The slots of the object numbers, the rows, and the plans of the types.
 -- Assumes nothing.
 use Prim.Native.Nat.{ℕ, zero, suc, _+_, _-_, _≤_, _<_}
 use mathlib.Core.Path.{_≡_, refl, sym, ap, subst, _∙_}
-use mathlib.Core.Logic.{_⊎_, ⊎-elim}
-use mathlib.Core.Bool.{Bool, true, false, _||_}
+use mathlib.Core.Bool.{Bool, true, false, not, _&&_, _||_, true≢false, false≢true}
 use mathlib.Core.List.{List, [], _∷_, map}
 use native.Mathlib.Omega.{arith}
-use lib.Dec.{eqb}
-use lib.ListN.{getD}
-use borrow.Author.Tests.{eq-eqb, ne-eqb, eqb-true, eqb-false}
-use Rattle.rules.specs.Checks.{_⇒_else_, some-of, member}
+use native.Mathlib.Nat.{le-of-suc-le-suc}
+use types.Run.{OneOf}
+use lib.ListN.{length, getD}
+use lib.Dec.{ltb, leb, eqb}
+use borrow.Author.Tests.{leb-true, le-leb, lt-leb, eqb-true, eq-eqb, ne-eqb, not-true}
+use Rattle.rules.specs.declared.Details.{Details}
+use Rattle.rules.specs.Checks.{_⇒_else_, every, some-of, member}
 use Rattle.rules.specs.Profile.{bit, allowsType}
-use Rattle.rules.specs.Table.{Row, table, rowAmong, rowOf, times, known}
-use Rattle.rules.proofs.Laws.{stop, skip}
-use Rattle.command.specs.declared.Handler.{Handler}
-use Rattle.command.specs.declared.Handler.the-variants.{MoreTime, EventList}
-use Rattle.command.specs.declared.Plan.{Plan}
+use Rattle.rules.specs.Table as rules
+use Rattle.rules.specs.Table.{table, rowAmong, rowOf, times, known}
+use Rattle.rules.specs.Reading.{toModem}
+use Rattle.rules.proofs.Laws.{branch, stop, skip, both-left, both-right, or-right, either-left, either-right}
 use Rattle.command.specs.declared.Place.{Place}
-use Rattle.command.specs.Plans.{handlerKind, PlanOf}
+use Rattle.command.specs.declared.Plan.{Plan}
+use Rattle.command.specs.declared.Row.{Row}
+use Rattle.command.specs.Plans.{profileSize, handlerKind, ownNumber, needed, timesBy, RowFor, PlaceFor, PlanOf}
+use Rattle.command.specs.Surveys.{slotted, indexIn, slotOf}
+use Rattle.command.proofs.Keys.{in-keys, out-keys, Outside, outside, every-member, no-member, All, all-true}
 
+-- where a number stands in a list
 module _ (n : ℕ) where
-  pub always-other : (n ≡ 0x01 → ⊥) → (n ≡ 0x02 → ⊥) → times (rowOf 0x44) n ≡ 0
-  unfolding times rowOf rowAmong table member some-of _⇒_else_
-  always-other a b = simp (ne-eqb n 0x01 a, ne-eqb n 0x02 b)
+  index-in : (xs : List ℕ) → member n xs ≡ true → indexIn n xs < length xs
+  unfolding indexIn member some-of
+  index-in [] e = absurd (false≢true e)
+  index-in (x ∷ xs) e =
+      branch (λ (k : ℕ). k < suc (length xs)) (eqb n x) 0 (suc (indexIn n xs)) (λ _. omega arith)
+      (λ q. let h = index-in xs (sym (ap (λ (b : Bool). b || member n xs) q) ∙ e) in omega arith)
 
-  pub usual-other : (n ≡ 0x05 → ⊥) → (n ≡ 0x1E → ⊥) → times (rowOf 0x41) n ≡ times (rowOf 0x44) n
-  unfolding times rowOf rowAmong table member some-of _⇒_else_
-  usual-other a b = simp (ne-eqb n 0x05 a, ne-eqb n 0x1E b)
+  index-out : (xs : List ℕ) → member n xs ≡ false → indexIn n xs ≡ length xs
+  unfolding indexIn member some-of
+  index-out [] e = refl
+  index-out (x ∷ xs) e =
+      skip _ _ _ (either-left (eqb n x) (member n xs) e) ∙ ap suc (index-out xs (either-right (eqb n x) (member n xs) e))
 
-  pub event-other : (n ≡ 0x19 → ⊥) → times (rowOf 0x05) n ≡ times (rowOf 0x44) n
-  unfolding times rowOf rowAmong table member some-of _⇒_else_
-  event-other a = simp (ne-eqb n 0x19 a)
+  index-get : (xs : List ℕ) → member n xs ≡ true → getD xs (indexIn n xs) 0 ≡ n
+  unfolding indexIn member some-of
+  index-get [] e = absurd (false≢true e)
+  index-get (x ∷ xs) e =
+      branch (λ (k : ℕ). getD (x ∷ xs) k 0 ≡ n) (eqb n x) 0 (suc (indexIn n xs)) (λ q. sym (eqb-true n x q))
+      (λ q. index-get xs (sym (ap (λ (b : Bool). b || member n xs) q) ∙ e))
 
-  pub receive-other : (n ≡ 0x37 → ⊥) → times (rowOf 0x42) n ≡ times (rowOf 0x41) n
-  unfolding times rowOf rowAmong table member some-of _⇒_else_
-  receive-other a = simp (ne-eqb n 0x37 a)
+-- the slot of a number: one of fourteen, or the last
+abbrev pub has-slot : ℕ → Bool
+has-slot n = member n slotted
 
-  pub send-other : (n ≡ 0x36 → ⊥) → times (rowOf 0x43) n ≡ times (rowOf 0x41) n
-  unfolding times rowOf rowAmong table member some-of _⇒_else_
-  send-other a = simp (ne-eqb n 0x36 a)
+pub slot-key : {n k : ℕ} → n ≡ k → slotOf k ≡ slotOf n
+slot-key e = ap slotOf (sym e)
 
-  pub open-other :
-      (n ≡ 0x04 → ⊥) → (n ≡ 0x0D → ⊥) → (n ≡ 0x3E → ⊥) → (n ≡ 0x35 → ⊥) → (n ≡ 0x39 → ⊥) → (n ≡ 0x3C → ⊥) → (n ≡ 0x47 → ⊥) →
-      times (rowOf 0x40) n ≡ times (rowOf 0x41) n
-  unfolding times rowOf rowAmong table member some-of _⇒_else_
-  open-other a b c d e f g =
-      simp (ne-eqb n 0x04 a, ne-eqb n 0x0D b, ne-eqb n 0x3E c, ne-eqb n 0x35 d, ne-eqb n 0x39 e, ne-eqb n 0x3C f, ne-eqb n 0x47 g)
+pub slot-low : (n : ℕ) → has-slot n ≡ true → slotOf n < 14
+unfolding slotOf slotted
+slot-low n e = index-in n slotted e
 
-  pub more-time-times : times (rowOf 0x02) n ≡ times (rowOf 0x44) n
-  unfolding times rowOf rowAmong table _⇒_else_
-  more-time-times = refl
+pub slot-last : (n : ℕ) → has-slot n ≡ false → slotOf n ≡ 14
+unfolding slotOf slotted
+slot-last n e = index-out n slotted e
 
--- a type that is none of the seven
-pub unknown-kind :
-    (t : ℕ) → (t ≡ 0x02 → ⊥) → (t ≡ 0x05 → ⊥) → (t ≡ 0x40 → ⊥) → (t ≡ 0x41 → ⊥) → (t ≡ 0x42 → ⊥) → (t ≡ 0x43 → ⊥) → (t ≡ 0x44 → ⊥) → known t ≡ false
-unfolding known table member some-of
-unknown-kind t a b c d e f g =
-    simp (ne-eqb t 0x02 a, ne-eqb t 0x05 b, ne-eqb t 0x40 c, ne-eqb t 0x41 d, ne-eqb t 0x42 e, ne-eqb t 0x43 f, ne-eqb t 0x44 g)
+pub slot-rest : (n : ℕ) → Outside n slotted (Unit {0}) → 14 ≡ slotOf n
+slot-rest n w = sym (slot-last n (outside n slotted w))
 
--- the counts of a row at a number that is known
-at-number : (row : ℕ) {n k : ℕ} → n ≡ k → times (rowOf row) k ≡ times (rowOf row) n
-at-number row e = ap (λ (x : ℕ). times (rowOf row) x) (sym e)
-
-pub open-twice : (n : ℕ) → (n ≡ 0x04) ⊎ ((n ≡ 0x0D) ⊎ (n ≡ 0x3E)) → 2 ≡ times (rowOf 0x40) n
-unfolding times rowOf rowAmong table member some-of _⇒_else_
-open-twice n = ⊎-elim (λ e. at-number 0x40 e) (⊎-elim (λ e. at-number 0x40 e) (λ e. at-number 0x40 e))
-
-pub open-once : (n : ℕ) → (n ≡ 0x35) ⊎ ((n ≡ 0x39) ⊎ ((n ≡ 0x3C) ⊎ (n ≡ 0x47))) → 1 ≡ times (rowOf 0x40) n
-unfolding times rowOf rowAmong table member some-of _⇒_else_
-open-once n = ⊎-elim (λ e. at-number 0x40 e) (⊎-elim (λ e. at-number 0x40 e) (⊎-elim (λ e. at-number 0x40 e) (λ e. at-number 0x40 e)))
-
-pub receive-own : (n : ℕ) → n ≡ 0x37 → 1 ≡ times (rowOf 0x42) n
-unfolding times rowOf rowAmong table member some-of _⇒_else_
-receive-own n e = at-number 0x42 e
-
-pub send-own : (n : ℕ) → n ≡ 0x36 → 1 ≡ times (rowOf 0x43) n
-unfolding times rowOf rowAmong table member some-of _⇒_else_
-send-own n e = at-number 0x43 e
-
-pub event-own : (n : ℕ) → n ≡ 0x19 → 1 ≡ times (rowOf 0x05) n
-unfolding times rowOf rowAmong table member some-of _⇒_else_
-event-own n e = at-number 0x05 e
-
--- a bit that is none of 1 to 7 is the eighth
-above : (k b : ℕ) → k ≤ b → (b ≡ k → ⊥) → k + 1 ≤ b
-above k b h n = omega arith
-
-pub eighth :
-    (b : ℕ) → 1 ≤ b → b ≤ 8 → (b ≡ 1 → ⊥) → (b ≡ 2 → ⊥) → (b ≡ 3 → ⊥) → (b ≡ 4 → ⊥) → (b ≡ 5 → ⊥) → (b ≡ 6 → ⊥) → (b ≡ 7 → ⊥) → b ≡ 8
-eighth b low high a c d e f g h =
-    let x = above 7 b (above 6 b (above 5 b (above 4 b (above 3 b (above 2 b (above 1 b low a) c) d) e) f) g) h in
-    last b x high
+pub slot-within : (n : ℕ) → slotOf n < 15
+slot-within n = by (has-slot n) refl
   where
-    last : (b : ℕ) → 8 ≤ b → b ≤ 8 → b ≡ 8
-    last b x y = omega arith
+    by : (b : Bool) → has-slot n ≡ b → slotOf n < 15
+    by true e = let h = slot-low n e in omega arith
+    by false e = let h = slot-last n e in omega arith
 
--- the counts of a type whose handler is known
-pub at-handler : (n : ℕ) {h k : Handler} → h ≡ k → times (rowOf (handlerKind k)) n ≡ times (rowOf (handlerKind h)) n
-at-handler n e = ap (λ (x : Handler). times (rowOf (handlerKind x)) n) (sym e)
+-- two numbers of one slot are one
+pub slot-one : (n m : ℕ) → has-slot n ≡ true → slotOf n ≡ slotOf m → n ≡ m
+unfolding slotOf
+slot-one n m h e = by (has-slot m) refl
+  where
+    by : (b : Bool) → has-slot m ≡ b → n ≡ m
+    by true k = sym (index-get n slotted h) ∙ ap (λ (i : ℕ). getD slotted i 0) e ∙ index-get m slotted k
+    by false k = absurd (let a = slot-low n h in let b = slot-last m k in omega arith)
+
+-- every number of a row has a slot
+abbrev row-slotted : rules.Row → Bool
+row-slotted r = every has-slot (r .twice) && (every has-slot (r .required) && every has-slot (r .also))
+
+table-slotted : every row-slotted table ≡ true
+unfolding table every member some-of slotted
+table-slotted = refl
+
+row-has :
+    (f : rules.Row → Bool) (t : ℕ) (rs : List rules.Row) → f (record { kind = t; required = []; also = []; twice = [] }) ≡ true →
+    every f rs ≡ true → f (rowAmong t rs) ≡ true
+unfolding rowAmong every
+row-has f t [] z e = z
+row-has f t (r ∷ rs) z e =
+    branch (λ (x : rules.Row). f x ≡ true) _ _ _ (λ _. both-left (f r) (every f rs) e) (λ _. row-has f t rs z (both-right (f r) (every f rs) e))
+
+slotted-row : (t : ℕ) → row-slotted (rowAmong t table) ≡ true
+unfolding every
+slotted-row t = row-has row-slotted t table refl table-slotted
+
+-- a number without a slot stands in no row, of the rules or of the code
+module _ (n : ℕ) (h : has-slot n ≡ false) where
+  absent : (xs : List ℕ) → every has-slot xs ≡ true → member n xs ≡ false
+  absent xs e = no-member has-slot n xs e h
+
+  times-out : (r : rules.Row) → row-slotted r ≡ true → times r n ≡ 0
+  unfolding times
+  times-out r e =
+      let twice = every has-slot (r .twice) in
+      let required = every has-slot (r .required) in
+      let also = every has-slot (r .also) in
+      skip _ _ _ (absent (r .twice) (both-left twice (required && also) e))
+      ∙ skip _ _ _
+      (λ i.
+      absent (r .required) (both-left required also (both-right twice (required && also) e)) i ||
+      absent (r .also) (both-right required also (both-right twice (required && also) e)) i)
+
+  times-by-out : (row : Row) → every has-slot (needed row) ≡ true → timesBy row n ≡ 0
+  unfolding timesBy every member some-of slotted
+  times-by-out row e =
+      skip _ _ _ (absent (0x05 ∷ 0x1E ∷ []) refl) ∙ skip _ _ _ (absent (0x3C ∷ 0x47 ∷ []) refl)
+      ∙ skip _ _ _ (absent (0x04 ∷ 0x0D ∷ 0x3E ∷ []) refl) ∙ skip _ _ _ (absent (needed row) e)
+
+pub times-none : (d : Details) (n : ℕ) → has-slot n ≡ false → times (rowOf d) n ≡ 0
+unfolding rowOf
+times-none d n h = times-out n h (rowAmong (d .kind) table) (slotted-row (d .kind))
+
+-- a required number has a slot, and may stand
+pub required-slot : (d : Details) (n : ℕ) → member n (rowOf d .required) ≡ true → has-slot n ≡ true
+unfolding rowOf
+required-slot d n e =
+    let r = rowAmong (d .kind) table in
+    every-member has-slot n (r .required)
+    (both-left (every has-slot (r .required)) (every has-slot (r .also)) (both-right (every has-slot (r .twice)) _ (slotted-row (d .kind)))) e
+
+pub required-may : (r : rules.Row) (n : ℕ) → member n (r .required) ≡ true → 1 ≤ times r n
+unfolding times
+required-may r n e =
+    branch (λ (k : ℕ). 1 ≤ k) _ _ _ (λ _. omega arith)
+    (λ _. branch (λ (k : ℕ). 1 ≤ k) _ _ _ (λ _. omega arith) (λ q. absurd (true≢false (sym e ∙ either-left _ (member n (r .also)) q))))
+
+-- the two objects that a row names are needed
+or-self : (a : ℕ) (b : Bool) → eqb a a || b ≡ true
+or-self a b = ap (λ (x : Bool). x || b) (eq-eqb a a refl)
+
+pub own-needed : (a b : ℕ) → member a (0x01 ∷ 0x02 ∷ a ∷ b ∷ []) ≡ true
+unfolding member some-of
+own-needed a b = or-right (eqb a 0x01) _ (or-right (eqb a 0x02) _ (or-self a (eqb a b || false)))
+
+pub further-needed : (a b : ℕ) → member b (0x01 ∷ 0x02 ∷ a ∷ b ∷ []) ≡ true
+unfolding member some-of
+further-needed a b = or-right (eqb b 0x01) _ (or-right (eqb b 0x02) _ (or-right (eqb b a) _ (or-self b false)))
+
+-- a row of the code is one of the rules: tried at each number that has a slot
+abbrev alike : Row → rules.Row → Bool
+alike row r = every (λ n. eqb (timesBy row n) (times r n)) slotted
+
+times-alike :
+    (row : Row) (r : rules.Row) → row-slotted r ≡ true → every has-slot (needed row) ≡ true → alike row r ≡ true → (n : ℕ) → timesBy row n ≡ times r n
+times-alike row r u v e n = by (has-slot n) refl
+  where
+    by : (b : Bool) → has-slot n ≡ b → timesBy row n ≡ times r n
+    by true h = eqb-true (timesBy row n) (times r n) (every-member (λ n. eqb (timesBy row n) (times r n)) n slotted e h)
+    by false h = times-by-out n h row v ∙ sym (times-out n h r u)
+
+-- the counts of a number, by the line that has it
+apart : (ks js : List ℕ) (n : ℕ) → OneOf ks n → every (λ k. not (member k js)) ks ≡ true → member n js ≡ false
+apart ks js n o e = not-true (member n js) (every-member (λ k. not (member k js)) n ks e (in-keys ks n o))
+
+module _ (row : Row) (n : ℕ) where
+  pub times-named : OneOf (0x05 ∷ 0x1E ∷ []) n → (row .named ⇒ 1 else 0) ≡ timesBy row n
+  unfolding timesBy
+  times-named o = sym (stop _ _ _ (in-keys (0x05 ∷ 0x1E ∷ []) n o))
+
+  pub times-once : OneOf (0x3C ∷ 0x47 ∷ []) n → (row .opening ⇒ 1 else 0) ≡ timesBy row n
+  unfolding timesBy every member some-of
+  times-once o =
+      let ks : List ℕ = 0x3C ∷ 0x47 ∷ [] in
+      sym (skip _ _ _ (apart ks (0x05 ∷ 0x1E ∷ []) n o refl) ∙ stop _ _ _ (in-keys ks n o))
+
+  pub times-twice : OneOf (0x04 ∷ 0x0D ∷ 0x3E ∷ []) n → (row .opening ⇒ 2 else 0) ≡ timesBy row n
+  unfolding timesBy every member some-of
+  times-twice o =
+      let ks : List ℕ = 0x04 ∷ 0x0D ∷ 0x3E ∷ [] in
+      sym (skip _ _ _ (apart ks (0x05 ∷ 0x1E ∷ []) n o refl) ∙ skip _ _ _ (apart ks (0x3C ∷ 0x47 ∷ []) n o refl) ∙ stop _ _ _ (in-keys ks n o))
+
+  pub times-required :
+      (b : Bool) (k : ℕ) →
+      ((Unit {0} × (OneOf (0x05 ∷ 0x1E ∷ []) n → ⊥)) × (OneOf (0x3C ∷ 0x47 ∷ []) n → ⊥)) × (OneOf (0x04 ∷ 0x0D ∷ 0x3E ∷ []) n → ⊥) →
+      b ≡ member n (needed row) → k ≡ (b ⇒ 1 else 0) → k ≡ timesBy row n
+  unfolding timesBy
+  times-required b k w e f =
+      f ∙ ap (λ (x : Bool). x ⇒ 1 else 0) e
+      ∙ sym
+      (skip _ _ _ (out-keys (0x05 ∷ 0x1E ∷ []) n (w .0 .0 .1)) ∙ skip _ _ _ (out-keys (0x3C ∷ 0x47 ∷ []) n (w .0 .1))
+      ∙ skip _ _ _ (out-keys (0x04 ∷ 0x0D ∷ 0x3E ∷ []) n (w .1)))
+
+-- two tests that come out the same
+abbrev same : Bool → Bool → Bool
+same a b = a ⇒ b else not b
+
+same-true : (a b : Bool) → same a b ≡ true → a ≡ b
+unfolding _⇒_else_
+same-true true true e = refl
+same-true true false e = sym e
+same-true false true e = e
+same-true false false e = refl
+
+if-so : (a b : Bool) → (a ⇒ b else true) ≡ true → a ≡ true → b ≡ true
+if-so a b e t = sym (stop a b true t) ∙ e
+
+-- what makes a plan that of a type
+abbrev tests : Plan → ℕ → List Bool
+tests p t =
+    let r = rowAmong t table in
+    known t ∷
+    eqb t (handlerKind (p .handler)) ∷
+    eqb (p .row .own) (ownNumber (p .handler)) ∷
+    same (p .row .opening) (eqb t 0x40) ∷
+    (p .row .opening ⇒ eqb (p .row .further) 0x39 else true) ∷
+    same (p .modem) (toModem t) ∷
+    alike (p .row) r ∷
+    every has-slot (needed (p .row)) ∷
+    every (λ n. member n (r .required)) (needed (p .row)) ∷
+    every (λ n. member n (needed (p .row))) (r .required) ∷
+    []
+
+unfoldable pub rightly : Plan → ℕ → Bool
+rightly p t = every (λ (b : Bool). b) (tests p t)
+
+pub plan-right : (p : Plan) (d : Details) (k : ℕ) → d .kind ≡ k → PlaceFor (p .place) d → rightly p k ≡ true → PlanOf p d
+unfolding rightly rowOf
+plan-right p d k q place e =
+    let t = d .kind in
+    let w = all-true (tests p t) (ap (rightly p) q ∙ e) in
+    let x = w .1 .1 .1 in
+    let y = x .1 .1 .1 in
+    record {
+      known-is = w .0;
+      kind-is = eqb-true t (handlerKind (p .handler)) (w .1 .0);
+      own-is = eqb-true (p .row .own) (ownNumber (p .handler)) (w .1 .1 .0);
+      opening-is = same-true (p .row .opening) (eqb t 0x40) (x .0);
+      size-is = λ o. eqb-true (p .row .further) 0x39 (if-so (p .row .opening) (eqb (p .row .further) 0x39) (x .1 .0) o);
+      modem-is = same-true (p .modem) (toModem t) (x .1 .1 .0);
+      place = place;
+      row =
+          record {
+            times-are = times-alike (p .row) (rowAmong t table) (slotted-row t) (y .1 .0) (y .0);
+            required = y .1 .1 .0;
+            looked-for = y .1 .1 .1 .0;
+          };
+    }
+
+-- a place that is written out for one type
+pub place-at :
+    (p : Place) (d : Details) (t : ℕ) → d .kind ≡ t →
+    ((q : List ℕ) → bit q (p .byte) (p .bit) ≡ allowsType q (record { number = d .number; kind = t; qualifier = d .qualifier })) →
+    leb 1 (p .byte) && (leb (p .byte) profileSize && (leb 1 (p .bit) && leb (p .bit) 8)) ≡ true → PlaceFor p d
+place-at p d t e is w =
+    let a = leb 1 (p .byte) in
+    let b = leb (p .byte) profileSize in
+    let c = leb 1 (p .bit) in
+    let f = leb (p .bit) 8 in
+    let x = both-right a (b && (c && f)) w in
+    let y = both-right b (c && f) x in
+    record {
+      is = λ q. is q ∙ sym (λ i. allowsType q (record { number = d .number; kind = e i; qualifier = d .qualifier }));
+      byte-low = leb-true 1 (p .byte) (both-left a (b && (c && f)) w);
+      byte-high = leb-true (p .byte) profileSize (both-left b (c && f) x);
+      bit-low = leb-true 1 (p .bit) (both-left c f y);
+      bit-high = leb-true (p .bit) 8 (both-right c f y);
+    }
+
+-- the places of 40 to 44: byte 12, and the type less 3F
+pub channel-place : (p : Place) (d : Details) → 0x40 ≤ d .kind → d .kind ≤ 0x44 → p .byte ≡ 12 → p .bit ≡ d .kind - 0x3F → PlaceFor p d
+unfolding allowsType
+channel-place p d low high b k =
+    record {
+      is =
+          λ q.
+          (λ i. bit q (b i) (k i))
+          ∙ sym (skip _ _ _ (ne-eqb (d .kind) 0x02 (omega arith)) ∙ skip _ _ _ (ne-eqb (d .kind) 0x05 (omega arith)));
+      byte-low = omega arith;
+      byte-high = omega arith;
+      bit-low = omega arith;
+      bit-high = omega arith;
+    }
 
 -- a type from 40 to 44 is one of five
-five : (P : ℕ → Type 0) → P 0x40 → P 0x41 → P 0x42 → P 0x43 → P 0x44 → (t : ℕ) → 0x40 ≤ t → t ≤ 0x44 → P t
-five P a b c d e t low high = subst P same (by (t - 0x40) (omega arith))
+pub five : (P : ℕ → Type 0) → P 0x40 → P 0x41 → P 0x42 → P 0x43 → P 0x44 → (t : ℕ) → 0x40 ≤ t → t ≤ 0x44 → P t
+five P a b c d e t low high = subst P same-type (by (t - 0x40) (omega arith))
   where
-    same : 0x40 + (t - 0x40) ≡ t
-    same = omega arith
+    same-type : 0x40 + (t - 0x40) ≡ t
+    same-type = omega arith
 
     by : (k : ℕ) → k ≤ 4 → P (0x40 + k)
     by zero h = a
@@ -131,51 +320,21 @@ Ruled t = (getD places (t - 0x40) (record { byte = 0; bit = 0 }) .byte ≡ 12) �
 pub places-rule : (t : ℕ) → 0x40 ≤ t → t ≤ 0x44 → Ruled t
 places-rule = five Ruled (refl, refl) (refl, refl) (refl, refl) (refl, refl) (refl, refl)
 
--- the numbers 01 and 02 stand once for every type
-pub always-own : (n : ℕ) → 1 ≤ n → n ≤ 2 → 1 ≡ times (rowOf 0x44) n
-unfolding times rowOf rowAmong table member some-of _⇒_else_
-always-own n low high = by (eqb n 1) refl
-  where
-    by : (b : Bool) → eqb n 1 ≡ b → 1 ≡ times (rowOf 0x44) n
-    by true e = ap (λ (k : ℕ). times (rowOf 0x44) k) (sym (eqb-true n 1 e))
-    by false e = let d : n ≡ 2 = omega (arith, eqb-false n 1 e) in ap (λ (k : ℕ). times (rowOf 0x44) k) (sym d)
+-- the types that have a plan: two, and the range
+abbrev planned : ℕ → Bool
+planned t = member t (0x02 ∷ 0x05 ∷ []) || (leb 0x40 t && leb t 0x44)
 
--- the plans
-pub more-time-plan : (t : ℕ) → t ≡ 0x02 → PlanOf (record { handler = MoreTime; place = record { byte = 3; bit = 4 } }) t
-unfolding allowsType
-more-time-plan t e =
-    record {
-      kind-is = e;
-      place-is = λ q. sym (stop _ _ _ (eq-eqb t 0x02 e));
-      byte-low = omega arith;
-      byte-high = omega arith;
-      bit-low = omega arith;
-      bit-high = omega arith;
-    }
+kinds-planned : every planned (map (λ (r : rules.Row). r .kind) table) ≡ true
+unfolding table every member some-of
+kinds-planned = refl
 
-pub event-plan : (t : ℕ) → t ≡ 0x05 → PlanOf (record { handler = EventList; place = record { byte = 5; bit = 1 } }) t
-unfolding allowsType
-event-plan t e =
-    record {
-      kind-is = e;
-      place-is = λ q. sym (skip _ _ _ (ne-eqb t 0x02 (omega arith)) ∙ stop _ _ _ (eq-eqb t 0x05 e));
-      byte-low = omega arith;
-      byte-high = omega arith;
-      bit-low = omega arith;
-      bit-high = omega arith;
-    }
+module _ (t : ℕ) (w : Outside t (0x02 ∷ 0x05 ∷ []) (Unit {0})) where
+  unknown : leb 0x40 t && leb t 0x44 ≡ false → known t ≡ false
+  unfolding known
+  unknown h = no-member planned t (map (λ (r : rules.Row). r .kind) table) kinds-planned (λ i. outside t (0x02 ∷ 0x05 ∷ []) w i || h i)
 
--- the table of places: byte 12, and the type less 3F
-pub channel-plan :
-    (t : ℕ) (h : Handler) (p : Place) → 0x40 ≤ t → t ≤ 0x44 → t ≡ handlerKind h → p .byte ≡ 12 → p .bit ≡ t - 0x3F → PlanOf (record { handler = h; place = p }) t
-unfolding allowsType
-channel-plan t h p low high e b k =
-    record {
-      kind-is = e;
-      place-is =
-          λ q. (λ i. bit q (b i) (k i)) ∙ sym (skip _ _ _ (ne-eqb t 0x02 (omega arith)) ∙ skip _ _ _ (ne-eqb t 0x05 (omega arith)));
-      byte-low = omega arith;
-      byte-high = omega arith;
-      bit-low = omega arith;
-      bit-high = omega arith;
-    }
+  pub unknown-below : t < 0x40 → known t ≡ false
+  unknown-below h = unknown (ap (λ (b : Bool). b && leb t 0x44) (lt-leb 0x40 t h))
+
+  pub unknown-above : 0x40 ≤ t → 0x44 < t → known t ≡ false
+  unknown-above l h = unknown (λ i. le-leb 0x40 t l i && lt-leb t 0x44 h i)

@@ -1,15 +1,25 @@
 -- What a plan says of a type.
 use Prim.Native.Nat.{ℕ, _≤_}
 use mathlib.Core.Path.{_≡_}
-use mathlib.Core.Bool.{false}
-use mathlib.Core.List.{List}
+use mathlib.Core.Bool.{true, false}
+use mathlib.Core.List.{List, [], _∷_}
+use lib.Dec.{eqb}
+use Rattle.rules.specs.declared.Details.{Details}
+use Rattle.rules.specs.Checks.{_⇒_else_, every, member}
 use Rattle.rules.specs.Profile.{bit, allowsType}
-use Rattle.rules.specs.Table.{known}
+use Rattle.rules.specs.Table.{known, rowOf, times}
+use Rattle.rules.specs.Reading.{toModem}
 use Rattle.command.specs.declared.Handler.{Handler}
 use Rattle.command.specs.declared.Handler.the-variants.{MoreTime, EventList, Open, Close, Receive, Send, Status}
+use Rattle.command.specs.declared.Place.{Place}
+use Rattle.command.specs.declared.Row.{Row}
 use Rattle.command.specs.declared.Plan.{Plan}
 use Rattle.command.specs.declared.Planned.{Planned}
 use Rattle.command.specs.declared.Planned.the-variants.{Of, Unknown}
+
+-- every place of the profile lies in this many bytes
+abbrev pub profileSize : ℕ
+profileSize = 13
 
 -- the type of a handler
 abbrev pub handlerKind : Handler → ℕ
@@ -21,15 +31,53 @@ handlerKind Receive = 0x42
 handlerKind Send = 0x43
 handlerKind Status = 0x44
 
--- the plan is that of the type: its handler's type is this one, and its place is that of the profile rule
-pub record PlanOf (p : Plan) (kind : ℕ) : Type 0 where
-  pub kind-is : kind ≡ handlerKind (p .handler)
-  pub place-is : (q : List ℕ) → bit q (p .place .byte) (p .place .bit) ≡ allowsType q kind
-  pub byte-low : 1 ≤ p .place .byte
-  pub byte-high : p .place .byte ≤ 13
-  pub bit-low : 1 ≤ p .place .bit
-  pub bit-high : p .place .bit ≤ 8
+-- the required object that carries a type's own value; 02 where there is none
+abbrev pub ownNumber : Handler → ℕ
+ownNumber MoreTime = 0x02
+ownNumber EventList = 0x19
+ownNumber Open = 0x35
+ownNumber Close = 0x02
+ownNumber Receive = 0x37
+ownNumber Send = 0x36
+ownNumber Status = 0x02
 
-abbrev pub Plans : Planned → ℕ → Type 0
-Plans (Of p) kind = PlanOf p kind
-Plans Unknown kind = known kind ≡ false
+-- the objects that a row requires
+abbrev pub needed : Row → List ℕ
+needed row = 0x01 ∷ 0x02 ∷ row .own ∷ row .further ∷ []
+
+-- how often an object of a number may stand by a row: those with a name, those of OPEN CHANNEL, and those required
+unfoldable pub timesBy : Row → ℕ → ℕ
+timesBy row n =
+    member n (0x05 ∷ 0x1E ∷ []) ⇒ (row .named ⇒ 1 else 0) else
+    member n (0x3C ∷ 0x47 ∷ []) ⇒ (row .opening ⇒ 1 else 0) else
+    member n (0x04 ∷ 0x0D ∷ 0x3E ∷ []) ⇒ (row .opening ⇒ 2 else 0) else
+    (member n (needed row) ⇒ 1 else 0)
+
+-- the row is that of the rules: the same objects may stand, as often, and the same are required
+pub record RowFor (row : Row) (d : Details) : Type 0 where
+  pub times-are : (n : ℕ) → timesBy row n ≡ times (rowOf d) n
+  pub required : every (λ n. member n (rowOf d .required)) (needed row) ≡ true
+  pub looked-for : every (λ n. member n (needed row)) (rowOf d .required) ≡ true
+
+-- the place is that of the profile rule
+pub record PlaceFor (p : Place) (d : Details) : Type 0 where
+  pub is : (q : List ℕ) → bit q (p .byte) (p .bit) ≡ allowsType q d
+  pub byte-low : 1 ≤ p .byte
+  pub byte-high : p .byte ≤ profileSize
+  pub bit-low : 1 ≤ p .bit
+  pub bit-high : p .bit ≤ 8
+
+-- the plan is that of a command with these details
+pub record PlanOf (p : Plan) (d : Details) : Type 0 where
+  pub known-is : known (d .kind) ≡ true
+  pub kind-is : d .kind ≡ handlerKind (p .handler)
+  pub own-is : p .row .own ≡ ownNumber (p .handler)
+  pub opening-is : p .row .opening ≡ eqb (d .kind) 0x40
+  pub size-is : p .row .opening ≡ true → p .row .further ≡ 0x39
+  pub modem-is : p .modem ≡ toModem (d .kind)
+  pub place : PlaceFor (p .place) d
+  pub row : RowFor (p .row) d
+
+abbrev pub Plans : Planned → Details → Type 0
+Plans (Of p) d = PlanOf p d
+Plans Unknown d = known (d .kind) ≡ false

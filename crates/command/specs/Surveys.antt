@@ -1,16 +1,25 @@
--- What a survey of a command's objects says.
-use Prim.Native.Nat.{ℕ}
-use mathlib.Core.Path.{_≡_}
+-- What a walk over a command's objects keeps of them: a survey, and what was met of each number that a row has.
+use Prim.Native.Nat.{ℕ, suc, _+_}
 use mathlib.Core.Bool.{Bool, true, not, _||_}
-use mathlib.Core.List.{List, []}
+use mathlib.Core.List.{List, [], _∷_}
+use lib.ListN.{getD}
+use lib.Dec.{eqb}
 use Rattle.rules.specs.Checks.{_⇒_else_, isEmpty, some-of}
-use Rattle.rules.specs.Frames.{Object, walk}
-use Rattle.rules.specs.Table.{rowOf, Sifted, sift, measured}
-use Rattle.objects.specs.declared.Where.{Where}
-use Rattle.objects.specs.declared.Where.the-variants.{At, Nowhere}
-use Rattle.command.specs.declared.Handler.{Handler}
+use Rattle.rules.specs.Frames.{Object}
+use Rattle.rules.specs.Table.{Sifted, measured}
+use Rattle.command.specs.declared.Met.{Met}
+use Rattle.command.specs.declared.Row.{Row}
+use Rattle.command.specs.declared.Sorted.{Sorted}
 use Rattle.command.specs.declared.Survey.{Survey}
-use Rattle.command.specs.Plans.{handlerKind}
+
+-- what a survey of sifted objects says
+abbrev pub surveyOf : Sifted → Survey
+surveyOf f =
+    record {
+      flagged = some-of (λ (x : Object). x .flag) (f .unexpected);
+      ignored = not (isEmpty (f .unexpected));
+      misfit = not (measured (f .counting));
+    }
 
 -- a survey with one object more: one that counts has its length or not, any other is flagged or not
 unfoldable pub noted : Survey → Bool → Bool → Bool → Survey
@@ -18,16 +27,38 @@ noted v counts fit flag =
     counts ⇒ record { flagged = v .flagged; ignored = v .ignored; misfit = v .misfit || not fit } else
     record { flagged = v .flagged || flag; ignored = true; misfit = v .misfit }
 
--- where the first of such objects stands, once one more was met: where it did, or here if this is such a one
-unfoldable pub firstOf : Where → Bool → ℕ → ℕ → Where
-firstOf (At before count) such start n = At before count
-firstOf Nowhere such start n = such ⇒ At start n else Nowhere
+-- the numbers that a row may have, in the order of their slots
+unfoldable pub slotted : List ℕ
+slotted = 0x01 ∷ 0x02 ∷ 0x04 ∷ 0x05 ∷ 0x0D ∷ 0x19 ∷ 0x1E ∷ 0x35 ∷ 0x36 ∷ 0x37 ∷ 0x39 ∷ 0x3C ∷ 0x3E ∷ 0x47 ∷ []
 
--- the objects of a command, sifted by the row of a handler's type
-abbrev pub sifted : List ℕ → Handler → Sifted
-sifted s h = sift (rowOf (handlerKind h)) [] (walk s .objects)
+-- where a number stands in a list; behind it where it does not
+unfoldable pub indexIn : ℕ → List ℕ → ℕ
+indexIn n [] = 0
+indexIn n (x ∷ xs) = let k = indexIn n xs in eqb n x ⇒ 0 else suc k
 
-pub record Surveyed (v : Survey) (s : List ℕ) (h : Handler) : Type 0 where
-  pub flagged : v .flagged ≡ some-of (λ (x : Object). x .flag) (sifted s h .unexpected)
-  pub ignored : v .ignored ≡ not (isEmpty (sifted s h .unexpected))
-  pub misfit : v .misfit ≡ not (measured (sifted s h .counting))
+unfoldable pub slotOf : ℕ → ℕ
+slotOf n = indexIn n slotted
+
+-- what was met in the slot of a number
+abbrev pub unmet : Met
+unmet = record { count = 0; start = 0; len = 0 }
+
+abbrev pub metOf : List Met → ℕ → Met
+metOf slots n = getD slots (slotOf n) unmet
+
+-- one object more: the first keeps its place
+unfoldable pub metAgain : Met → ℕ → ℕ → Met
+metAgain m start n =
+    eqb (m .count) 0 ⇒ record { count = 1; start = start; len = n } else
+    record { count = m .count + 1; start = m .start; len = m .len }
+
+abbrev pub sortedBy : List Met → Row → Survey → Bool → Sorted
+sortedBy slots row survey whole =
+    record {
+      survey = survey;
+      whole = whole;
+      devices = metOf slots 0x02;
+      own = metOf slots (row .own);
+      further = metOf slots (row .further);
+      transport = metOf slots 0x3C;
+    }

@@ -2,27 +2,56 @@
 use objects::Cursor;
 use objects::Found;
 use objects::Sized;
-use objects::Where;
-use objects::find;
 use objects::length_at;
 use objects::walk;
 use rules::Details;
 use rules::DeviceIdentity;
 use rules::Ending;
 ghost use mathlib.Core.Path.{_≡_};
-ghost use Prim.Native.Nat.{ℕ, _+_, _-_, _^_, _≤_};
-ghost use lib.ListN.{length};
-ghost use lib.Dec.{leb};
-ghost use mathlib.Core.Bool.{_&&_};
+ghost use mathlib.Core.Bool.{_&&_, false};
 ghost use mathlib.Core.List.{List};
+ghost use Prim.Native.Nat.{ℕ, _+_, _-_, _*_, _^_, _≤_, _<_};
+ghost use lib.ListN.{length, getD};
+ghost use lib.Dec.{leb};
+ghost use Rattle.rules.specs.Checks.{_⇒_else_, member};
 ghost use Rattle.rules.specs.Profile.{bit};
-ghost use Rattle.rules.specs.Table.{times, rowOf, known, bearerFits, lengthFits};
+ghost use Rattle.rules.specs.Table.{known, bearerFits, lengthFits};
 ghost use Rattle.octets.specs.Parts.{part};
-ghost use Rattle.objects.specs.Places.{First, Finds, placeOf};
-ghost use Rattle.command.specs.Plans.{handlerKind, PlanOf, Plans};
-ghost use Rattle.command.specs.Surveys.{noted, firstOf};
-ghost use Rattle.command.specs.Requests.{Frames, ownNumber, lastNumber, addressedBy, Settled, Sorts, Named, Headed, Detailed, Typed, Begun, Reads};
-ghost use mathlib.Core.Bool.{false};
+ghost use Rattle.command.specs.Plans.{profileSize, needed, timesBy, RowFor, PlanOf, Plans};
+ghost use Rattle.command.specs.Surveys.{slotOf, metAgain, noted, sortedBy};
+ghost use Rattle.command.specs.Requests.{Frames, detailsAt, theDetails, completeBy, addressedBy, Headed, Detailed, Begun, Typed, Sorts, Fitted, OpensWith, Reads};
+
+// The objects, by number.
+const DETAILS: u16 = 0x01;
+
+const DEVICES: u16 = 0x02;
+
+const DURATION: u16 = 0x04;
+
+const ALPHA: u16 = 0x05;
+
+const TEXT: u16 = 0x0D;
+
+const EVENTS: u16 = 0x19;
+
+const ICON: u16 = 0x1E;
+
+const BEARER: u16 = 0x35;
+
+const DATA: u16 = 0x36;
+
+const COUNT: u16 = 0x37;
+
+const SIZE: u16 = 0x39;
+
+const TRANSPORT: u16 = 0x3C;
+
+const ADDRESS: u16 = 0x3E;
+
+const NETWORK: u16 = 0x47;
+
+// The protocol of a channel whose transport level does not stand.
+const TCP: u8 = 0x02;
 
 // What is done for a type.
 pub enum Handler {
@@ -41,14 +70,24 @@ pub struct Place {
     pub bit: u8,
 }
 
-// A type's handler, which has its objects, and its place in the profile.
-pub struct Plan {
-    pub handler: Handler,
-    pub place: Place,
+// The objects of a type: the two that it requires besides 01 and 02, which is 02 again where there is none, whether 05 and 1E may stand, and whether those of OPEN CHANNEL may.
+struct Row {
+    own: u16,
+    further: u16,
+    named: bool,
+    opening: bool,
+}
+
+// A type's handler, its place in the profile, its objects, and whether it goes to the modem itself or to a channel.
+struct Plan {
+    handler: Handler,
+    place: Place,
+    row: Row,
+    modem: bool,
 }
 
 // The plan of a type, or none where it is not one of the seven.
-pub enum Planned {
+enum Planned {
     Of(Plan),
     Unknown,
 }
@@ -62,41 +101,110 @@ const PLACES: [Place; 5] = [
     Place { byte: 12, bit: 5 },
 ];
 
-// The handler of a type from 40 to 44.
-fn channel_handler(kind: u8) -> Handler
+// The place of a type from 40 to 44.
+fn channel_place(kind: u8) -> Place
     requires { ⌜ (64 ≤ kind) × (kind ≤ 68) ⌝ }
-    ensures { λ r. ⌜ kind ≡ handlerKind r ⌝ }
+    ensures { λ r. ⌜ (r .byte ≡ 12) × (r .bit ≡ kind - 0x3F) ⌝ }
 {
+    let k = (kind - 0x40) as usize;
+    PLACES[k]
+}
+
+// The plan of a type from 40 to 44.
+fn channel_plan(d: Details) -> Plan
+    requires { ⌜ (64 ≤ d .kind) × (d .kind ≤ 68) ⌝ }
+    ensures { λ r. ⌜ PlanOf r d ⌝ }
+{
+    let kind = d.kind;
+    let place = channel_place(kind);
     match kind {
-        0x40 => Handler::Open,
-        0x41 => Handler::Close,
-        0x42 => Handler::Receive,
-        0x43 => Handler::Send,
-        _ => Handler::Status,
+        0x40 => Plan {
+            handler: Handler::Open,
+            place,
+            row: Row {
+                own: BEARER,
+                further: SIZE,
+                named: true,
+                opening: true,
+            },
+            modem: true,
+        },
+        0x41 => Plan {
+            handler: Handler::Close,
+            place,
+            row: Row {
+                own: DEVICES,
+                further: DEVICES,
+                named: true,
+                opening: false,
+            },
+            modem: false,
+        },
+        0x42 => Plan {
+            handler: Handler::Receive,
+            place,
+            row: Row {
+                own: COUNT,
+                further: DEVICES,
+                named: true,
+                opening: false,
+            },
+            modem: false,
+        },
+        0x43 => Plan {
+            handler: Handler::Send,
+            place,
+            row: Row {
+                own: DATA,
+                further: DEVICES,
+                named: true,
+                opening: false,
+            },
+            modem: false,
+        },
+        _ => Plan {
+            handler: Handler::Status,
+            place,
+            row: Row {
+                own: DEVICES,
+                further: DEVICES,
+                named: false,
+                opening: false,
+            },
+            modem: true,
+        },
     }
 }
 
-// The plan of a type: its handler, which has its objects, and its place in the profile.
-pub fn plan_of(kind: u8) -> Planned
-    ensures { λ r. ⌜ Plans r kind ⌝ }
+// The plan of a command with these details.
+fn plan_of(d: Details) -> Planned
+    ensures { λ r. ⌜ Plans r d ⌝ }
 {
+    let kind = d.kind;
     match kind {
         0x02 => Planned::Of(Plan {
             handler: Handler::MoreTime,
             place: Place { byte: 3, bit: 4 },
+            row: Row {
+                own: DEVICES,
+                further: DEVICES,
+                named: false,
+                opening: false,
+            },
+            modem: true,
         }),
         0x05 => Planned::Of(Plan {
             handler: Handler::EventList,
             place: Place { byte: 5, bit: 1 },
+            row: Row {
+                own: EVENTS,
+                further: DEVICES,
+                named: false,
+                opening: false,
+            },
+            modem: true,
         }),
-        0x40..=0x44 => {
-            let k = (kind - 0x40) as usize;
-            let place = PLACES[k];
-            Planned::Of(Plan {
-                handler: channel_handler(kind),
-                place,
-            })
-        }
+        0x40..=0x44 => Planned::Of(channel_plan(d)),
         _ => Planned::Unknown,
     }
 }
@@ -120,8 +228,8 @@ fn weight(bit: u8) -> u16
 
 // Whether the profile has the bit of a place set.
 pub fn allowed(profile: &[u16], place: Place) -> bool
-    requires { ⌜ ((1 ≤ place .byte) × (place .byte ≤ 13)) × ((1 ≤ place .bit) × (place .bit ≤ 8)) ⌝ }
-    requires { ⌜ 13 ≤ length (now profile) ⌝ }
+    requires { ⌜ ((1 ≤ place .byte) × (place .byte ≤ profileSize)) × ((1 ≤ place .bit) × (place .bit ≤ 8)) ⌝ }
+    requires { ⌜ profileSize ≤ length (now profile) ⌝ }
     ensures { λ r. ⌜ r ≡ bit (now (profile .entry)) (place .byte) (place .bit) ⌝ }
 {
     let at = place.byte - 1;
@@ -129,51 +237,67 @@ pub fn allowed(profile: &[u16], place: Place) -> bool
     b / weight(place.bit) % 2 == 1
 }
 
-// How often an object of a number may stand for a type.
-pub fn times(handler: Handler, number: u8) -> u8
-    ensures { λ r. ⌜ r ≡ times (rowOf (handlerKind handler)) number ⌝ }
+// So many where objects may stand, and none where not.
+fn where_allowed(may: bool, count: u8) -> u8
+    ensures { λ r. ⌜ r ≡ (may ⇒ count else 0) ⌝ }
 {
-    match handler {
-        Handler::MoreTime => always(number),
-        Handler::EventList => match number {
-            0x19 => 1,
-            _ => always(number),
-        },
-        Handler::Open => match number {
-            0x04 | 0x0D | 0x3E => 2,
-            0x35 | 0x39 | 0x3C | 0x47 => 1,
-            _ => usual(number),
-        },
-        Handler::Close => usual(number),
-        Handler::Receive => match number {
-            0x37 => 1,
-            _ => usual(number),
-        },
-        Handler::Send => match number {
-            0x36 => 1,
-            _ => usual(number),
-        },
-        Handler::Status => always(number),
+    if may {
+        return count;
+    }
+    0
+}
+
+// Whether a type requires an object of a number.
+fn required(row: Row, number: u16) -> bool
+    ensures { λ r. ⌜ r ≡ member number (needed row) ⌝ }
+{
+    if number == DETAILS {
+        return true;
+    }
+    if number == DEVICES {
+        return true;
+    }
+    if number == row.own {
+        return true;
+    }
+    if number == row.further {
+        return true;
+    }
+    false
+}
+
+// How often an object of a number may stand.
+fn times(row: Row, number: u16) -> u8
+    ensures { λ r. ⌜ r ≡ timesBy row number ⌝ }
+{
+    match number {
+        ALPHA | ICON => where_allowed(row.named, 1),
+        TRANSPORT | NETWORK => where_allowed(row.opening, 1),
+        DURATION | TEXT | ADDRESS => where_allowed(row.opening, 2),
+        _ => where_allowed(required(row, number), 1),
     }
 }
 
-// The objects of every type: 01 and 02.
-fn always(number: u8) -> u8
-    ensures { λ r. ⌜ r ≡ times (rowOf 0x44) number ⌝ }
+// The slot of an object number: one for each that a row has, and the last for all others.
+fn slot(number: u16) -> usize
+    ensures { λ r. ⌜ (r ≡ slotOf number) × (r < 15) ⌝ }
 {
     match number {
-        0x01 | 0x02 => 1,
-        _ => 0,
-    }
-}
-
-// The objects of CLOSE CHANNEL, which its neighbours have too: 05 and 1E besides.
-fn usual(number: u8) -> u8
-    ensures { λ r. ⌜ r ≡ times (rowOf 0x41) number ⌝ }
-{
-    match number {
-        0x05 | 0x1E => 1,
-        _ => always(number),
+        DETAILS => 0,
+        DEVICES => 1,
+        DURATION => 2,
+        ALPHA => 3,
+        TEXT => 4,
+        EVENTS => 5,
+        ICON => 6,
+        BEARER => 7,
+        DATA => 8,
+        COUNT => 9,
+        SIZE => 10,
+        TRANSPORT => 11,
+        ADDRESS => 12,
+        NETWORK => 13,
+        _ => 14,
     }
 }
 
@@ -194,24 +318,24 @@ fn bearer_fits(s: &[u8], start: usize, len: usize) -> bool
 }
 
 // Whether the value of an object has the length of its number.
-pub fn fits(number: u8, s: &[u8], start: usize, len: usize) -> bool
+fn fits(number: u16, s: &[u8], start: usize, len: usize) -> bool
     requires { ⌜ start + len ≤ length (now s) ⌝ }
     ensures { λ r. ⌜ r ≡ lengthFits number (part start (start + len) (now (s .entry))) ⌝ }
 {
     match number {
-        0x01 | 0x3C => len == 3,
-        0x02 | 0x04 | 0x1E | 0x39 => len == 2,
-        0x37 => len == 1,
-        0x35 => bearer_fits(s, start, len),
+        DETAILS | TRANSPORT => len == 3,
+        DEVICES | DURATION | ICON | SIZE => len == 2,
+        COUNT => len == 1,
+        BEARER => bearer_fits(s, start, len),
         _ => true,
     }
 }
 
 // What a survey of the objects found: a flagged unexpected one, any unexpected one, one that counts and has a wrong length.
-pub struct Survey {
-    pub flagged: bool,
-    pub ignored: bool,
-    pub misfit: bool,
+struct Survey {
+    flagged: bool,
+    ignored: bool,
+    misfit: bool,
 }
 
 impl Survey {
@@ -234,75 +358,98 @@ impl Survey {
     }
 }
 
-// What a walk over a command's objects found: the survey, whether it came to the end, and where the devices and the type's own value stand.
-struct Sorted {
-    survey: Survey,
-    whole: bool,
-    devices: Where,
-    own: Where,
+// What was met of the objects of one slot: how many, where the value of the first starts, and how long it is.
+struct Met {
+    count: u8,
+    start: u16,
+    len: u16,
 }
 
-// Where the first of such objects stands, once one object more was met.
-fn first(found: Where, such: bool, start: usize, len: usize) -> Where
-    ensures { λ r. ⌜ r ≡ firstOf found such start len ⌝ }
-{
-    match found {
-        Where::At(before, count) => Where::At(before, count),
-        Where::Nowhere => {
-            if such {
-                return Where::At(start, len);
-            }
-            Where::Nowhere
+impl Met {
+    // One object more.
+    fn again(self, start: u16, len: u16) -> Met
+        requires { ⌜ self .count < 255 ⌝ }
+        ensures { λ r. ⌜ r ≡ metAgain self start len ⌝ }
+    {
+        if self.count == 0 {
+            return Met {
+                count: 1,
+                start,
+                len,
+            };
+        }
+        Met {
+            count: self.count + 1,
+            start: self.start,
+            len: self.len,
         }
     }
 }
 
-// Goes through the objects behind the first, which is 01, of a command whose type has this handler.
-fn go_through(s: &[u8], handler: Handler, second: Cursor) -> Sorted
-    requires { ⌜ (length (now s) ≤ 256) × Headed (now s) (second .at) ⌝ }
-    ensures { λ r. ⌜ Sorts r (now (s .entry)) handler ⌝ }
+// What a walk over a command's objects found: the survey, whether it came to the end, and what was met of 02, of the two objects that the type requires besides, and of 3C.
+struct Sorted {
+    survey: Survey,
+    whole: bool,
+    devices: Met,
+    own: Met,
+    further: Met,
+    transport: Met,
+}
+
+// What was found, from what was met in each slot.
+fn gather(slots: [Met; 15], row: Row, survey: Survey, whole: bool) -> Sorted
+    ensures { λ r. ⌜ r ≡ sortedBy slots row survey whole ⌝ }
 {
-    let needed = value_number(handler);
-    let mut counts = [0u8; 128];
-    counts[1] = 1;
+    let devices = slots[slot(DEVICES)];
+    let own = slots[slot(row.own)];
+    let further = slots[slot(row.further)];
+    let transport = slots[slot(TRANSPORT)];
+    Sorted {
+        survey,
+        whole,
+        devices,
+        own,
+        further,
+        transport,
+    }
+}
+
+// Goes through the objects of a command whose type has this row; the value of the first, which is 01, starts at first.
+fn go_through(s: &[u8], row: Row, first: usize) -> Sorted
+    requires { ⌜ (length (now s) ≤ 256) × Headed (now s) first × RowFor row (theDetails (now s)) ⌝ }
+    ensures { λ r. ⌜ Sorts r (now (s .entry)) row ⌝ }
+{
+    let mut slots = [Met {
+        count: 0,
+        start: 0,
+        len: 0,
+    }; 15];
+    slots[0] = Met {
+        count: 1,
+        start: first as u16,
+        len: 3,
+    };
     let mut survey = Survey {
         flagged: false,
         ignored: false,
         misfit: false,
     };
-    let mut devices = Where::Nowhere;
-    let mut own = Where::Nowhere;
-    let mut c = second;
+    let mut c = Cursor { at: first + 3 };
     loop {
         let at = c.at;
         if s.len() <= at {
-            break Sorted {
-                survey,
-                whole: true,
-                devices,
-                own,
-            };
+            break gather(slots, row, survey, true);
         }
         match c.object(s) {
-            Found::Object(tag, start, len, next) => {
-                let number = tag % 128;
-                let k = number as usize;
-                let seen = counts[k];
-                counts[k] = seen + 1;
-                let counted = seen < times(handler, number);
-                survey = survey.note(counted, fits(number, s, start, len), 127 < tag);
-                devices = first(devices, number == 0x02, start, len);
-                own = first(own, number == needed, start, len);
+            Found::Object(number, flag, start, len, next) => {
+                let k = slot(number);
+                let met = slots[k];
+                slots[k] = met.again(start as u16, len as u16);
+                let counts = met.count < times(row, number);
+                survey = survey.note(counts, fits(number, s, start, len), flag);
                 c = next;
             }
-            Found::Fault(_) => {
-                break Sorted {
-                    survey,
-                    whole: false,
-                    devices,
-                    own,
-                }
-            }
+            Found::Fault(_) => break gather(slots, row, survey, false),
         }
     }
 }
@@ -335,13 +482,7 @@ pub fn frame_start(s: &[u8]) -> Framed
     }
 }
 
-// Where a value stands, and how long it is.
-pub struct Span {
-    pub at: usize,
-    pub len: usize,
-}
-
-// What is asked: the details, the handler, where it goes, whether an object was ignored, and the places of the type's own value and of OPEN's size.
+// What is asked: the details, the handler, where it goes, whether an object was ignored, where the type's own value stands, and the size and the protocol of OPEN CHANNEL.
 pub struct Request {
     pub details: Details,
     pub handler: Handler,
@@ -349,7 +490,8 @@ pub struct Request {
     pub ignored: bool,
     pub start: usize,
     pub len: usize,
-    pub last: usize,
+    pub size: u16,
+    pub protocol: u8,
 }
 
 // The reading of a command's objects: an error with its details, or what is asked.
@@ -358,39 +500,28 @@ pub enum Read {
     Asked(Request),
 }
 
-// The object that a type requires besides 01 and 02; 02 again where there is none.
-fn value_number(handler: Handler) -> u8
-    ensures { λ r. ⌜ r ≡ ownNumber handler ⌝ }
+// Whether every required object is there; 01 is, since it came first.
+fn complete(v: Sorted) -> bool
+    ensures { λ r. ⌜ r ≡ completeBy v ⌝ }
 {
-    match handler {
-        Handler::MoreTime => 0x02,
-        Handler::EventList => 0x19,
-        Handler::Open => 0x35,
-        Handler::Close => 0x02,
-        Handler::Receive => 0x37,
-        Handler::Send => 0x36,
-        Handler::Status => 0x02,
+    let devices = v.devices;
+    let own = v.own;
+    let further = v.further;
+    if devices.count == 0 {
+        return false;
     }
-}
-
-// The further object that a type requires; 02 again where there is none.
-fn last_number(handler: Handler) -> u8
-    ensures { λ r. ⌜ r ≡ lastNumber handler ⌝ }
-{
-    match handler {
-        Handler::MoreTime => 0x02,
-        Handler::EventList => 0x02,
-        Handler::Open => 0x39,
-        Handler::Close => 0x02,
-        Handler::Receive => 0x02,
-        Handler::Send => 0x02,
-        Handler::Status => 0x02,
+    if own.count == 0 {
+        return false;
     }
+    if further.count == 0 {
+        return false;
+    }
+    true
 }
 
 // Whether a device is a channel, 21 to 27.
 fn is_channel(to: u8) -> bool
-    ensures { λ r. ⌜ r ≡ leb 33 to && leb to 39 ⌝ }
+    ensures { λ r. ⌜ r ≡ leb 0x21 to && leb to 0x27 ⌝ }
 {
     if to < 0x21 {
         return false;
@@ -399,102 +530,104 @@ fn is_channel(to: u8) -> bool
 }
 
 // Step 8: from the card, to the modem or to a channel.
-fn devices_fit(handler: Handler, from: u8, to: u8) -> bool
-    ensures { λ r. ⌜ r ≡ addressedBy handler from to ⌝ }
+fn devices_fit(modem: bool, from: u8, to: u8) -> bool
+    ensures { λ r. ⌜ r ≡ addressedBy modem from to ⌝ }
 {
     if from != 0x81 {
         return false;
     }
-    match handler {
-        Handler::MoreTime => to == 0x82,
-        Handler::EventList => to == 0x82,
-        Handler::Open => to == 0x82,
-        Handler::Close => is_channel(to),
-        Handler::Receive => is_channel(to),
-        Handler::Send => is_channel(to),
-        Handler::Status => to == 0x82,
+    if modem {
+        return to == 0x82;
+    }
+    is_channel(to)
+}
+
+// Two bytes, high byte first.
+fn pair_at(s: &[u8], at: usize) -> u16
+    requires { ⌜ at + 2 ≤ length (now s) ⌝ }
+    ensures { λ r. ⌜ r ≡ 256 * getD (now (s .entry)) at 0 + getD (now (s .entry)) (at + 1) 0 ⌝ }
+{
+    256 * s[at] as u16 + s[at + 1] as u16
+}
+
+// What OPEN CHANNEL asks for: a size and a protocol.
+struct Terms {
+    size: u16,
+    protocol: u8,
+}
+
+// The terms of a command whose objects are all there and have their lengths; 0 and TCP where it is no OPEN CHANNEL.
+fn terms_of(s: &[u8], d: Details, plan: Plan, v: Sorted) -> Terms
+    requires { ⌜ Fitted (now s) d plan v ⌝ }
+    ensures { λ r. ⌜ OpensWith r (now (s .entry)) ⌝ }
+{
+    let row = plan.row;
+    if !row.opening {
+        return Terms {
+            size: 0,
+            protocol: TCP,
+        };
+    }
+    let further = v.further;
+    let size = pair_at(s, further.start as usize);
+    let transport = v.transport;
+    if transport.count == 0 {
+        return Terms {
+            size,
+            protocol: TCP,
+        };
+    }
+    let place = transport.start as usize;
+    Terms {
+        size,
+        protocol: s[place],
     }
 }
 
-// Steps 7 and 8 once the required objects are found: the lengths, the devices, and what is asked.
-fn settle(
-    s: &[u8],
-    d: Details,
-    handler: Handler,
-    v: Survey,
-    devices: Span,
-    own: Span,
-    last: Span,
-) -> Read
-    requires { ⌜ Settled (now s) d handler v devices own last ⌝ }
+// Step 8 once the objects are there and have their lengths, and what is asked.
+fn settle(s: &[u8], d: Details, plan: Plan, v: Sorted) -> Read
+    requires { ⌜ Fitted (now s) d plan v ⌝ }
     ensures { λ r. ⌜ ((p : List ℕ) → Typed p (now (s .entry)) → Reads r p (now (s .entry))) ⌝ }
 {
-    if v.misfit {
-        return Read::Wrong(d, 0x32);
-    }
-    let at = devices.at;
+    let devices = v.devices;
+    let at = devices.start as usize;
     let from = s[at];
     let to = s[at + 1];
-    if !devices_fit(handler, from, to) {
+    if !devices_fit(plan.modem, from, to) {
         return Read::Wrong(d, 0x32);
     }
+    let terms = terms_of(s, d, plan, v);
+    let handler = plan.handler;
+    let survey = v.survey;
+    let own = v.own;
     Read::Asked(Request {
         details: d,
         handler,
         destination: DeviceIdentity(to),
-        ignored: v.ignored,
-        start: own.at,
-        len: own.len,
-        last: last.at,
+        ignored: survey.ignored,
+        start: own.start as usize,
+        len: own.len as usize,
+        size: terms.size,
+        protocol: terms.protocol,
     })
 }
 
-// Steps 6 to 8 of a command whose type has this handler.
-fn read_known(s: &[u8], d: Details, handler: Handler, v: Sorted) -> Read
-    requires { ⌜ Begun (now s) d handler × Sorts v (now s) handler ⌝ }
+// Steps 6 to 8 of a command whose type has this plan.
+fn read_known(s: &[u8], d: Details, plan: Plan, v: Sorted) -> Read
+    requires { ⌜ Begun (now s) d plan v ⌝ }
     ensures { λ r. ⌜ ((p : List ℕ) → Typed p (now (s .entry)) → Reads r p (now (s .entry))) ⌝ }
 {
     let survey = v.survey;
     if survey.flagged {
         return Read::Wrong(d, 0x32);
     }
-    let devices = v.devices;
-    match devices {
-        Where::At(at, len) => read_own(s, d, handler, v, Span { at, len }),
-        Where::Nowhere => Read::Wrong(d, 0x36),
+    if !complete(v) {
+        return Read::Wrong(d, 0x36);
     }
-}
-
-// Where the further object of a type stands: the devices again, or an object to look for.
-fn find_further(s: &[u8], number: u8, devices: Span) -> Where
-    requires { ⌜ First (now s) 0x02 (devices .at) (devices .len) × (devices .at ≡ placeOf 0x02 (now s)) ⌝ }
-    ensures { λ r. ⌜ Finds r (now (s .entry)) number ⌝ }
-{
-    if number == 0x02 {
-        return Where::At(devices.at, devices.len);
+    if survey.misfit {
+        return Read::Wrong(d, 0x32);
     }
-    find(s, number)
-}
-
-// Steps 7 and 8 once the devices are found.
-fn read_own(s: &[u8], d: Details, handler: Handler, v: Sorted, devices: Span) -> Read
-    requires { ⌜ Named (now s) d handler v devices ⌝ }
-    ensures { λ r. ⌜ ((p : List ℕ) → Typed p (now (s .entry)) → Reads r p (now (s .entry))) ⌝ }
-{
-    let survey = v.survey;
-    let own = v.own;
-    match own {
-        Where::At(at, len) => {
-            let needed = Span { at, len };
-            match find_further(s, last_number(handler), devices) {
-                Where::At(at, len) => {
-                    settle(s, d, handler, survey, devices, needed, Span { at, len })
-                }
-                Where::Nowhere => Read::Wrong(d, 0x36),
-            }
-        }
-        Where::Nowhere => Read::Wrong(d, 0x36),
-    }
+    settle(s, d, plan, v)
 }
 
 // Steps 4 and 5 of a command whose type is not one of the seven.
@@ -512,38 +645,47 @@ fn read_unknown(s: &[u8], d: Details) -> Read
     }
 }
 
-// Steps 4 to 8 of a command whose type has this plan.
-fn read_planned(profile: &[u16], s: &[u8], d: Details, plan: Plan, second: Cursor) -> Read
-    requires { ⌜ Detailed (now s) d × PlanOf plan (d .kind) × Headed (now s) (second .at) × (13 ≤ length (now profile)) ⌝ }
+// Steps 4 to 8 of a command whose type has this plan; its first value starts at first.
+fn read_planned(profile: &[u16], s: &[u8], d: Details, plan: Plan, first: usize) -> Read
+    requires { ⌜ Detailed (now s) d × PlanOf plan d × Headed (now s) first × (profileSize ≤ length (now profile)) ⌝ }
     ensures { λ r. ⌜ Reads r (now (profile .entry)) (now (s .entry)) ⌝ }
 {
-    let handler = plan.handler;
-    let v = go_through(s, handler, second);
+    let v = go_through(s, plan.row, first);
     if !v.whole {
         return Read::Wrong(d, 0x32);
     }
-    let place = plan.place;
-    if !allowed(profile, place) {
+    if !allowed(profile, plan.place) {
         return Read::Wrong(d, 0x30);
     }
-    read_known(s, d, handler, v)
+    read_known(s, d, plan, v)
 }
 
-// Steps 4 to 8 once the details are known, and where the second object begins.
-fn read_typed(profile: &[u16], s: &[u8], d: Details, second: Cursor) -> Read
-    requires { ⌜ Detailed (now s) d × Headed (now s) (second .at) × (13 ≤ length (now profile)) ⌝ }
+// Steps 4 to 8 once the details are known; their value starts at first.
+fn read_typed(profile: &[u16], s: &[u8], d: Details, first: usize) -> Read
+    requires { ⌜ Detailed (now s) d × Headed (now s) first × (profileSize ≤ length (now profile)) ⌝ }
     ensures { λ r. ⌜ Reads r (now (profile .entry)) (now (s .entry)) ⌝ }
 {
-    let kind = d.kind;
-    match plan_of(kind) {
-        Planned::Of(plan) => read_planned(profile, s, d, plan, second),
+    match plan_of(d) {
+        Planned::Of(plan) => read_planned(profile, s, d, plan, first),
         Planned::Unknown => read_unknown(s, d),
+    }
+}
+
+// The details at a place.
+fn details_at(s: &[u8], at: usize) -> Details
+    requires { ⌜ at + 3 ≤ length (now s) ⌝ }
+    ensures { λ r. ⌜ r ≡ detailsAt (now (s .entry)) at ⌝ }
+{
+    Details {
+        number: s[at],
+        kind: s[at + 1],
+        qualifier: s[at + 2],
     }
 }
 
 // Reads the bytes of a command's objects: steps 3 to 8.
 pub fn read_objects(profile: &[u16], s: &[u8]) -> Read
-    requires { ⌜ (length (now s) ≤ 256) × (13 ≤ length (now profile)) ⌝ }
+    requires { ⌜ (length (now s) ≤ 256) × (profileSize ≤ length (now profile)) ⌝ }
     ensures { λ r. ⌜ Reads r (now (profile .entry)) (now (s .entry)) ⌝ }
 {
     let none = Details {
@@ -556,19 +698,14 @@ pub fn read_objects(profile: &[u16], s: &[u8]) -> Read
     }
     let c = Cursor { at: 0 };
     match c.object(s) {
-        Found::Object(tag, start, len, next) => {
-            if tag % 128 != 0x01 {
+        Found::Object(number, _, start, len, _) => {
+            if number != DETAILS {
                 return Read::Wrong(none, 0x36);
             }
             if len != 3 {
                 return Read::Wrong(none, 0x36);
             }
-            let d = Details {
-                number: s[start],
-                kind: s[start + 1],
-                qualifier: s[start + 2],
-            };
-            read_typed(profile, s, d, next)
+            read_typed(profile, s, details_at(s, start), start)
         }
         Found::Fault(_) => Read::Wrong(none, 0x32),
     }

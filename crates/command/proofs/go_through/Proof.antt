@@ -1,115 +1,86 @@
 -- `command::go_through` meets its contract: at every turn the objects before here are sorted.
 -- Assumes nothing.
-use Prim.Native.Nat.{ℕ, _-_, _%_}
-use mathlib.Core.Path.{subst, _∙_}
+use Prim.Native.Nat.{_-_}
 use native.Mathlib.Omega.{arith}
-use lib.ListN.{length, getD}
-use lib.Dec.{ltb, leb}
-use denote.Ref.{now}
-use Rattle.objects.specs.declared.Found.{Found}
-use Rattle.objects.specs.declared.Found.the-variants.{Object, Fault}
-use Rattle.objects.specs.Places.{Meets}
-use Rattle.command.specs.Surveys.{noted}
-use Rattle.command.proofs.Sifting.{count-small}
-use Rattle.command.proofs.Sorting.{Sorting, sorting-start, sorting-on, sorted-end, sorted-fault}
+use lib.ListN.{length}
 use borrow.Author.Needs.{needs}
+use Rattle.objects.proofs.Reading.{object-told, object-missed}
+use Rattle.objects.proofs.Walking.{nearer}
+use Rattle.command.proofs.Sorting.{Sorting, sorting-start, sorting-on, sorted-end, sorted-fault}
 use Rattle.command.proofs.go_through.Statement.{statement}
 use Rattle.command.proofs.go_through.Tie as tie
-use Rattle.command.proofs.go_through.Reads as reads
-use Rattle.command.proofs.go_through.Lts as lts
-use Rattle.command.proofs.Survey.note.Reads as note-reads
-use Rattle.command.proofs.first.Reads as first-reads
-use Rattle.command.proofs.fits.Reads as fits-reads
-use Rattle.command.proofs.times.Reads as times-reads
-use Rattle.command.proofs.value_number.Reads as value-number-reads
-use Rattle.objects.proofs.Cursor.object.Reads as object-reads
 
 abbrev Inv-loop : tie.InvT-loop
-Inv-loop s handler needed counts₀ survey₀ devices₀ own₀ c₀ counts survey devices own c = Sorting s handler needed counts survey devices own (c .at)
+Inv-loop s row first slots₀ survey₀ c₀ slots survey c = Sorting s slots survey (c .at)
 
 abbrev μ-loop : tie.MeasureT-loop
-μ-loop s handler needed counts₀ survey₀ devices₀ own₀ c₀ counts survey devices own c = length s - c .at
+μ-loop s row first slots₀ survey₀ c₀ slots survey c = length s - c .at
 
-value-number-requires : tie.Need-value-number-requires Inv-loop μ-loop
-value-number-requires c κs = tt
+cast-first : tie.Need-cast-t17 Inv-loop μ-loop
+cast-first c = omega (arith, c .before .pre .0, c .before .pre .1 .stands .within)
 
-array-write-counts : tie.Need-array-write-counts Inv-loop μ-loop
-array-write-counts c = search needs
+cast-start : tie.Need-cast-again Inv-loop μ-loop
+cast-start c =
+    let n : tie.After-number Inv-loop μ-loop = search in
+    let o : tie.After-object Inv-loop μ-loop = search in
+    let z : tie.Start Inv-loop μ-loop = search in
+    let st = object-told (n .number .given .1) (o .object .ensures) in
+    omega (arith, z .pre .0, st .ends, st .within)
 
-loop-holds : tie.Need-loop-holds Inv-loop μ-loop
-loop-holds c = sorting-start _ _ _ (c .before .before .pre .1) _ (c .value-number .ensures)
+cast-len : tie.Need-cast-again-2 Inv-loop μ-loop
+cast-len c =
+    let n : tie.After-number Inv-loop μ-loop = search in
+    let o : tie.After-object Inv-loop μ-loop = search in
+    let z : tie.Start Inv-loop μ-loop = search in
+    let st = object-told (n .number .given .1) (o .object .ensures) in
+    omega (arith, z .pre .0, st .ends, st .within)
 
-object-requires : tie.Need-object-requires Inv-loop μ-loop
-object-requires c κs = tt
-
-enum-known-tag : tie.Need-enum-known-tag Inv-loop μ-loop
-enum-known-tag c = search needs
-
-cast-k : tie.Need-cast-k Inv-loop μ-loop
-cast-k c = omega arith
-
-array-read-seen : tie.Need-array-read-seen Inv-loop μ-loop
-array-read-seen c = omega arith
-
-add-counts : tie.Need-add-counts Inv-loop μ-loop
-add-counts c =
-    let w = c .before .before .before .before .before .loop .inv .noted in
-    let t = c .before .tag .given .0 .0 in
-    omega (arith, count-small _ _ _ _ _ (t % 128) w (omega arith), w .within, c .before .before .before .before .before .before .before .before .pre .0)
-
-array-write-counts-2 : tie.Need-array-write-counts-2 Inv-loop μ-loop
-array-write-counts-2 c = omega arith
-
-times-requires : tie.Need-times-requires Inv-loop μ-loop
-times-requires c κs = tt
+again-requires : tie.Need-again-requires Inv-loop μ-loop
+again-requires c κs =
+    let k : tie.After-slot Inv-loop μ-loop = search in
+    let l : tie.At-loop Inv-loop μ-loop = search in
+    let z : tie.Start Inv-loop μ-loop = search in
+    omega (arith, z .pre .0, l .loop .inv .few (k .slot .result) (k .slot .ensures .1), l .loop .inv .ends .within)
 
 fits-requires : tie.Need-fits-requires Inv-loop μ-loop
 fits-requires c κs =
-    let s = now (c .before .before .before .before .before .before .before .before .before .args .s) in
-    let at = c .before .before .before .before .before .before .loop .c .at in
-    let m : Meets (Object _ _ _ _) s at = subst (λ (r : Found). Meets r s at) (c .before .before .tag .given .1) (c .before .before .before .before .object .ensures) in
-    omega (arith, m .ends, m .within)
-
-note-requires : tie.Need-note-requires Inv-loop μ-loop
-note-requires c κs = tt
-
-first-requires : tie.Need-first-requires Inv-loop μ-loop
-first-requires c κs = tt
-
-first-requires-2 : tie.Need-first-requires-2 Inv-loop μ-loop
-first-requires-2 c κs = tt
+    let n : tie.After-number Inv-loop μ-loop = search in
+    let o : tie.After-object Inv-loop μ-loop = search in
+    let st = object-told (n .number .given .1) (o .object .ensures) in
+    omega (arith, st .ends, st .within)
 
 loop-less : tie.Need-loop-less Inv-loop μ-loop
 loop-less c =
-    let s = now (c .before .before .before .before .before .before .before .before .before .before .before .before .before .args .s) in
-    let at = c .before .before .before .before .before .before .before .before .before .before .loop .c .at in
-    let m : Meets (Object _ _ _ _) s at = subst (λ (r : Found). Meets r s at) (c .before .before .before .before .before .before .tag .given .1) (c .before .before .before .before .before .before .before .before .object .ensures) in
-    omega (arith, m .ends, m .behind, m .within, c .before .before .before .before .before .before .before .before .before .before .loop .inv .noted .within)
+    let n : tie.After-number Inv-loop μ-loop = search in
+    let o : tie.After-object Inv-loop μ-loop = search in
+    nearer (object-told (n .number .given .1) (o .object .ensures))
 
 loop-again : tie.Need-loop-again Inv-loop μ-loop
 loop-again c =
-    let s = now (c .before .before .before .before .before .before .before .before .before .before .before .before .before .args .s) in
-    let l = c .before .before .before .before .before .before .before .before .before .before .loop in
-    let at = l .c .at in
-    let m : Meets (Object _ _ _ _) s at = subst (λ (r : Found). Meets r s at) (c .before .before .before .before .before .before .tag .given .1) (c .before .before .before .before .before .before .before .before .object .ensures) in
-    let t = c .before .before .before .before .before .before .tag .given .0 .0 in
-    let a = c .before .before .before .before .times .ensures in
-    let b = c .before .before .before .fits2 .ensures in
-    let e = c .before .before .note .ensures ∙ (λ i. noted (l .survey) (ltb (getD (l .counts) (t % 128) 0) (a i)) (b i) (leb 128 t)) in
-    sorting-on s _ _ _ _ _ _ at (l .inv) t _ _ _ m _ e _ _ (c .before .first .ensures) (c .first2 .ensures)
+    let f : tie.After-fits2 Inv-loop μ-loop = search in
+    let t : tie.After-times Inv-loop μ-loop = search in
+    let a : tie.After-again Inv-loop μ-loop = search in
+    let k : tie.After-slot Inv-loop μ-loop = search in
+    let n : tie.After-number Inv-loop μ-loop = search in
+    let o : tie.After-object Inv-loop μ-loop = search in
+    let l : tie.At-loop Inv-loop μ-loop = search in
+    let z : tie.Start Inv-loop μ-loop = search in
+    sorting-on (l .loop .inv) (object-told (n .number .given .1) (o .object .ensures)) (z .pre .2) _ _ _ _ _ (k .slot .ensures .0) (a .again .ensures)
+    (t .times .ensures) (f .fits2 .ensures) (c .note .ensures)
 
-enum-told : tie.Need-enum-told Inv-loop μ-loop
-enum-told c = search needs
+ended : tie.Need-returns Inv-loop μ-loop
+ended c =
+    let l : tie.At-loop Inv-loop μ-loop = search in
+    let z : tie.Start Inv-loop μ-loop = search in
+    sorted-end (l .loop .inv) (z .pre .2) (c .gather .ensures) (c .before .if1 .taken)
 
-returns : tie.Need-returns Inv-loop μ-loop
-returns c = sorted-end _ _ _ _ _ _ _ _ (c .before .loop .inv) (c .if1 .taken)
-
-returns-2 : tie.Need-returns-2 Inv-loop μ-loop
-returns-2 c =
-    let s = now (c .before .before .before .before .before .before .before .args .s) in
-    let at = c .before .before .before .before .loop .c .at in
-    let m : Meets (Fault _) s at = subst (λ (r : Found). Meets r s at) (c .enum-told .given .1) (c .before .before .object .ensures) in
-    sorted-fault _ _ _ _ _ _ _ _ (c .before .before .before .before .loop .inv) _ (c .before .before .before .if1 .left) m
+stopped : tie.Need-returns-2 Inv-loop μ-loop
+stopped c =
+    let o : tie.After-object Inv-loop μ-loop = search in
+    let e : tie.Else1 Inv-loop μ-loop = search in
+    let l : tie.At-loop Inv-loop μ-loop = search in
+    let z : tie.Start Inv-loop μ-loop = search in
+    sorted-fault (l .loop .inv) (z .pre .2) (c .gather2 .ensures) _ (e .if1 .left) (object-missed _ _ (c .before .enum-told .given .1) (o .object .ensures))
 
 pub go-through-spec : {M : Type 1} → statement M
 go-through-spec =
@@ -117,22 +88,27 @@ go-through-spec =
     (tie.spec
     Inv-loop
     μ-loop
-    value-number-requires
-    array-write-counts
-    loop-holds
-    object-requires
-    enum-known-tag
-    cast-k
-    array-read-seen
-    add-counts
-    array-write-counts-2
-    times-requires
+    cast-first
+    (λ c. search needs)
+    (λ c. search needs)
+    (λ c. sorting-start (c .before .pre .1) (c .before .pre .2))
+    (λ c κs. tt)
+    (λ c κs. tt)
+    (λ c. search needs)
+    (λ c κs. tt)
+    (λ c. search needs)
+    (λ c. search needs)
+    cast-start
+    cast-len
+    again-requires
+    (λ c. search needs)
+    (λ c. search needs)
+    (λ c κs. tt)
     fits-requires
-    note-requires
-    first-requires
-    first-requires-2
+    (λ c κs. tt)
     loop-less
     loop-again
-    enum-told
-    returns
-    returns-2)
+    (λ c. search needs)
+    (λ c κs. tt)
+    ended
+    stopped)

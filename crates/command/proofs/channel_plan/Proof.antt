@@ -1,0 +1,32 @@
+-- `command::channel_plan` meets its contract: the plan of each type, tried against the rules.
+-- Assumes nothing.
+use mathlib.Core.Path.{_≡_, refl}
+use borrow.Author.Needs.{needs}
+use Rattle.rules.specs.Checks.{_⇒_else_, every, some-of, member}
+use Rattle.rules.specs.Table.{table, rowAmong, times, known}
+use Rattle.rules.specs.Reading.{toModem}
+use Rattle.command.specs.Plans.{timesBy, PlaceFor}
+use Rattle.command.specs.Surveys.{slotted}
+use Rattle.command.proofs.Keys.{behind}
+use Rattle.command.proofs.Tables.{rightly, plan-right, channel-place}
+use Rattle.command.proofs.channel_plan.Statement.{statement}
+use Rattle.command.proofs.channel_plan.Tie as tie
+
+place : (c : tie.After-channel-place) → PlaceFor (c .channel-place .result) (c .before .args .d)
+place c = channel-place _ _ (c .before .pre .0) (c .before .pre .1) (c .channel-place .ensures .0) (c .channel-place .ensures .1)
+
+-- what is none of 40 to 43 is 44
+last : (c : tie.At-match-rest) → c .before .before .args .d .kind ≡ 0x44
+last c = behind _ 0x40 4 (c .before .before .pre .0) (c .before .before .pre .1) (c .match .rest)
+
+pub channel-plan-spec : {M : Type 1} → statement M
+unfolding rightly known table rowAmong times timesBy slotted every member some-of toModem _⇒_else_
+channel-plan-spec =
+    tie.close
+    (tie.spec
+    (λ c κs. search needs)
+    (λ c. plan-right _ _ _ (c .match .keys1) (place (c .before)) refl)
+    (λ c. plan-right _ _ _ (c .match .keys2) (place (c .before)) refl)
+    (λ c. plan-right _ _ _ (c .match .keys3) (place (c .before)) refl)
+    (λ c. plan-right _ _ _ (c .match .keys4) (place (c .before)) refl)
+    (λ c. plan-right _ _ _ (last c) (place (c .before)) refl))

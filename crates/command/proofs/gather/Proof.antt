@@ -1,0 +1,23 @@
+-- `command::gather` meets its contract: what was met in the slot of each number.
+-- Assumes nothing.
+use borrow.Author.Needs.{needs}
+use Rattle.command.proofs.gather.Statement.{statement}
+use Rattle.command.proofs.gather.Tie as tie
+
+pub gather-spec : {M : Type 1} → statement M
+gather-spec =
+    tie.close
+    (tie.spec
+    (λ c κs. search needs)
+    (λ c. search needs)
+    (λ c. search needs)
+    (λ c κs. search needs)
+    (λ c. search needs)
+    (λ c. search needs)
+    (λ c κs. search needs)
+    (λ c. search needs)
+    (λ c. search needs)
+    (λ c κs. search needs)
+    (λ c. search needs)
+    (λ c. search needs)
+    (λ c. cc))
