@@ -1,9 +1,9 @@
 -- A request that was read: what its handler's own checks come to is what the command comes to.
 -- Assumes nothing.
-use Prim.Native.Nat.{ℕ, _+_, _*_, _%_, _≤_}
+use Prim.Native.Nat.{ℕ, _+_, _≤_}
 use mathlib.Core.Path.{_≡_, refl, sym, ap, subst, _∙_}
 use mathlib.Core.Bool.{Bool, true, false, _&&_}
-use mathlib.Core.List.{List, []}
+use mathlib.Core.List.{List}
 use mathlib.Core.Option.{Option}
 use native.Mathlib.Omega.{arith}
 use lib.ListN.{length, getD}
@@ -11,152 +11,151 @@ use lib.Dec.{leb, eqb}
 use borrow.Author.Tests.{leb-true}
 use Rattle.rules.specs.declared.ChannelNumber.{ChannelNumber}
 use Rattle.rules.specs.declared.Details.{Details}
-use Rattle.rules.specs.declared.DeviceIdentity.{DeviceIdentity}
-use Rattle.rules.specs.Checks.{_⇒_else_, some-of, member}
+use Rattle.rules.specs.Checks.{_⇒_else_}
 use Rattle.rules.specs.Words.{channelOf}
+use Rattle.rules.specs.Profile.{profileSize}
 use Rattle.rules.specs.State.{State}
-use Rattle.rules.specs.Frames.{walk}
-use Rattle.rules.specs.Table.{rowOf, sift, bearerFits}
-use Rattle.rules.specs.Reading.{Reading, wrong, asked, Command, Transport, Body, moreTime, eventList, openChannel, closeChannel, receiveData, sendData, channelStatus, bearerIn, detailsOf, commandIn, toModem, addressed, readObjects}
-use Rattle.rules.specs.Own.{Reply, reply, error, done, nothing, statuses, statusesFrom, plain, own, listing, opening, closing, receiving, sending, isTcp}
+use Rattle.rules.specs.Table.{bearerFits}
+use Rattle.rules.specs.Reading.{Reading, wrong, Command, Transport, Body, moreTime, eventList, openChannel, closeChannel, receiveData, sendData, channelStatus, bearerIn, commandIn, toModem, addressed, readObjects}
+use Rattle.rules.specs.Own.{Reply, reply, error, done, nothing, statuses, statusesFrom, plain, own, protocolOf, listing, opening, closing, receiving, sending}
 use Rattle.rules.specs.Written.{responseBytes}
 use Rattle.rules.specs.Command.{Answer, answered, meantBy}
 use Rattle.rules.proofs.Laws.{skip, both-left, both-right}
 use Rattle.rules.proofs.Readings.{details-told}
+use Rattle.octets.specs.Parts.{part}
 use Rattle.session.specs.declared.Ended.{Ended}
-use Rattle.session.specs.Book.{Ledger}
+use Rattle.session.specs.declared.Ended.the-variants.{Wrote}
 use Rattle.session.specs.Picture.{GoodIn, shown}
-use Rattle.session.specs.Calls.{AnswersAt}
+use Rattle.session.specs.Calls.{Answers}
 use Rattle.session.specs.Changed.{Numbered}
 use Rattle.command.specs.declared.Handler.{Handler}
 use Rattle.command.specs.declared.Handler.the-variants.{MoreTime, EventList, Open, Close, Receive, Send, Status}
 use Rattle.command.specs.declared.Request.{Request}
 use Rattle.command.specs.Plans.{handlerKind}
 use Rattle.command.specs.Requests as requests
-use Rattle.command.specs.Requests.{AskedFor, BodyIs, TcpBy, theDetails, theCommand}
-use Rattle.responses.specs.Stands.{response}
+use Rattle.command.specs.Requests.{AskedFor, BodyIs, theDetails, theObjects, theCommand}
+use Rattle.responses.specs.Stands.{response, Stands}
+use Rattle.responses.proofs.Statuses.{statuses-shown}
+use Rattle.responses.specs.Stands.{statusesIn}
 use Rattle.own.specs.Replies.{told}
-use Rattle.modem.specs.Obeyed.{obeyed, NotEmpty}
-
--- an error of the reading is told with its details
-pub wrong-told : (l : Ledger) (p s : List ℕ) (d : Details) (e : ℕ) → readObjects (l .profile) s ≡ wrong d e → obeyed (shown l p) s ≡ told d (reply (shown l p) (error e))
-unfolding obeyed shown meantBy
-wrong-told l p s d e h =
-    ap (λ (r : Reading). answered (meantBy (shown l p) r .state) (responseBytes (meantBy (shown l p) r .response))) h
+use Rattle.own.proofs.Replies.{left-answers, plain-stands}
+use Rattle.modem.specs.Obeyed.{obeyed}
 
 -- an answer by what the command comes to
 pub as-obeyed :
-    (x y : Answer) (t p : List ℕ) (e : Ended) (before after : List ℕ) → x ≡ y → AnswersAt y t p e before after → AnswersAt x t p e before after
-as-obeyed x y t p e before after q w = subst (λ (z : Answer). AnswersAt z t p e before after) (sym q) w
+    (x y : Answer) (t p : List ℕ) (e : Ended) (before after : List ℕ) → x ≡ y → Answers y t p e before after → Answers x t p e before after
+as-obeyed x y t p e before after q w = subst (λ (z : Answer). Answers z t p e before after) (sym q) w
 
-module _ (l : Ledger) (p s : List ℕ) (q : Request) (h : AskedFor q (l .profile) s) where
+-- an error of the reading is told with its details
+pub wrong-answers :
+    (t p s : List ℕ) (d : Details) (e k : ℕ) (before after : List ℕ) → GoodIn t p → readObjects (part 0 profileSize t) s ≡ wrong d e →
+    Stands (response d (error e)) k before after → Answers (obeyed (shown t p) s) t p (Wrote k) before after
+unfolding obeyed shown meantBy
+wrong-answers t p s d e k before after g h w =
+    as-obeyed (obeyed (shown t p) s) (told d (reply (shown t p) (error e))) t p (Wrote k) before after
+    (ap (λ (r : Reading). answered (meantBy (shown t p) r .state) (responseBytes (meantBy (shown t p) r .response))) h)
+    (left-answers d (reply (shown t p) (error e)) (error e) t p k before after refl g w)
+
+module _ (t p s : List ℕ) (q : Request) (g : GoodIn t p) (h : AskedFor q (part 0 profileSize t) s) where
   abbrev a : State
-  a = shown l p
+  a = shown t p
 
   abbrev c : Command
   c = theCommand s
 
-  asked-told : (r : Reply) → own a c (c .body) (q .ignored) ≡ r → obeyed a s ≡ told (q .details) r
+  abbrev d : Details
+  d = q .details
+
+  asked-told : (r : Reply) → own a c (c .body) (q .ignored) ≡ r → obeyed a s ≡ told d r
   unfolding obeyed shown meantBy
   asked-told r e =
       ap (λ (x : Reading). answered (meantBy a x .state) (responseBytes (meantBy a x .response))) (h .is)
-      ∙ (λ i. told ((details-told (theDetails s) (sift (rowOf (theDetails s .kind)) [] (walk s .objects) .counting) ∙ h .details) i) (e i))
+      ∙ (λ i. told ((details-told (theDetails s) (theObjects s .counting) ∙ h .details) i) (e i))
 
   -- the body, in the arm of a handler
   body-is : (k : Handler) → q .handler ≡ k → BodyIs k q s (c .body)
   body-is k e = subst (λ (j : Handler). BodyIs j q s (c .body)) e (h .body)
 
-  as-body : (b : Body) (r : Reply) → c .body ≡ b → own a c b (q .ignored) ≡ r → obeyed a s ≡ told (q .details) r
-  as-body b r e f = asked-told r (ap (λ (x : Body). own a c x (q .ignored)) e ∙ f)
-
-  qualifier-is : c .qualifier ≡ q .details .qualifier
+  qualifier-is : c .qualifier ≡ d .qualifier
   unfolding commandIn
-  qualifier-is = ap (λ (d : Details). d .qualifier) (h .details)
+  qualifier-is = ap (λ (x : Details). x .qualifier) (h .details)
 
-  pub more-time-told : q .handler ≡ MoreTime → obeyed a s ≡ told (q .details) (reply a (done (plain (q .ignored)) nothing))
-  unfolding own
-  more-time-told e = as-body moreTime _ (body-is MoreTime e) refl
+  -- what the own checks come to, with the arrays and the buffer that they leave
+  module _ (u r : List ℕ) (k : ℕ) (before after : List ℕ) where
+    abbrev ends : Reply → Type 0
+    ends x = Answers (told d x) u r (Wrote k) before after
 
-  pub events-told : q .handler ≡ EventList → obeyed a s ≡ told (q .details) (listing a (requests.own q s) (q .ignored))
-  unfolding own
-  events-told e = as-body (eventList (requests.own q s)) _ (body-is EventList e) refl
+    abbrev obeys : Type 0
+    obeys = Answers (obeyed a s) u r (Wrote k) before after
 
-  pub status-told :
-      q .handler ≡ Status → obeyed a s ≡ told (q .details) (reply a (done (plain (q .ignored)) (statuses (statusesFrom 1 (a .chans)))))
-  unfolding own
-  status-told e = as-body channelStatus _ (body-is Status e) refl
+    as-body : (b : Body) (x : Reply) → c .body ≡ b → own a c b (q .ignored) ≡ x → ends x → obeys
+    as-body b x e f w = as-obeyed (obeyed a s) (told d x) u r (Wrote k) before after (asked-told x (ap (λ (y : Body). own a c y (q .ignored)) e ∙ f)) w
+
+    pub events-answers : q .handler ≡ EventList → ends (listing a (requests.own q s) (q .ignored)) → obeys
+    unfolding own
+    events-answers e = as-body (eventList (requests.own q s)) _ (body-is EventList e) refl
+
+    pub open-answers : q .handler ≡ Open → ends (opening a (d .qualifier) (bearerIn (requests.own q s)) (q .size) (q .protocol) (q .ignored)) → obeys
+    unfolding own
+    open-answers e =
+        let o = body-is Open e in
+        as-body (openChannel (bearerIn (requests.own q s)) (q .size) (o .0)) _ (o .1)
+        (λ i. opening a (qualifier-is i) (bearerIn (requests.own q s)) (q .size) (o .2 i) (q .ignored))
+
+    -- a command to the channel that its destination names
+    module _ (n : ChannelNumber) (v : n ≡ channelOf (q .destination)) where
+      number-is : channelOf (c .destination) ≡ n
+      number-is = ap channelOf (h .destination) ∙ sym v
+
+      pub close-answers : q .handler ≡ Close → ends (closing a n (q .ignored)) → obeys
+      unfolding own
+      close-answers e = as-body closeChannel _ (body-is Close e) (ap (λ (m : ChannelNumber). closing a m (q .ignored)) number-is)
+
+      pub receive-answers : q .handler ≡ Receive → ends (receiving a n (getD s (q .start) 0) (q .ignored)) → obeys
+      unfolding own
+      receive-answers e =
+          as-body (receiveData (getD s (q .start) 0)) _ (body-is Receive e .0)
+          (ap (λ (m : ChannelNumber). receiving a m (getD s (q .start) 0) (q .ignored)) number-is)
+
+      pub send-answers : q .handler ≡ Send → ends (sending a (d .qualifier) n (requests.own q s) (q .ignored)) → obeys
+      unfolding own
+      send-answers e =
+          as-body (sendData (requests.own q s)) _ (body-is Send e) (λ i. sending a (qualifier-is i) (number-is i) (requests.own q s) (q .ignored))
+
+  -- what changes nothing: the session stays
+  module _ (x k : ℕ) (before after : List ℕ) (m : x ≡ plain (q .ignored)) where
+    pub more-time-answers : q .handler ≡ MoreTime → Stands (response d (error x)) k before after → Answers (obeyed a s) t p (Wrote k) before after
+    unfolding own
+    more-time-answers e w =
+        as-body t p k before after moreTime _ (body-is MoreTime e) refl
+        (left-answers d _ (done (plain (q .ignored)) nothing) t p k before after refl g (plain-stands d x (q .ignored) k before after m w))
+
+    pub status-answers : q .handler ≡ Status → Stands (response d (done x (statuses (statusesIn t 0 7)))) k before after → Answers (obeyed a s) t p (Wrote k) before after
+    unfolding own
+    status-answers e w =
+        as-body t p k before after channelStatus _ (body-is Status e) refl
+        (left-answers d _ (done (plain (q .ignored)) (statuses (statusesFrom 1 (a .chans)))) t p k before after refl g
+        (subst (λ (y : List ℕ). Stands y k before after) (λ i. response d (done (m i) (statuses (statuses-shown t p g i)))) w))
 
   pub one-byte : q .handler ≡ Receive → q .start + 1 ≤ length s
   one-byte e = omega (arith, h .within, body-is Receive e .1)
 
-  -- a command to the channel that its destination names
-  module _ (n : ChannelNumber) (v : n ≡ channelOf (q .destination)) where
-    number-is : channelOf (c .destination) ≡ n
-    number-is = ap channelOf (h .destination) ∙ sym v
+  pub bearer-ok : q .handler ≡ Open → bearerFits (requests.own q s) ≡ true
+  bearer-ok e = body-is Open e .3
 
-    pub close-told : q .handler ≡ Close → obeyed a s ≡ told (q .details) (closing a n (q .ignored))
-    unfolding own
-    close-told e = as-body closeChannel _ (body-is Close e) (ap (λ (m : ChannelNumber). closing a m (q .ignored)) number-is)
-
-    pub receive-told : q .handler ≡ Receive → obeyed a s ≡ told (q .details) (receiving a n (getD s (q .start) 0) (q .ignored))
-    unfolding own
-    receive-told e =
-        as-body (receiveData (getD s (q .start) 0)) _ (body-is Receive e .0)
-        (ap (λ (m : ChannelNumber). receiving a m (getD s (q .start) 0) (q .ignored)) number-is)
-
-    pub send-told :
-        q .handler ≡ Send → obeyed a s ≡ told (q .details) (sending a (q .details .qualifier) n (requests.own q s) (q .ignored))
-    unfolding own
-    send-told e =
-        as-body (sendData (requests.own q s)) _ (body-is Send e) (λ i. sending a (qualifier-is i) (number-is i) (requests.own q s) (q .ignored))
-
-    -- a command to a channel has one of the seven numbers
-    pub numbered : (k : Handler) → q .handler ≡ k → toModem (handlerKind k) ≡ false → GoodIn l p → Numbered l p n
-    unfolding addressed
-    numbered k e f g =
-        let kind : theDetails s .kind ≡ handlerKind k = ap (λ (d : Details). d .kind) (h .details) ∙ h .kind ∙ ap handlerKind e in
-        let to : addressed (handlerKind k) (c .source) (q .destination) ≡ true =
-        sym (λ i. addressed (kind i) (c .source) (h .destination i)) ∙ h .devices in
-        let from : Bool = leb 0x21 (q .destination .0) in
-        let upto : Bool = leb (q .destination .0) 0x27 in
-        let modem : Bool = eqb (q .destination .0) 0x82 in
-        let within = sym (skip (toModem (handlerKind k)) modem (from && upto) f) ∙
-        both-right (eqb (c .source .0) 0x81) (toModem (handlerKind k) ⇒ modem else from && upto) to in
-        let low = leb-true 0x21 (q .destination .0) (both-left from upto within) in
-        let high = leb-true (q .destination .0) 0x27 (both-right from upto within) in
-        let z = ap (λ (m : ChannelNumber). m .0) v in
-        record { good = g; low = omega (arith, low, high, z); high = omega (arith, low, high, z) }
-
-  -- OPEN CHANNEL
-  module _ (e : q .handler ≡ Open) where
-    level : Option Transport
-    level = body-is Open e .0
-
-    pub bearer-ok : bearerFits (requests.own q s) ≡ true
-    bearer-ok = body-is Open e .2
-
-    pub size-within : q .last + 2 ≤ length s
-    size-within = body-is Open e .3
-
-    by-tcp : TcpBy s level
-    unfolding level
-    by-tcp = body-is Open e .4
-
-    pub level-there : NotEmpty 0x3C s
-    level-there at n f = by-tcp .stands at n f .1
-
-    abbrev opened : ℕ → Option Transport → Answer
-    opened size t = told (q .details) (opening a (q .details .qualifier) (bearerIn (requests.own q s)) size t (q .ignored))
-
-    open-told : obeyed a s ≡ opened (256 * getD s (q .last) 0 + getD s (q .last + 1) 0) level
-    unfolding own level
-    open-told =
-        as-body (openChannel (bearerIn (requests.own q s)) (256 * getD s (q .last) 0 + getD s (q .last + 1) 0) level) _ (body-is Open e .1)
-        (ap (λ (x : ℕ). opening a x (bearerIn (requests.own q s)) (256 * getD s (q .last) 0 + getD s (q .last + 1) 0) level (q .ignored)) qualifier-is)
-
-    pub open-answers :
-        (size : ℕ) (tcp : Bool) (m r : List ℕ) (w : Ended) (before after : List ℕ) →
-        size ≡ 256 * getD s (q .last) 0 + getD s (q .last + 1) 0 → ((t : Option Transport) → TcpBy s t → isTcp t ≡ tcp) →
-        ((t : Option Transport) → isTcp t ≡ tcp → AnswersAt (opened size t) m r w before after) → AnswersAt (obeyed a s) m r w before after
-    open-answers size tcp m r w before after z y t =
-        as-obeyed (obeyed a s) (opened size level) m r w before after (open-told ∙ ap (λ (k : ℕ). opened k level) (sym z)) (t level (y level by-tcp))
+  -- a command to a channel has one of the seven numbers
+  pub numbered : (n : ChannelNumber) (k : Handler) → n ≡ channelOf (q .destination) → q .handler ≡ k → toModem (handlerKind k) ≡ false → Numbered t p n
+  unfolding addressed
+  numbered n k v e f =
+      let kind : theDetails s .kind ≡ handlerKind k = ap (λ (x : Details). x .kind) (h .details) ∙ h .kind ∙ ap handlerKind e in
+      let to : addressed (handlerKind k) (c .source) (q .destination) ≡ true =
+      sym (λ i. addressed (kind i) (c .source) (h .destination i)) ∙ h .devices in
+      let from : Bool = leb 0x21 (q .destination .0) in
+      let upto : Bool = leb (q .destination .0) 0x27 in
+      let modem : Bool = eqb (q .destination .0) 0x82 in
+      let within = sym (skip (toModem (handlerKind k)) modem (from && upto) f) ∙
+      both-right (eqb (c .source .0) 0x81) (toModem (handlerKind k) ⇒ modem else from && upto) to in
+      let low = leb-true 0x21 (q .destination .0) (both-left from upto within) in
+      let high = leb-true (q .destination .0) 0x27 (both-right from upto within) in
+      let z = ap (λ (m : ChannelNumber). m .0) v in
+      record { good = g; low = omega (arith, low, high, z); high = omega (arith, low, high, z) }

@@ -1,10 +1,9 @@
 -- What the objects of a command come to.
-use Prim.Native.Nat.{ℕ, _≤_}
+use Prim.Native.Nat.{ℕ}
 use mathlib.Core.List.{List}
 use Rattle.rules.specs.State.{State}
 use Rattle.rules.specs.Reading.{readObjects}
 use Rattle.rules.specs.Written.{responseBytes}
-use Rattle.objects.specs.Places.{First}
 use Rattle.rules.specs.Command.{Answer, answered, meantBy}
 
 -- the state after the command, and the bytes of its response
@@ -12,7 +11,3 @@ unfoldable pub obeyed : State → List ℕ → Answer
 obeyed a s =
     let m = meantBy a (readObjects (a .profile) s) in
     answered (m .state) (responseBytes (m .response))
-
--- an object of a number, where it stands, is not empty
-abbrev pub NotEmpty : ℕ → List ℕ → Type 0
-NotEmpty number s = (at n : ℕ) → First s number at n → 1 ≤ n

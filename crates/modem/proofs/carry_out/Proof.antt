@@ -2,191 +2,154 @@
 -- Assumes nothing.
 use mathlib.Core.Path.{refl}
 use native.Mathlib.Omega.{arith}
-use denote.Ref.{now}
 use Rattle.rules.specs.Checks.{some-of, member}
 use Rattle.rules.specs.Reading.{toModem}
 use Rattle.command.specs.declared.Handler.the-variants.{Close, Receive, Send}
-use Rattle.modem.proofs.Obeying.{as-obeyed, more-time-told, events-told, close-told, receive-told, send-told, status-told, one-byte, numbered}
-use Rattle.session.specs.Book.{ledgerIn}
-use Rattle.session.specs.Picture.{shown}
-use Rattle.session.proofs.Numbers.{kept-size}
-use Rattle.own.proofs.Replies.{left-at, plain-stands, statuses-stand}
+use Rattle.session.proofs.Facts.{good-table}
+use Rattle.modem.proofs.Obeying.{events-answers, open-answers, close-answers, receive-answers, send-answers, more-time-answers, status-answers, one-byte, bearer-ok, numbered}
 use borrow.Author.Needs.{needs}
 use Rattle.modem.proofs.carry_out.Statement.{statement}
 use Rattle.modem.proofs.carry_out.Tie as tie
-use Rattle.modem.proofs.carry_out.Reads as reads
-use Rattle.modem.proofs.carry_out.Lts as lts
-use Rattle.modem.proofs.open_asked.Reads as open-asked-reads
-use Rattle.own.proofs.close.Reads as close-reads
-use Rattle.own.proofs.list_events.Reads as list-events-reads
-use Rattle.own.proofs.plain.Reads as plain-reads
-use Rattle.own.proofs.receive.Reads as receive-reads
-use Rattle.own.proofs.send.Reads as send-reads
-use Rattle.responses.proofs.tell_result.Reads as tell-result-reads
-use Rattle.responses.proofs.tell_statuses.Reads as tell-statuses-reads
-use Rattle.rules.proofs.DeviceIdentity.channel.Reads as channel-reads
 
-add-end : tie.Need-add-end
-add-end c = search needs
-
-channel-requires : tie.Need-channel-requires
-channel-requires c κs = search needs
-
-enum-told : tie.Need-enum-told
-enum-told c = search needs
-
-plain-requires : tie.Need-plain-requires
-plain-requires c κs = search needs
-
-tell-result-requires : tie.Need-tell-result-requires
-tell-result-requires c κs = search needs
-
-enum-told-2 : tie.Need-enum-told-2
-enum-told-2 c = search needs
-
-sub-list-events : tie.Need-sub-list-events
-sub-list-events c = search needs
-
-part-list-events-start : tie.Need-part-list-events-start
-part-list-events-start c = search needs
-
-part-list-events-end : tie.Need-part-list-events-end
-part-list-events-end c = search needs
-
-list-events-requires : tie.Need-list-events-requires
-list-events-requires c κs = search needs
-
-enum-told-3 : tie.Need-enum-told-3
-enum-told-3 c = search needs
-
-open-asked-requires : tie.Need-open-asked-requires
-open-asked-requires c κs = search needs
-
-enum-told-4 : tie.Need-enum-told-4
-enum-told-4 c = search needs
+open-requires : tie.Need-open-requires
+open-requires c κs =
+    let e : tie.After-enum-told3 = search in
+    let s : tie.Start = search in
+    (s .pre .0, s .pre .2, bearer-ok _ _ _ (s .args .q) (s .pre .0) (s .pre .1) (e .enum-told3 .given .1))
 
 close-requires : tie.Need-close-requires
 unfolding toModem member some-of
-close-requires c κs = (record { numbered = numbered _ _ _ _ (c .before .before .before .before .before .before .before .before .before .before .before .pre .1 .0) _ (c .before .before .before .before .before .channel .ensures) Close (c .before .before .before .enum-told4 .given .1) refl (c .before .before .before .before .before .before .before .before .before .before .before .pre .0 .good); kept = c .before .before .before .before .before .before .before .before .before .before .before .pre .0 .kept }, c .before .before .before .before .before .before .before .before .before .before .before .pre .1 .1)
-
-enum-told-5 : tie.Need-enum-told-5
-enum-told-5 c = search needs
+close-requires c κs =
+    let e : tie.After-enum-told4 = search in
+    let n : tie.After-channel = search in
+    let s : tie.Start = search in
+    (numbered _ _ _ (s .args .q) (s .pre .0) (s .pre .1) _ Close (n .channel .ensures) (e .enum-told4 .given .1) refl, s .pre .2)
 
 shared-slice-read-receive : tie.Need-shared-slice-read-receive
-shared-slice-read-receive c = omega (arith, one-byte (ledgerIn (now (c .before .before .before .before .before .before .before .before .before .before .before .args .ledger))) (now (c .before .before .before .before .before .before .before .before .before .before .before .args .pool)) (now (c .before .before .before .before .before .before .before .before .before .before .before .args .s)) (c .before .before .before .before .before .before .before .before .before .before .before .args .q) (c .before .before .before .before .before .before .before .before .before .before .before .pre .1 .0) (c .before .before .before .enum-told5 .given .1))
+shared-slice-read-receive c =
+    let e : tie.After-enum-told5 = search in
+    let s : tie.Start = search in
+    let l = one-byte _ _ _ (s .args .q) (s .pre .0) (s .pre .1) (e .enum-told5 .given .1) in
+    omega arith
 
 receive-requires : tie.Need-receive-requires
 unfolding toModem member some-of
-receive-requires c κs = (record { numbered = numbered _ _ _ _ (c .before .before .before .before .before .before .before .before .before .before .before .before .pre .1 .0) _ (c .before .before .before .before .before .before .channel .ensures) Receive (c .before .before .before .before .enum-told5 .given .1) refl (c .before .before .before .before .before .before .before .before .before .before .before .before .pre .0 .good); kept = c .before .before .before .before .before .before .before .before .before .before .before .before .pre .0 .kept }, c .before .before .before .before .before .before .before .before .before .before .before .before .pre .1 .1)
-
-enum-told-6 : tie.Need-enum-told-6
-enum-told-6 c = search needs
-
-sub-send : tie.Need-sub-send
-sub-send c = search needs
-
-part-send-start : tie.Need-part-send-start
-part-send-start c = search needs
-
-part-send-end : tie.Need-part-send-end
-part-send-end c = search needs
+receive-requires c κs =
+    let e : tie.After-enum-told5 = search in
+    let n : tie.After-channel = search in
+    let s : tie.Start = search in
+    (numbered _ _ _ (s .args .q) (s .pre .0) (s .pre .1) _ Receive (n .channel .ensures) (e .enum-told5 .given .1) refl, s .pre .2)
 
 send-requires : tie.Need-send-requires
 unfolding toModem member some-of
-send-requires c κs = (record { numbered = numbered _ _ _ _ (c .before .before .before .before .before .before .before .before .before .before .before .before .pre .1 .0) _ (c .before .before .before .before .before .before .channel .ensures) Send (c .before .before .before .before .enum-told6 .given .1) refl (c .before .before .before .before .before .before .before .before .before .before .before .before .pre .0 .good); kept = c .before .before .before .before .before .before .before .before .before .before .before .before .pre .0 .kept }, c .before .before .before .before .before .before .before .before .before .before .before .before .pre .1 .1)
-
-enum-told-7 : tie.Need-enum-told-7
-enum-told-7 c = search needs
-
-plain-requires-2 : tie.Need-plain-requires-2
-plain-requires-2 c κs = search needs
+send-requires c κs =
+    let e : tie.After-enum-told6 = search in
+    let n : tie.After-channel = search in
+    let s : tie.Start = search in
+    (numbered _ _ _ (s .args .q) (s .pre .0) (s .pre .1) _ Send (n .channel .ensures) (e .enum-told6 .given .1) refl, s .pre .2)
 
 tell-statuses-requires : tie.Need-tell-statuses-requires
-tell-statuses-requires c κs = (kept-size _ (c .before .before .before .before .before .before .before .before .before .before .before .pre .0 .kept), omega (arith, c .before .before .before .before .before .before .before .before .before .before .before .pre .1 .1))
-
-same-length : tie.Need-same-length
-same-length c = search needs
+tell-statuses-requires c κs =
+    let s : tie.Start = search in
+    (good-table _ _ (s .pre .0), omega (arith, s .pre .2))
 
 returns : tie.Need-returns
-returns c = as-obeyed _ _ _ _ _ _ _ (more-time-told _ _ _ _ (c .before .before .before .before .before .before .before .before .before .before .before .before .before .pre .1 .0) (c .before .before .before .before .before .enum-told .given .1)) (left-at _ _ _ _ _ _ _ _ refl (c .before .before .before .before .before .before .before .before .before .before .before .before .before .pre .0) (plain-stands _ _ _ _ _ _ (c .before .before .before .plain .ensures) (c .before .before .tell-result .ensures)))
-
-same-length-2 : tie.Need-same-length-2
-same-length-2 c = search needs
+returns c =
+    let r : tie.After-tell-result = search in
+    let m : tie.After-plain = search in
+    let e : tie.After-enum-told = search in
+    let s : tie.Start = search in
+    more-time-answers _ _ _ (s .args .q) (s .pre .0) (s .pre .1) _ _ _ _ (m .plain .ensures) (e .enum-told .given .1) (r .tell-result .ensures)
 
 returns-2 : tie.Need-returns-2
-returns-2 c = as-obeyed _ _ _ _ _ _ _ (events-told _ _ _ _ (c .before .before .before .before .before .before .before .before .before .before .before .before .before .before .pre .1 .0) (c .before .before .before .before .before .before .enum-told2 .given .1)) (c .before .before .list-events .ensures _ (c .before .before .before .before .before .before .before .before .before .before .before .before .before .before .pre .0))
-
-same-length-3 : tie.Need-same-length-3
-same-length-3 c = search needs
+returns-2 c =
+    let r : tie.After-list-events = search in
+    let e : tie.After-enum-told2 = search in
+    let s : tie.Start = search in
+    events-answers _ _ _ (s .args .q) (s .pre .0) (s .pre .1) _ _ _ _ _ (e .enum-told2 .given .1) (r .list-events .ensures)
 
 returns-3 : tie.Need-returns-3
-returns-3 c = search needs
-
-same-length-4 : tie.Need-same-length-4
-same-length-4 c = search needs
+returns-3 c =
+    let r : tie.After-open = search in
+    let e : tie.After-enum-told3 = search in
+    let s : tie.Start = search in
+    open-answers _ _ _ (s .args .q) (s .pre .0) (s .pre .1) _ _ _ _ _ (e .enum-told3 .given .1) (r .open .ensures)
 
 returns-4 : tie.Need-returns-4
-returns-4 c = as-obeyed _ _ _ _ _ _ _ (close-told _ _ _ _ (c .before .before .before .before .before .before .before .before .before .before .before .before .before .before .pre .1 .0) _ (c .before .before .before .before .before .before .before .before .channel .ensures) (c .before .before .before .before .before .before .enum-told4 .given .1)) (c .before .before .close .ensures)
-
-same-length-5 : tie.Need-same-length-5
-same-length-5 c = search needs
+returns-4 c =
+    let r : tie.After-close = search in
+    let e : tie.After-enum-told4 = search in
+    let n : tie.After-channel = search in
+    let s : tie.Start = search in
+    close-answers _ _ _ (s .args .q) (s .pre .0) (s .pre .1) _ _ _ _ _ _ (n .channel .ensures) (e .enum-told4 .given .1) (r .close .ensures)
 
 returns-5 : tie.Need-returns-5
-returns-5 c = as-obeyed _ _ _ _ _ _ _ (receive-told _ _ _ _ (c .before .before .before .before .before .before .before .before .before .before .before .before .before .before .before .pre .1 .0) _ (c .before .before .before .before .before .before .before .before .before .channel .ensures) (c .before .before .before .before .before .before .before .enum-told5 .given .1)) (c .before .before .receive .ensures)
-
-same-length-6 : tie.Need-same-length-6
-same-length-6 c = search needs
+returns-5 c =
+    let r : tie.After-receive = search in
+    let e : tie.After-enum-told5 = search in
+    let n : tie.After-channel = search in
+    let s : tie.Start = search in
+    receive-answers _ _ _ (s .args .q) (s .pre .0) (s .pre .1) _ _ _ _ _ _ (n .channel .ensures) (e .enum-told5 .given .1) (r .receive .ensures)
 
 returns-6 : tie.Need-returns-6
-returns-6 c = as-obeyed _ _ _ _ _ _ _ (send-told _ _ _ _ (c .before .before .before .before .before .before .before .before .before .before .before .before .before .before .before .pre .1 .0) _ (c .before .before .before .before .before .before .before .before .before .channel .ensures) (c .before .before .before .before .before .before .before .enum-told6 .given .1)) (c .before .before .send .ensures)
-
-same-length-7 : tie.Need-same-length-7
-same-length-7 c = search needs
+returns-6 c =
+    let r : tie.After-send = search in
+    let e : tie.After-enum-told6 = search in
+    let n : tie.After-channel = search in
+    let s : tie.Start = search in
+    send-answers _ _ _ (s .args .q) (s .pre .0) (s .pre .1) _ _ _ _ _ _ (n .channel .ensures) (e .enum-told6 .given .1) (r .send .ensures)
 
 returns-7 : tie.Need-returns-7
-unfolding shown
-returns-7 c = as-obeyed _ _ _ _ _ _ _ (status-told _ _ _ _ (c .before .before .before .before .before .before .before .before .before .before .before .before .before .before .pre .1 .0) (c .before .before .before .before .before .before .enum-told7 .given .1)) (left-at _ _ _ _ _ _ _ _ refl (c .before .before .before .before .before .before .before .before .before .before .before .before .before .before .pre .0) (statuses-stand _ _ _ _ _ _ _ (c .before .before .before .before .plain2 .ensures) (c .before .before .tell-statuses .ensures _)))
+returns-7 c =
+    let r : tie.After-tell-statuses = search in
+    let m : tie.After-plain2 = search in
+    let e : tie.After-enum-told7 = search in
+    let s : tie.Start = search in
+    status-answers _ _ _ (s .args .q) (s .pre .0) (s .pre .1) _ _ _ _ (m .plain2 .ensures) (e .enum-told7 .given .1) (r .tell-statuses .ensures)
 
 pub carry-out-spec : {M : Type 1} → statement M
 carry-out-spec =
     tie.close
     (tie.spec
-    add-end
-    channel-requires
-    enum-told
-    plain-requires
-    tell-result-requires
-    enum-told-2
-    sub-list-events
-    part-list-events-start
-    part-list-events-end
-    list-events-requires
-    enum-told-3
-    open-asked-requires
-    enum-told-4
+    (λ c. search needs)
+    (λ c κs. search needs)
+    (λ c. search needs)
+    (λ c κs. search needs)
+    (λ c κs. search needs)
+    (λ c. search needs)
+    (λ c. search needs)
+    (λ c. search needs)
+    (λ c. search needs)
+    (λ c κs. search needs)
+    (λ c. search needs)
+    (λ c. search needs)
+    (λ c. search needs)
+    (λ c. search needs)
+    open-requires
+    (λ c. search needs)
     close-requires
-    enum-told-5
+    (λ c. search needs)
     shared-slice-read-receive
     receive-requires
-    enum-told-6
-    sub-send
-    part-send-start
-    part-send-end
+    (λ c. search needs)
+    (λ c. search needs)
+    (λ c. search needs)
+    (λ c. search needs)
     send-requires
-    enum-told-7
-    plain-requires-2
+    (λ c. search needs)
+    (λ c κs. search needs)
     tell-statuses-requires
-    same-length
+    (λ c. search needs)
     returns
-    same-length-2
+    (λ c. search needs)
     returns-2
-    same-length-3
+    (λ c. search needs)
     returns-3
-    same-length-4
+    (λ c. search needs)
     returns-4
-    same-length-5
+    (λ c. search needs)
     returns-5
-    same-length-6
+    (λ c. search needs)
     returns-6
-    same-length-7
+    (λ c. search needs)
     returns-7)
