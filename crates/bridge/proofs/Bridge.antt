@@ -16,7 +16,6 @@ use Rattle.rules.proofs.Histories.{follows}
 use Rattle.rules.proofs.Soundness.{start-sound, step-sound}
 use Rattle.session.specs.declared.Session.{Session}
 use Rattle.session.specs.declared.Ended.{Ended}
-use Rattle.session.specs.Book.{Ledger, ledgerIn}
 use Rattle.session.specs.Picture.{Good, view}
 use Rattle.session.specs.Calls.{Answers, endedOf, writtenBy, overlaid}
 use Rattle.session.proofs.Views.{shows-back}
@@ -29,7 +28,7 @@ unfolding outcomeOf endedOf overlaid writtenBy
 front-seen (wrote s) before = ap wrote (take-append-seam s (drop (length s) before))
 front-seen (refused r) before = refl
 
-answer-seen : (x : Answer) (l : Ledger) (p : List ℕ) (e : Ended) (before after : List ℕ) → Answers x l p e before after → outcomeOf e after ≡ x .outcome
+answer-seen : (x : Answer) (l p : List ℕ) (e : Ended) (before after : List ℕ) → Answers x l p e before after → outcomeOf e after ≡ x .outcome
 answer-seen x l p e before after h = (λ i. outcomeOf (h .ended i) (h .lent i)) ∙ front-seen (x .outcome) before
 
 -- one call: the record after it is good, shows the state of the definitions, and what is seen is how it ended
@@ -39,18 +38,17 @@ record Stepped (s : Session) (c : Call) (t : Session) (o : Outcome) : Type 0 whe
   seen : o ≡ step (view s) c .outcome
 
 left-stepped : (s : Session) (c : Call) (buffer : ℕ) (t : Session) (o : Outcome) → Good s → Left (step (view s) c) buffer t o → Stepped s c t o
-unfolding view
 left-stepped s c buffer t o g h =
     record {
-      good = record { good = h .answers .answers .good; kept = h .answers .kept };
-      shows = shows-back (step (view s) c .state) (ledgerIn (t .ledger)) (t .pool) (step-sound (view s) c (g .good .sound)) (h .answers .answers .shows);
-      seen = h .seen ∙ answer-seen _ _ _ _ _ _ (h .answers .answers);
+      good = h .answers .good;
+      shows = shows-back (step (view s) c .state) (t .ledger) (t .pool) (step-sound (view s) c (g .sound)) (h .answers .shows);
+      seen = h .seen ∙ answer-seen _ _ _ _ _ _ (h .answers);
     }
 
 stepped : (s : Session) (c : Call) (t : Session) (o : Outcome) → Good s → Called s c t o → Stepped s c t o
-unfolding step view
+unfolding step
 stepped s (starting p) t o g h =
-    record { good = h .good; shows = shows-back (start p) (ledgerIn (t .ledger)) (t .pool) (start-sound p) (h .shows .shows); seen = h .seen }
+    record { good = h .good; shows = shows-back (start p) (t .ledger) (t .pool) (start-sound p) (h .shows); seen = h .seen }
 stepped s (commanding buffer c) t o g h = left-stepped s (commanding buffer c) buffer t o g h
 stepped s (arriving buffer n c) t o g h = left-stepped s (arriving buffer n c) buffer t o g h
 stepped s (takingOut buffer n) t o g h = left-stepped s (takingOut buffer n) buffer t o g h
@@ -76,9 +74,8 @@ runs-shown s (e ∷ es) t g h =
 
 -- a record that came from the start and the calls is good, and shows the run of the definitions on the same calls
 pub reached-ran : (p : List ℕ) (es : List Exchange) (s : Session) → Reached p es s → Ran (start p) es s
-unfolding view
 reached-ran p es s h =
-    let first = shows-back (start p) (ledgerIn (h .first .ledger)) (h .first .pool) (start-sound p) (h .begun .shows .shows) in
+    let first = shows-back (start p) (h .first .ledger) (h .first .pool) (start-sound p) (h .begun .shows) in
     subst (λ (a : State). Ran a es s) first (runs-shown (h .first) es s (h .begun .good) (h .run))
 
 pub reached-good : (p : List ℕ) (es : List Exchange) (s : Session) → Reached p es s → Good s

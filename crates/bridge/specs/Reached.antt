@@ -11,8 +11,8 @@ use Rattle.rules.specs.Run.{Call, starting, commanding, arriving, takingOut, dr
 use Rattle.rules.specs.History.{Exchange}
 use Rattle.session.specs.declared.Session.{Session}
 use Rattle.session.specs.declared.Ended.{Ended}
-use Rattle.session.specs.Picture.{Good, ShowsAt, view}
-use Rattle.session.specs.Calls.{AnswersAt}
+use Rattle.session.specs.Picture.{Good, Shows, view}
+use Rattle.session.specs.Calls.{Answers}
 use Rattle.text.specs.Prints.{outcomeOf}
 
 -- a call with a buffer of so many bytes left the record t, and this could be seen of it
@@ -21,12 +21,12 @@ pub record Left (x : Answer) (buffer : ℕ) (t : Session) (o : Outcome) : Type 0
   pub after : List ℕ
   pub ended : Ended
   pub size : length before ≡ buffer
-  pub answers : AnswersAt x (t .ledger) (t .pool) ended before after
+  pub answers : Answers x (t .ledger) (t .pool) ended before after
   pub seen : o ≡ outcomeOf ended after
 
 -- a start left the record t
 pub record Started (p : List ℕ) (t : Session) (o : Outcome) : Type 0 where
-  pub shows : ShowsAt (start p) (t .ledger) (t .pool)
+  pub shows : Shows (start p) (t .ledger) (t .pool)
   pub good : Good t
   pub seen : o ≡ wrote []
 

@@ -34,7 +34,7 @@ use denote.Triple.Walked.{needs, Stays, stay-ref, goes-ref, walkOf, Walks, ends-
 use Rattle.rules.specs.declared.ChannelNumber.{ChannelNumber}
 use Rattle.rules.specs.State.{State}
 use Rattle.rules.specs.Command.{Answer}
-use Rattle.session.specs.Picture.{Good, GoodAt, shownAt, view}
+use Rattle.session.specs.Picture.{Good, GoodIn, shown, view}
 use Rattle.session.proofs.Session as T
 use Rattle.host.specs.Packed.{Packs, Hosts}
 use Rattle.host.proofs.Lending.{both, v₁, v₂, numbersAt, poolAt}
@@ -75,9 +75,9 @@ module _ (X : State → ℕ → ChannelNumber → Answer) {M : Type 1} (𝓤 : U
   abbrev callee-clauses : Clauses 𝓤 callee.ended
   callee-clauses κs a = record {
     ghost = Unit {0};
-    requires = λ _. fact 𝓤 (GoodAt (a .0 .now) (a .1 .0 .now));
+    requires = λ _. fact 𝓤 (GoodIn (a .0 .now) (a .1 .0 .now));
     ensures = λ _ n e.
-        fact 𝓤 (Packs (X (shownAt (a .0 .now) (a .1 .0 .now)) (length (a .1 .1 .1 .0 .now)) (record { 0 = a .1 .1 .0 })) (e .0 .now) (e .1 .0 .now) n (a .1 .1 .1 .0 .now) (e .1 .1 .1 .0 .now));
+        fact 𝓤 (Packs (X (shown (a .0 .now) (a .1 .0 .now)) (length (a .1 .1 .1 .0 .now)) (record { 0 = a .1 .1 .0 })) (e .0 .now) (e .1 .0 .now) n (a .1 .1 .1 .0 .now) (e .1 .1 .1 .0 .now));
   }
 
   abbrev Callee : Contract 𝓤
@@ -106,7 +106,7 @@ module _ (X : State → ℕ → ChannelNumber → Answer) {M : Type 1} (𝓤 : U
 
     -- what the callee says, with the two arrays and the buffer at its end
     abbrev Ends : ℕ → List ℕ → List ℕ → Fins κs rest kept (a .1) → Type 0
-    Ends n l p w = Packs (X (shownAt (a .0 .now .ledger) (a .0 .now .pool)) (length (out .now)) (record { 0 = a .1 .0 })) l p n (out .now) (w .1 .0)
+    Ends n l p w = Packs (X (shown (a .0 .now .ledger) (a .0 .now .pool)) (length (out .now)) (record { 0 = a .1 .0 })) l p n (out .now) (w .1 .0)
 
     abbrev x : Call 𝓤 u32
     x = record {
@@ -130,7 +130,6 @@ module _ (X : State → ℕ → ChannelNumber → Answer) {M : Type 1} (𝓤 : U
         (((ν ∷ [], (μ ∷ [], κs .1)), (fullShare, (fullShare, qs .1)), tt, (numbersAt (x .b) (x .o) δ (x .h .ledger), (poolAt (x .b) (x .o) ε (x .h .pool), a .1)), (v₁ (x .b) (x .o) ∷ [], (v₂ (x .b) (x .o) ∷ [], vals))), tt)
 
     exits : (n : ℕ) (l p : List ℕ) (w : x .Ws) → Ends n l p w → n < 2 ^ 32 → ent 𝓤 (Left-over 𝓤 H A W u32 x l p w) (Post (vint w32 n))
-    unfolding view
     exits n l p w e fits =
         via 𝓤 _ (ends-with 𝓤 H A W u32 x n (vint w32 n) l p w (uint-makes 𝓤 H A W w32) (refl, fits) e)
         (ends-at 𝓤 H A f.ended stayed (clauses X 𝓤 H A) W ((κs, qs, bounds, a, (r ∷ [], vals)), tt) (vint w32 n) n (both l p, w) (tt, (tt, (tt, tt))))

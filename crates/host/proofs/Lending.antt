@@ -31,22 +31,24 @@ use denote.Lend.{lends-ref, ref-back}
 use denote.Steps.{only, facts, owned, nothing}
 use denote.Struct.Laws as LL
 use borrow.Table.OneValue.{part-out, part-in, part-out-at, part-in-at}
+use Rattle.rules.specs.Pool.{poolSize}
+use Rattle.session.specs.Book.{ledgerSize}
 use Rattle.session.specs.declared.Session.{Session}
 use Rattle.session.proofs.Session as T
 use Rattle.session.proofs.Session.Laws as T′
 
 -- the types of the two arrays, as the record has them and in MIR, and where each begins in the record
 abbrev pub Numbers : RattleType
-Numbers = Array u16 50
+Numbers = Array u16 ledgerSize
 
 abbrev pub Pool : RattleType
-Pool = Array u8 8192
+Pool = Array u8 poolSize
 
 abbrev pub τn : Ty
-τn = tyArray (tyInt w16) 50
+τn = tyArray (tyInt w16) ledgerSize
 
 abbrev pub τb : Ty
-τb = tyArray (tyInt w8) 8192
+τb = tyArray (tyInt w8) poolSize
 
 abbrev τs : Tys
 τs = tcons τn (tcons τb tnil)
@@ -87,8 +89,8 @@ module _ (h : Session) (w : Val) (g : Is T.the-row h (w ∷ [])) where
 
 -- what the record's type gives
 pub record Sized (h : Session) : Type 0 where
-  pub numbers : length (h .ledger) ≡ 50
-  pub bytes : length (h .pool) ≡ 8192
+  pub numbers : length (h .ledger) ≡ ledgerSize
+  pub bytes : length (h .pool) ≡ poolSize
 
 sized : (h : Session) → IsNumbers (h .ledger) → IsPool (h .pool) → Sized h
 sized h i j = record { numbers = i .1 .0 .1; bytes = j .1 .0 .1 }
@@ -153,9 +155,9 @@ module _ (b o : ℕ) where
         rewrite t 0 (λ (u : Val). ‵ (fat fullShare T′.mir b o u)) (ap only (T′.lowers .val-is h (w ∷ []) g)) refl $
         use1 W ((‵ (fat fullShare τn b (o + place₁) (numbers-val (h .ledger))) ⊛ ‵ (fat fullShare τb b (o + place₂) (pool-val (h .pool))) ⊛ ‵ ftrue) ⊛ raw (all 𝓤 (Back 𝓤 H A)))
         (W .laws .at-fields fullShare (T.the-type .name) τs b o (fields-val (h .ledger) (h .pool))) $ split t $ split3 t $
-        owned t Numbers (Is Numbers) (array-makes 𝓤 H A W u16 (uint-makes 𝓤 H A W w16) 50) (h .ledger) _ (numbers-of h w g) $ move t (1 ∷ 0 ∷ []) $
+        owned t Numbers (Is Numbers) (array-makes 𝓤 H A W u16 (uint-makes 𝓤 H A W w16) ledgerSize) (h .ledger) _ (numbers-of h w g) $ move t (1 ∷ 0 ∷ []) $
         use2 W (‵ (partAt Numbers fullShare (h .ledger) b (o + place₁))) (part-in 𝓤 H A W Numbers refl fullShare (h .ledger) b (o + place₁) (numbers-val (h .ledger))) $ move t (1 ∷ []) $
-        owned t Pool (Is Pool) (array-makes 𝓤 H A W u8 (uint-makes 𝓤 H A W w8) 8192) (h .pool) _ (pool-of h w g) $ move t (1 ∷ 0 ∷ []) $
+        owned t Pool (Is Pool) (array-makes 𝓤 H A W u8 (uint-makes 𝓤 H A W w8) poolSize) (h .pool) _ (pool-of h w g) $ move t (1 ∷ 0 ∷ []) $
         use2 W (‵ (partAt Pool fullShare (h .pool) b (o + place₂))) (part-in 𝓤 H A W Pool refl fullShare (h .pool) b (o + place₂) (pool-val (h .pool))) $
         -- [the pool; the numbers; true; the way back; the open borrow; obs; auth; …]
         lft-new t z (λ μ. move t (1 ∷ []) $
@@ -181,13 +183,13 @@ module _ (b o : ℕ) where
         -- the two cells are the record's
         use1 W (some (λ (u : Val). ‵ (fat fullShare τb b (o + place₂) u) ⊛ ‵ (Pool .own p (u ∷ [])))) (part-out 𝓤 H A W Pool refl fullShare p b (o + place₂)) $ pick t (λ u. split t $ move t (1 ∷ []) $
         facts t Pool (Is Pool) (shows 𝓤 H A Pool) p (u ∷ []) (λ j.
-        rewrite t 0 (λ (x : Val). ‵ (fat fullShare τb b (o + place₂) x)) (ap only (array-tells u8 (uint-vals w8) (uint-tells w8) 8192 p (u ∷ []) j)) refl $ move t (1 ∷ []) $
+        rewrite t 0 (λ (x : Val). ‵ (fat fullShare τb b (o + place₂) x)) (ap only (array-tells u8 (uint-vals w8) (uint-tells w8) poolSize p (u ∷ []) j)) refl $ move t (1 ∷ []) $
         use1 W (some (λ (v : Val). ‵ (fat fullShare τn b (o + place₁) v) ⊛ ‵ (Numbers .own l (v ∷ [])))) (part-out 𝓤 H A W Numbers refl fullShare l b (o + place₁)) $ pick t (λ v. split t $ move t (1 ∷ []) $
         facts t Numbers (Is Numbers) (shows 𝓤 H A Numbers) l (v ∷ []) (λ i.
-        rewrite t 0 (λ (x : Val). ‵ (fat fullShare τn b (o + place₁) x)) (ap only (array-tells u16 (uint-vals w16) (uint-tells w16) 50 l (v ∷ []) i)) refl $ nothing t $ move t (6 ∷ []) $
+        rewrite t 0 (λ (x : Val). ‵ (fat fullShare τn b (o + place₁) x)) (ap only (array-tells u16 (uint-vals w16) (uint-tells w16) ledgerSize l (v ∷ []) i)) refl $ nothing t $ move t (6 ∷ []) $
         use1 W (raw (Back 𝓤 H A (fields-val l p))) (allE 𝓤 (Back 𝓤 H A) (fields-val l p)) $ move t (2 ∷ 3 ∷ 1 ∷ 0 ∷ []) $ group t 3 $
         use2 W (‵ (fat fullShare T′.mir b o (vstruct (fields-val l p)))) (apply∗ 𝓤 (fieldsAt 𝓤 H fullShare τs zero b o (fields-val l p)) (H .at fullShare T′.mir b o (vstruct (fields-val l p)))) $
         owned t T.the-row (Is T.the-row) (LL.makes T.the-type T′.the-plain 𝓤 H A) (both l p) _
-        (record-of l p (subst (Is Numbers l) (array-tells u16 (uint-vals w16) (uint-tells w16) 50 l (v ∷ []) i) i) (subst (Is Pool p) (array-tells u8 (uint-vals w8) (uint-tells w8) 8192 p (u ∷ []) j) j)) $ move t (1 ∷ 0 ∷ []) $
+        (record-of l p (subst (Is Numbers l) (array-tells u16 (uint-vals w16) (uint-tells w16) ledgerSize l (v ∷ []) i) i) (subst (Is Pool p) (array-tells u8 (uint-vals w8) (uint-tells w8) poolSize p (u ∷ []) j) j)) $ move t (1 ∷ 0 ∷ []) $
         use2 W (‵ (partAt T.the-row fullShare (both l p) b o)) (part-in-at 𝓤 H A W T.the-row refl fullShare (both l p) b o T′.mir refl (T′.lowered (both l p))) $
         close-ref t z (mem T.the-row) (both l p) {b = b} {o = o} $ k)))))

@@ -6,7 +6,9 @@ use mathlib.Core.List.{List}
 use native.Mathlib.Omega.{arith}
 use lib.ListN.{length-take}
 use Rattle.rules.specs.declared.ChannelNumber.{ChannelNumber}
-use Rattle.rules.specs.State.{State, chan}
+use Rattle.rules.specs.declared.Way.the-variants.{Send}
+use Rattle.rules.specs.Pool.{grantCap}
+use Rattle.rules.specs.State.{State, chan, held}
 use Rattle.rules.specs.Command.{Answer, Outcome, wrote, refused}
 use Rattle.rules.specs.Radio.{taking}
 use Rattle.rules.specs.Run.{Call, starting, commanding, arriving, takingOut, droppingLink, step}
@@ -15,40 +17,39 @@ use Rattle.rules.proofs.Cases.{taking-cases}
 use Rattle.rules.proofs.Sizes.{written-within}
 use Rattle.rules.proofs.Soundness.{chan-sound}
 use Rattle.session.specs.declared.Ended.{Ended}
-use Rattle.session.specs.Calls.{endedOf, AnswersAt}
+use Rattle.session.specs.Calls.{endedOf, Answers}
 use Rattle.host.specs.Packed.{packed, Fits, Packs}
 
-within-fits : (k : ℕ) (o : Outcome) → k ≤ 1500 → Within k o → Fits (endedOf o)
+within-fits : (k : ℕ) (o : Outcome) → k ≤ grantCap → Within k o → Fits (endedOf o)
 unfolding Fits endedOf
 within-fits k (wrote s) h w = omega arith
 within-fits k (refused r) h w = tt
 
 -- what a take hands out is ready, and so within the grant
-take-within : (a : State) (buffer : ℕ) (n : ChannelNumber) → Sound a → Within 1500 (taking a buffer n .outcome)
+take-within : (a : State) (buffer : ℕ) (n : ChannelNumber) → Sound a → Within grantCap (taking a buffer n .outcome)
 take-within a buffer n h =
-    taking-cases (λ (x : Answer). Within 1500 (x .outcome)) a (λ _. tt) buffer n
+    taking-cases (λ (x : Answer). Within grantCap (x .outcome)) a (λ _. tt) buffer n
     (λ _.
     let s = chan-sound a n h in
-    let t = length-take (min buffer (chan a n .ready)) (chan a n .send) in omega (arith, s .capped, s .send-fits))
+    let t = length-take (min buffer (chan a n .ready)) (held (chan a n) Send) in omega (arith, s .capped, s .fits Send))
 
 call-fits : (a : State) (c : Call) → Sound a → Fits (endedOf (step a c .outcome))
 unfolding step
 call-fits a (starting p) h = within-fits 0 _ (omega arith) (written-within a (starting p) h)
 call-fits a (commanding buffer s) h = within-fits 255 _ (omega arith) (written-within a (commanding buffer s) h)
 call-fits a (arriving buffer n s) h = within-fits 16 _ (omega arith) (written-within a (arriving buffer n s) h)
-call-fits a (takingOut buffer n) h = within-fits 1500 _ (omega arith) (take-within a buffer n h)
+call-fits a (takingOut buffer n) h = within-fits grantCap _ (omega arith) (take-within a buffer n h)
 call-fits a (droppingLink buffer n) h = within-fits 16 _ (omega arith) (written-within a (droppingLink buffer n) h)
 
-module _ (a : State) (c : Call) (t p : List ℕ) (e : Ended) (before after : List ℕ) (h : AnswersAt (step a c) t p e before after) where
+module _ (a : State) (c : Call) (t p : List ℕ) (e : Ended) (before after : List ℕ) (h : Answers (step a c) t p e before after) where
   -- how the call ended can be packed
   pub answer-fits : Sound a → Fits e
-  answer-fits s = subst Fits (sym (h .answers .ended)) (call-fits a c s)
+  answer-fits s = subst Fits (sym (h .ended)) (call-fits a c s)
 
   -- and once it is packed, the call is told
   pub answer-packs : (r : ℕ) → r ≡ packed e → Packs (step a c) t p r before after
   answer-packs r m =
-      let x = h .answers in
       record {
-        answers = record { answers = record { shows = x .shows; good = x .good; ended = refl; lent = x .lent }; kept = h .kept };
-        told = m ∙ ap packed (x .ended);
+        answers = record { shows = h .shows; good = h .good; ended = refl; lent = h .lent };
+        told = m ∙ ap packed (h .ended);
       }

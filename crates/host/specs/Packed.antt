@@ -3,11 +3,12 @@ use Prim.Native.Nat.{ℕ, _+_, _≤_}
 use mathlib.Core.Path.{_≡_}
 use mathlib.Core.List.{List}
 use Rattle.rules.specs.Words.{numberOf}
+use Rattle.rules.specs.Pool.{grantCap}
 use Rattle.rules.specs.Command.{Answer}
 use Rattle.session.specs.declared.Ended.{Ended}
 use Rattle.session.specs.declared.Ended.the-variants.{Wrote, Refused}
 use Rattle.session.specs.declared.Session.{Session}
-use Rattle.session.specs.Calls.{endedOf, AnswersAt}
+use Rattle.session.specs.Calls.{endedOf, Answers}
 
 -- the count of bytes written, or 1000000 (hexadecimal) plus the refusal's number
 unfoldable pub packed : Ended → ℕ
@@ -16,12 +17,12 @@ packed (Refused r) = 0x1000000 + numberOf r
 
 -- a count that is told apart from every refusal
 unfoldable pub Fits : Ended → Type 0
-Fits (Wrote count) = count ≤ 1500
+Fits (Wrote count) = count ≤ grantCap
 Fits (Refused r) = Unit {0}
 
 -- the call is the answer x, on the two arrays that are lent, the ledger's numbers t and the pool p, and the number tells how it ended
 pub record Packs (x : Answer) (t p : List ℕ) (r : ℕ) (before after : List ℕ) : Type 0 where
-  pub answers : AnswersAt x t p (endedOf (x .outcome)) before after
+  pub answers : Answers x t p (endedOf (x .outcome)) before after
   pub told : r ≡ packed (endedOf (x .outcome))
 
 -- the same on the record that the host lends

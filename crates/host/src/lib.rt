@@ -1,19 +1,23 @@
 // The calls over a record that the host lends, exported to C. Each lends both arrays, moves nothing, and packs how it ended into one number.
 use modem::command_in;
 use octets;
+use pool::Pool;
 use radio::arrival_in;
 use radio::dropping_in;
 use radio::taking_in;
 use rules::ChannelNumber;
 use session::Ended;
+use session::Ledger;
 use session::Session;
 use session::start_ledger;
 ghost use mathlib.Core.Path.{_≡_};
 ghost use lib.ListN.{length};
+ghost use Rattle.rules.specs.Pool.{poolSize};
 ghost use Rattle.rules.specs.State.{start};
 ghost use Rattle.rules.specs.Command.{command};
 ghost use Rattle.rules.specs.Radio.{arrival, taking, dropping};
-ghost use Rattle.session.specs.Picture.{Good, GoodAt, ShowsAt, shownAt, view};
+ghost use Rattle.session.specs.Book.{ledgerSize};
+ghost use Rattle.session.specs.Picture.{Good, GoodIn, Shows, shown, view};
 ghost use Rattle.host.specs.Packed.{packed, Fits, Hosts, Packs};
 
 // How a call ended, in one number: the count, or 1000000 (hexadecimal) plus the refusal's number.
@@ -28,61 +32,61 @@ fn pack(ended: Ended) -> u32
 }
 
 // The start over the lent arrays: the pool's bytes are cleared, and the ledger is written anew.
-fn start_lent(ledger: &mut [u16; 50], pool: &mut [u8; 8192], profile: &[u8])
-    requires { ⌜ (length (now ledger) ≡ 50) × (length (now pool) ≡ 8192) ⌝ }
-    ensures { λ _. ⌜ ShowsAt (start (now (profile .entry))) (now (ledger .exit)) (now (pool .exit)) × GoodAt (now (ledger .exit)) (now (pool .exit)) ⌝ }
+fn start_lent(ledger: &mut [u16; Ledger::SIZE], pool: &mut [u8; Pool::SIZE], profile: &[u8])
+    requires { ⌜ (length (now ledger) ≡ ledgerSize) × (length (now pool) ≡ poolSize) ⌝ }
+    ensures { λ _. ⌜ Shows (start (now (profile .entry))) (now (ledger .exit)) (now (pool .exit)) × GoodIn (now (ledger .exit)) (now (pool .exit)) ⌝ }
 {
-    octets::clear(pool, 0, 8192);
+    octets::clear(pool, 0, Pool::SIZE);
     start_ledger(ledger, profile);
 }
 
 // The command call over the lent arrays.
 fn command_packed(
-    ledger: &mut [u16; 50],
-    pool: &mut [u8; 8192],
+    ledger: &mut [u16; Ledger::SIZE],
+    pool: &mut [u8; Pool::SIZE],
     bytes: &[u8],
     out: &mut [u8],
 ) -> u32
-    requires { ⌜ GoodAt (now ledger) (now pool) ⌝ }
-    ensures { λ r. ⌜ Packs (command (shownAt (now (ledger .entry)) (now (pool .entry))) (length (now (out .entry))) (now (bytes .entry))) (now (ledger .exit)) (now (pool .exit)) r (now (out .entry)) (now (out .exit)) ⌝ }
+    requires { ⌜ GoodIn (now ledger) (now pool) ⌝ }
+    ensures { λ r. ⌜ Packs (command (shown (now (ledger .entry)) (now (pool .entry))) (length (now (out .entry))) (now (bytes .entry))) (now (ledger .exit)) (now (pool .exit)) r (now (out .entry)) (now (out .exit)) ⌝ }
 {
     pack(command_in(ledger, pool, bytes, out))
 }
 
 // The arrival over the lent arrays.
 fn arrival_packed(
-    ledger: &mut [u16; 50],
-    pool: &mut [u8; 8192],
+    ledger: &mut [u16; Ledger::SIZE],
+    pool: &mut [u8; Pool::SIZE],
     channel: u8,
     bytes: &[u8],
     out: &mut [u8],
 ) -> u32
-    requires { ⌜ GoodAt (now ledger) (now pool) ⌝ }
-    ensures { λ r. ⌜ Packs (arrival (shownAt (now (ledger .entry)) (now (pool .entry))) (length (now (out .entry))) (record { 0 = channel }) (now (bytes .entry))) (now (ledger .exit)) (now (pool .exit)) r (now (out .entry)) (now (out .exit)) ⌝ }
+    requires { ⌜ GoodIn (now ledger) (now pool) ⌝ }
+    ensures { λ r. ⌜ Packs (arrival (shown (now (ledger .entry)) (now (pool .entry))) (length (now (out .entry))) (record { 0 = channel }) (now (bytes .entry))) (now (ledger .exit)) (now (pool .exit)) r (now (out .entry)) (now (out .exit)) ⌝ }
 {
     pack(arrival_in(ledger, pool, ChannelNumber(channel), bytes, out))
 }
 
 // The take over the lent arrays.
-fn take_packed(ledger: &mut [u16; 50], pool: &mut [u8; 8192], channel: u8, out: &mut [u8]) -> u32
-    requires { ⌜ GoodAt (now ledger) (now pool) ⌝ }
-    ensures { λ r. ⌜ Packs (taking (shownAt (now (ledger .entry)) (now (pool .entry))) (length (now (out .entry))) (record { 0 = channel })) (now (ledger .exit)) (now (pool .exit)) r (now (out .entry)) (now (out .exit)) ⌝ }
+fn take_packed(ledger: &mut [u16; Ledger::SIZE], pool: &mut [u8; Pool::SIZE], channel: u8, out: &mut [u8]) -> u32
+    requires { ⌜ GoodIn (now ledger) (now pool) ⌝ }
+    ensures { λ r. ⌜ Packs (taking (shown (now (ledger .entry)) (now (pool .entry))) (length (now (out .entry))) (record { 0 = channel })) (now (ledger .exit)) (now (pool .exit)) r (now (out .entry)) (now (out .exit)) ⌝ }
 {
     pack(taking_in(ledger, pool, ChannelNumber(channel), out))
 }
 
-// The drop over the lent arrays. The pool stays; it is lent so that the session is asked to be good.
-fn drop_packed(ledger: &mut [u16; 50], pool: &mut [u8; 8192], channel: u8, out: &mut [u8]) -> u32
-    requires { ⌜ GoodAt (now ledger) (now pool) ⌝ }
-    ensures { λ r. ⌜ Packs (dropping (shownAt (now (ledger .entry)) (now (pool .entry))) (length (now (out .entry))) (record { 0 = channel })) (now (ledger .exit)) (now (pool .exit)) r (now (out .entry)) (now (out .exit)) ⌝ }
+// The drop over the lent arrays.
+fn drop_packed(ledger: &mut [u16; Ledger::SIZE], pool: &mut [u8; Pool::SIZE], channel: u8, out: &mut [u8]) -> u32
+    requires { ⌜ GoodIn (now ledger) (now pool) ⌝ }
+    ensures { λ r. ⌜ Packs (dropping (shown (now (ledger .entry)) (now (pool .entry))) (length (now (out .entry))) (record { 0 = channel })) (now (ledger .exit)) (now (pool .exit)) r (now (out .entry)) (now (out .exit)) ⌝ }
 {
-    pack(dropping_in(ledger, ChannelNumber(channel), out))
+    pack(dropping_in(ledger, pool, ChannelNumber(channel), out))
 }
 
 // A fresh session from profile bytes of any length, in the host's record, whatever it held.
 #[no_mangle]
 pub extern "C" fn pomerassol_start(s: &mut Session, profile: &[u8])
-    ensures { λ _. ⌜ ShowsAt (start (now (profile .entry))) (now (s .exit) .ledger) (now (s .exit) .pool) × Good (now (s .exit)) ⌝ }
+    ensures { λ _. ⌜ Shows (start (now (profile .entry))) (now (s .exit) .ledger) (now (s .exit) .pool) × Good (now (s .exit)) ⌝ }
 {
     start_lent(&mut s.ledger, &mut s.pool, profile);
 }

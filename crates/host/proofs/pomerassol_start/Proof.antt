@@ -34,8 +34,10 @@ use denote.Triple.Spec.{Meets, tripleOf}
 use denote.Triple.Statement.{Contract, Triple}
 use denote.Triple.Table.{entered, cited}
 use denote.Triple.Walked.{Stays, stay-ref, goes-ref, walkOf, Walks, ends-at, walked, walk-meets}
+use Rattle.rules.specs.Pool.{poolSize}
+use Rattle.session.specs.Book.{ledgerSize}
 use Rattle.rules.specs.State.{start}
-use Rattle.session.specs.Picture.{ShowsAt, GoodAt}
+use Rattle.session.specs.Picture.{Shows, GoodIn}
 use Rattle.session.proofs.Session as T
 use Rattle.host.proofs.Lending.{both, v₁, v₂, numbersAt, poolAt}
 use Rattle.host.proofs.Serving.{Call, Left-over, stays-left, go-left, ends-with, calls-lent}
@@ -78,7 +80,7 @@ module _ {M : Type 1} (𝓤 : URA M) (H : Heap 𝓤) (A : Atoms 𝓤) (W : Given
 
     -- what the callee says of the two arrays at its end
     abbrev Ends : Unit {0} → List ℕ → List ℕ → Fins κs rest kept (a .1) → Type 0
-    Ends _ l p w = ShowsAt (start (a .1 .0 .now)) l p × GoodAt l p
+    Ends _ l p w = Shows (start (a .1 .0 .now)) l p × GoodIn l p
 
     abbrev x : Call 𝓤 unit
     x = record {
@@ -92,7 +94,7 @@ module _ {M : Type 1} (𝓤 : URA M) (H : Heap 𝓤) (A : Atoms 𝓤) (W : Given
       Passed = owns (typesAt rest κs) (a .1) vals;
       Ws = Fins κs rest kept (a .1);
       Left = lastsOf κs rest kept (a .1);
-      Good = (length (a .0 .now .ledger) ≡ 50) × (length (a .0 .now .pool) ≡ 8192);
+      Good = (length (a .0 .now .ledger) ≡ ledgerSize) × (length (a .0 .now .pool) ≡ poolSize);
       Ends = Ends;
     }
 
