@@ -1,0 +1,82 @@
+#!/usr/bin/env python3
+"""Holds reference.c to vectors/oracle.py: plays every script of the gate and ten seeded histories
+through both, and compares each line of the answers. The words are the command of the player, which
+is play.c compiled with reference.c.
+
+    python3 compare/play.py target/compare/play
+"""
+
+import os
+import subprocess
+import sys
+
+ROOT = os.path.join(os.path.dirname(os.path.abspath(__file__)), "..")
+sys.dont_write_bytecode = True
+sys.path.insert(0, os.path.join(ROOT, "vectors"))
+
+import generate
+import oracle
+
+LINES = 5000        # of a history
+BYTES = 400000      # that go in and out of a history, about
+
+
+def scripts():
+    """Each script of the gate: its file and its bytes."""
+    for folder in ("crates/lessons/data", "crates/lessons/data/scripts"):
+        for name in sorted(os.listdir(os.path.join(ROOT, folder))):
+            if name.endswith(".in"):
+                with open(os.path.join(ROOT, folder, name), "rb") as f:
+                    yield folder + "/" + name, f.read()
+
+
+def histories():
+    """Seeded histories, of four channels and of seven in turn: the name and the bytes of each."""
+    for seed in range(1, 11):
+        profile = generate.PROFILE_7 if seed % 2 else generate.PROFILE
+        script = generate.history("seed %d" % seed, profile, seed, LINES, BYTES)
+        yield script.name, b"\n".join(script.lines) + b"\n"
+
+
+def shown(lines, at):
+    """A line to be read, of a long one its beginning; "none" where there is none."""
+    line = lines[at] if at < len(lines) else b""
+    return line[:200].decode("ascii", "backslashreplace") or "none"
+
+
+def differ(name, text, asked, got):
+    """Reports the first difference and ends."""
+    lines, *answers = [oracle.split_lines(raw) for raw in (text, asked, got)]
+    number = next((i for i, pair in enumerate(zip(*answers)) if pair[0] != pair[1]), min(map(len, answers)))
+    silent = lines and oracle.start(lines[0])[1] is None    # a profile that is read prints nothing
+    at = number + 1 if silent else number
+    print("DIFFERENCE: an answer of the reference is not the oracle's")
+    print("%s, line %d" % (name, at + 1))
+    print("line:      %s" % shown(lines, at))
+    print("oracle:    %s" % shown(answers[0], number))
+    print("reference: %s" % shown(answers[1], number))
+    sys.exit(1)
+
+
+def hold(player, name, text):
+    """Plays one script on both sides; the count of its answers."""
+    done = subprocess.run(player, input=text, stdout=subprocess.PIPE)
+    if done.returncode != 0:
+        sys.exit("%s: the player ended with status %d" % (name, done.returncode))
+    asked = oracle.run(text)
+    if done.stdout != asked:
+        differ(name, text, asked, done.stdout)
+    return asked.count(b"\n")
+
+
+def main():
+    if not sys.argv[1:]:
+        sys.exit("usage: python3 compare/play.py PLAYER")
+    played = [hold(sys.argv[1:], name, text) for name, text in scripts()]
+    made = [hold(sys.argv[1:], name, text) for name, text in histories()]
+    print("%d scripts with %d answers and %d histories with %d: the reference answers as the oracle does"
+          % (len(played), sum(played), len(made), sum(made)))
+
+
+if __name__ == "__main__":
+    main()
