@@ -2,14 +2,13 @@
 -- Assumes nothing.
 use Prim.Native.Nat.{ℕ, _≤_}
 use mathlib.Core.Path.{_≡_, refl, sym, ap, subst, _∙_}
-use mathlib.Core.List.{List, [], _∷_, _++_}
-use lib.ListN.{length, take, drop}
+use mathlib.Core.List.{List, [], _∷_}
+use lib.ListN.{length, drop}
 use lib.Seq.{take-append-seam}
 use Rattle.rules.specs.declared.ChannelNumber.{ChannelNumber}
 use Rattle.rules.specs.State.{State, start}
-use Rattle.rules.specs.Command.{Outcome, wrote, refused, Answer, command}
+use Rattle.rules.specs.Command.{Outcome, wrote, refused, Answer}
 use Rattle.rules.specs.Run.{Call, starting, commanding, arriving, takingOut, droppingLink, step, after}
-use Rattle.rules.specs.Sound.{Sound}
 use Rattle.rules.specs.History.{Exchange, history, seenFrom}
 use Rattle.rules.specs.Demands.{Follows}
 use Rattle.rules.proofs.Histories.{follows}
@@ -20,7 +19,7 @@ use Rattle.session.specs.Picture.{Good, view}
 use Rattle.session.specs.Calls.{Answers, endedOf, writtenBy, overlaid}
 use Rattle.session.proofs.Views.{shows-back}
 use Rattle.text.specs.Prints.{outcomeOf}
-use Rattle.bridge.specs.Reached.{Left, Started, Called, Runs, callsOf, Reached}
+use Rattle.bridge.specs.Reached.{Left, Called, Runs, callsOf, Reached}
 
 -- what is seen in the buffer is how the call ended
 front-seen : (o : Outcome) (before : List ℕ) → outcomeOf (endedOf o) (overlaid (writtenBy o) before) ≡ o

@@ -1,7 +1,7 @@
 -- The contract of each public call is one step of a run: what it claims makes the record follow from the one before.
 -- Assumes nothing.
-use mathlib.Core.Path.{_≡_, refl}
-use mathlib.Core.List.{List, []}
+use mathlib.Core.Path.{refl}
+use mathlib.Core.List.{[]}
 use contract.Lifetimes.{Lfts}
 use denote.Ref.{now}
 use denote.Triple.Clauses.{Lasts, atExit}

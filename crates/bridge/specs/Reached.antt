@@ -3,7 +3,6 @@ use Prim.Native.Nat.{ℕ}
 use mathlib.Core.Path.{_≡_}
 use mathlib.Core.List.{List, [], _∷_, map}
 use lib.ListN.{length}
-use Rattle.rules.specs.declared.ChannelNumber.{ChannelNumber}
 use Rattle.rules.specs.State.{start}
 use Rattle.rules.specs.Command.{Outcome, wrote, Answer, command}
 use Rattle.rules.specs.Radio.{arrival, taking, dropping}

@@ -2,19 +2,18 @@
 -- Assumes nothing.
 use Prim.Native.Nat.{ℕ, _-_, _≤_, _<_}
 use mathlib.Core.Path.{_≡_, refl, sym, ap, _∙_}
-use mathlib.Core.Bool.{Bool, true, false, not, _||_}
+use mathlib.Core.Bool.{true, false, not, _||_}
 use mathlib.Core.List.{List, [], _∷_}
 use native.Mathlib.Omega.{arith}
-use lib.ListN.{length, take, drop, length-drop}
+use lib.ListN.{length, drop, length-drop}
 use lib.Seq.{take-all}
 use lib.Dec.{ltb}
 use borrow.Author.Tests.{lt-ltb, le-ltb}
-use Rattle.rules.specs.declared.Details.{Details}
 use Rattle.rules.specs.declared.Refusal.the-variants.{ShortBuffer, CommandSize}
-use Rattle.rules.specs.Checks.{_⇒_else_, isEmpty}
+use Rattle.rules.specs.Checks.{isEmpty}
 use Rattle.rules.specs.State.{State}
-use Rattle.rules.specs.Frames.{framed, contents}
-use Rattle.rules.specs.Reading.{Reading, wrong, zeros, reading, readObjects}
+use Rattle.rules.specs.Frames.{framed}
+use Rattle.rules.specs.Reading.{Reading, zeros, reading, readObjects}
 use Rattle.rules.specs.Own.{reply, error}
 use Rattle.rules.specs.Written.{responseBytes}
 use Rattle.rules.specs.Command.{Answer, answered, refusal, meantBy, command}

@@ -4,7 +4,6 @@ use Prim.Native.Nat.{ℕ, _+_, _≤_}
 use mathlib.Core.Path.{_≡_, refl, sym, ap, subst, _∙_}
 use mathlib.Core.Bool.{Bool, true, false, _&&_}
 use mathlib.Core.List.{List}
-use mathlib.Core.Option.{Option}
 use native.Mathlib.Omega.{arith}
 use lib.ListN.{length, getD}
 use lib.Dec.{leb, eqb}
@@ -16,8 +15,8 @@ use Rattle.rules.specs.Words.{channelOf}
 use Rattle.rules.specs.Profile.{profileSize}
 use Rattle.rules.specs.State.{State}
 use Rattle.rules.specs.Table.{bearerFits}
-use Rattle.rules.specs.Reading.{Reading, wrong, Command, Transport, Body, moreTime, eventList, openChannel, closeChannel, receiveData, sendData, channelStatus, bearerIn, commandIn, toModem, addressed, readObjects}
-use Rattle.rules.specs.Own.{Reply, reply, error, done, nothing, statuses, statusesFrom, plain, own, protocolOf, listing, opening, closing, receiving, sending}
+use Rattle.rules.specs.Reading.{Reading, wrong, Command, Body, moreTime, eventList, openChannel, closeChannel, receiveData, sendData, channelStatus, bearerIn, commandIn, toModem, addressed, readObjects}
+use Rattle.rules.specs.Own.{Reply, reply, error, done, nothing, statuses, statusesFrom, plain, own, listing, opening, closing, receiving, sending}
 use Rattle.rules.specs.Written.{responseBytes}
 use Rattle.rules.specs.Command.{Answer, answered, meantBy}
 use Rattle.rules.proofs.Laws.{skip, both-left, both-right}

@@ -20,7 +20,6 @@ use session::Answered;
 use session::Ended;
 use session::Ledger;
 use session::Session;
-ghost use mathlib.Core.Path.{_≡_};
 ghost use Prim.Native.Nat.{_≤_};
 ghost use lib.ListN.{length};
 ghost use Rattle.rules.specs.Profile.{profileSize};

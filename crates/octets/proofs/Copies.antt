@@ -1,12 +1,12 @@
 -- A copy of a list into another one, byte by byte: from its front, and from its end.
 -- Assumes nothing.
-use Prim.Native.Nat.{ℕ, suc, _+_, _-_, _≤_, _<_, min}
+use Prim.Native.Nat.{ℕ, suc, _+_, _-_, _≤_, _<_}
 use mathlib.Core.Path.{_≡_, refl, sym, ap, subst, _∙_}
 use mathlib.Core.List.{List, [], _∷_, _++_, append-assoc}
 use native.Mathlib.Omega.{arith}
 use native.Mathlib.Nat.{add-zero, add-suc}
 use native.Mathlib.Numerals.{add-one}
-use lib.ListN.{length, take, drop, getD, set, length-append, length-take, length-drop, length-set, take-append-drop, List·getD-append, replicate, length-replicate, getD-replicate}
+use lib.ListN.{length, take, drop, getD, set, length-take, length-drop, length-set, take-append-drop, List·getD-append, replicate, length-replicate, getD-replicate}
 use lib.Seq.{paste, paste-zero, paste-suc, drop-paste, take-length, drop-length, drop-cons, take-suc, set-at, append-snoc, getD-drop, getD-take, length-take-le}
 use Rattle.octets.specs.Parts.{part, pasted, cleared, moved}
 

@@ -1,7 +1,7 @@
 -- SET UP EVENT LIST: the listed values are looked at one after the other.
 -- Assumes nothing.
-use Prim.Native.Nat.{ℕ, suc, _+_, _≤_, _<_}
-use mathlib.Core.Path.{_≡_, refl, sym, ap, subst, _∙_}
+use Prim.Native.Nat.{ℕ, _+_, _≤_, _<_}
+use mathlib.Core.Path.{_≡_, sym, ap, subst, _∙_}
 use mathlib.Core.Bool.{Bool, true, false, not, _&&_, _||_}
 use mathlib.Core.List.{List, [], _∷_}
 use native.Mathlib.Omega.{arith}
@@ -10,12 +10,12 @@ use lib.ListN.{length, getD, drop}
 use lib.Seq.{drop-cons, drop-length}
 use Rattle.rules.specs.declared.Events.{Events}
 use Rattle.rules.specs.declared.Details.{Details}
-use Rattle.rules.specs.Checks.{_⇒_else_, every, some-of, member}
+use Rattle.rules.specs.Checks.{every, some-of, member}
 use Rattle.rules.specs.Profile.{allowsEvent}
 use Rattle.rules.specs.Pool.{promised}
 use Rattle.rules.specs.Sound.{Sound}
 use Rattle.rules.specs.State.{State}
-use Rattle.rules.specs.Own.{Reply, reply, error, done, nothing, plain, listed, listing}
+use Rattle.rules.specs.Own.{error, done, nothing, plain, listed, listing}
 use Rattle.rules.proofs.Laws.{stop, skip}
 use Rattle.session.specs.declared.Ended.the-variants.{Wrote}
 use Rattle.profile.proofs.Bits.{front-event}

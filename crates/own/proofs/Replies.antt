@@ -24,8 +24,8 @@ use Rattle.session.specs.declared.Ended.the-variants.{Wrote}
 use Rattle.session.specs.Book.{entryIn}
 use Rattle.session.specs.Picture.{Shows, GoodIn, shown, entry, startIn}
 use Rattle.session.specs.Calls.{endedOf, writtenBy, Answers}
-use Rattle.session.specs.Changed.{Numbered, chanIn, Changed}
-use Rattle.session.proofs.Facts.{place, entry-is, bounds, held-read}
+use Rattle.session.specs.Changed.{Numbered, Changed}
+use Rattle.session.proofs.Facts.{place, entry-is, held-read}
 use Rattle.session.proofs.Views.{shows-good}
 use Rattle.responses.specs.Stands.{response, Stands}
 use Rattle.own.specs.Replies.{told}

@@ -14,14 +14,14 @@ use Rattle.rules.specs.declared.Link.the-variants.{NotYet, Established, Dropped
 use Rattle.rules.specs.declared.Way.the-variants.{Send}
 use Rattle.rules.specs.Checks.{_⇒_else_}
 use Rattle.rules.specs.State.{State, Chan, chan, withChan, establish, isDropped, queue, withQueue, held, room, joined, marked, appended, readied}
-use Rattle.rules.specs.Own.{reply, problem, done, sent, capped, bit1, plain, sending}
+use Rattle.rules.specs.Own.{problem, done, sent, capped, bit1, plain, sending}
 use Rattle.rules.proofs.Laws.{branch, stop, skip, not-not}
 use Rattle.rules.proofs.Soundness.{chan-sound, appended-sound, readied-sound, same-sound}
 use Rattle.rules.specs.Sound.{SoundChan}
 use Rattle.session.specs.declared.Channel.{Channel}
 use Rattle.session.specs.declared.Ended.the-variants.{Wrote}
 use Rattle.session.specs.Book.{entryIn}
-use Rattle.session.specs.Picture.{linkOf, linkNumber, shown, entry}
+use Rattle.session.specs.Picture.{linkOf, shown, entry}
 use Rattle.session.specs.Calls.{Answers}
 use Rattle.session.specs.Changed.{Numbered, chanIn, Changed, Marks}
 use Rattle.session.proofs.Facts.{bounds}

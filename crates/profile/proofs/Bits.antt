@@ -1,11 +1,11 @@
 -- The profile is the front of the numbers that are lent: every place lies in it.
 -- Assumes nothing.
 use Prim.Native.Nat.{ℕ, _+_, _-_, _/_, _%_, _^_, _≤_}
-use mathlib.Core.Path.{_≡_, refl, sym, ap}
-use mathlib.Core.Bool.{Bool, true, false}
+use mathlib.Core.Path.{_≡_, ap}
+use mathlib.Core.Bool.{true, false}
 use mathlib.Core.List.{List}
 use native.Mathlib.Omega.{arith}
-use lib.ListN.{take, getD}
+use lib.ListN.{take}
 use lib.Seq.{getD-take}
 use lib.Dec.{eqb}
 use Rattle.rules.specs.Checks.{_⇒_else_}

@@ -2,7 +2,6 @@
 -- Assumes nothing.
 use Prim.Native.Nat.{ℕ, zero, suc, _+_, _-_, _*_, _≤_, _<_}
 use mathlib.Core.Path.{_≡_, refl, sym, ap, subst, _∙_}
-use mathlib.Core.Bool.{Bool, true, false}
 use mathlib.Core.List.{List, [], _∷_, _++_, map, append-assoc, append-nil}
 use native.Mathlib.Omega.{arith}
 use native.Mathlib.Numerals.{add-one}
@@ -16,7 +15,7 @@ use Rattle.rules.specs.declared.Details.{Details}
 use Rattle.rules.specs.declared.Link.{Link}
 use Rattle.rules.specs.declared.Link.the-variants.{NotYet, Established, Dropped}
 use Rattle.rules.specs.Checks.{_⇒_else_}
-use Rattle.rules.specs.Frames.{Object, lengthBytes, objectBytes, written}
+use Rattle.rules.specs.Frames.{lengthBytes, objectBytes, written}
 use Rattle.rules.specs.Profile.{profileSize}
 use Rattle.rules.specs.State.{State, closed, isOpen}
 use Rattle.rules.specs.Own.{Status, error, done, statuses, statusesFrom}

@@ -2,8 +2,8 @@
 -- Assumes nothing.
 use Prim.Native.Nat.{ℕ, _+_, _≤_, min}
 use mathlib.Core.Path.{_≡_, refl}
-use mathlib.Core.Bool.{Bool, true, false, not}
-use mathlib.Core.List.{List, [], _∷_, _++_}
+use mathlib.Core.Bool.{Bool, true, false}
+use mathlib.Core.List.{List}
 use native.Mathlib.Omega.{arith}
 use lib.ListN.{length, take}
 use lib.Dec.{ltb}
@@ -18,10 +18,10 @@ use Rattle.rules.specs.Profile.{allowsEvent, channels, allowsBearer}
 use Rattle.rules.specs.declared.Way.the-variants.{Receive, Send}
 use Rattle.rules.specs.State.{State, Chan, chan, withChan, isOpen, isEstablished, isDropped, room, closed, fresh, readied, dropped, held, appended, removed}
 use Rattle.rules.specs.Pool.{unpromised, grantFor}
-use Rattle.rules.specs.Reading.{Reading, Bearer, reading}
-use Rattle.rules.specs.Own.{Reply, Result, Status, reply, error, problem, done, nothing, opened, received, sent, bit1, plain, capped, openBefore, listing, listed, opening, closing, receiving, sending}
+use Rattle.rules.specs.Reading.{Bearer, reading}
+use Rattle.rules.specs.Own.{Reply, reply, error, problem, done, nothing, opened, received, sent, bit1, plain, capped, openBefore, listing, listed, opening, closing, receiving, sending}
 use Rattle.rules.specs.Written.{responseBytes}
-use Rattle.rules.specs.Command.{Answer, Meant, answered, refusal, command, meantBy}
+use Rattle.rules.specs.Command.{Answer, answered, refusal, command, meantBy}
 use Rattle.rules.specs.Bench.{causeProper}
 use Rattle.rules.specs.Radio.{numbered, arrivalEvent, arrival, taking, dropEvent, dropping}
 use Rattle.rules.proofs.Laws.{branch, not-not, either-right}

@@ -3,7 +3,7 @@
 use Prim.Native.Nat.{ℕ, _-_, _≤_, min}
 use mathlib.Core.Path.{_≡_, refl, sym, ap, subst, _∙_}
 use mathlib.Core.Bool.{Bool, true, false, not}
-use mathlib.Core.List.{List, [], _++_}
+use mathlib.Core.List.{List, _++_}
 use native.Mathlib.Omega.{arith}
 use lib.ListN.{length, take, drop, length-append}
 use lib.Seq.{drop-append-seam}
@@ -14,7 +14,7 @@ use Rattle.rules.specs.declared.Link.{Link}
 use Rattle.rules.specs.Words.{channelOf}
 use Rattle.rules.specs.declared.Way.{Way}
 use Rattle.rules.specs.declared.Way.the-variants.{Receive, Send}
-use Rattle.rules.specs.State.{State, closed, isOpen, isEstablished, isDropped, chan, withChan, room, Chan, queue, held}
+use Rattle.rules.specs.State.{State, closed, isOpen, isEstablished, isDropped, chan, withChan, room, Chan, held}
 use Rattle.rules.specs.Reading.{asked, reading, kindOf, Command, Bearer, closeChannel, receiveData, sendData}
 use Rattle.rules.specs.Own.{Reply, reply, Result, nothing, opened, received, sent, done, capped, plain, closing, receiving, sending, own}
 use Rattle.rules.specs.Command.{Answer, Outcome, wrote, meantBy}

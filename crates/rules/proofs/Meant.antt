@@ -16,7 +16,7 @@ use Rattle.rules.specs.Checks.{_⇒_else_, isEmpty, some-of, member}
 use Rattle.rules.specs.Words.{channelOf}
 use Rattle.rules.specs.Frames.{Object, contents}
 use Rattle.rules.specs.Table.{table, known, bearerFits}
-use Rattle.rules.specs.declared.Way.the-variants.{Receive, Send}
+use Rattle.rules.specs.declared.Way.the-variants.{Receive}
 use Rattle.rules.specs.Profile.{allowsBearer}
 use Rattle.rules.specs.State.{State, Chan, chan, isDropped, held}
 use Rattle.rules.specs.Pool.{unpromised}

@@ -1,17 +1,17 @@
 -- Every way in which the reading of a command can end, and what is known of a command that was read.
 -- Assumes nothing.
 use Prim.Native.Nat.{ℕ}
-use mathlib.Core.Path.{_≡_, refl, _∙_, sym, ap}
-use mathlib.Core.Bool.{Bool, true, false, not, _&&_, _||_}
-use mathlib.Core.List.{List, [], _∷_, map}
+use mathlib.Core.Path.{_≡_, refl, sym, ap}
+use mathlib.Core.Bool.{Bool, true, false, not, _||_}
+use mathlib.Core.List.{List, [], _∷_}
 use mathlib.Core.Option.{some, none}
 use lib.Dec.{eqb}
-use lib.ListN.{length, getD}
+use lib.ListN.{getD}
 use borrow.Author.Tests.{eqb-true}
 use Rattle.rules.specs.declared.Details.{Details}
-use Rattle.rules.specs.Checks.{_⇒_else_, isEmpty, every, some-of, member, same}
+use Rattle.rules.specs.Checks.{_⇒_else_, every, some-of, member, same}
 use Rattle.rules.specs.Frames.{Object, walk, contents}
-use Rattle.rules.specs.Table.{table, known, rowOf, rowAmong, sift, present, valueOf, complete, measured, lengthFits}
+use Rattle.rules.specs.Table.{table, known, rowOf, sift, present, valueOf, complete, measured, lengthFits}
 use Rattle.rules.specs.Profile.{allowsType}
 use Rattle.rules.specs.Reading.{Reading, Body, moreTime, eventList, openChannel, closeChannel, receiveData, sendData, channelStatus, other, bearerIn, pairIn, transportIn, wrong, asked, zeros, detailsIn, commandIn, bodyIn, kindOf, detailsOf, addressed, readObjects, reading}
 use Rattle.rules.specs.Bench.{errorProper}

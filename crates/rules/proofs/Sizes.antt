@@ -1,12 +1,12 @@
 -- Every response has at most 255 bytes, every event at most 16.
 -- Assumes nothing.
-use Prim.Native.Nat.{ℕ, zero, suc, _+_, _*_, _≤_, min}
-use mathlib.Core.Path.{_≡_, refl, sym, ap, subst, _∙_}
-use mathlib.Core.Bool.{Bool, true, false, not, _&&_, _||_, false≢true}
-use mathlib.Core.List.{List, [], _∷_, _++_, map}
+use Prim.Native.Nat.{ℕ, suc, _+_, _*_, _≤_, min}
+use mathlib.Core.Path.{_≡_, refl, subst}
+use mathlib.Core.Bool.{Bool, true, false, false≢true}
+use mathlib.Core.List.{List, [], _∷_, map}
 use native.Mathlib.Omega.{arith}
-use lib.ListN.{length, take, drop, getD, length-append, length-take}
-use lib.Dec.{ltb, eqb}
+use lib.ListN.{length, length-append, length-take}
+use lib.Dec.{eqb}
 use borrow.Author.Tests.{eqb-true}
 use Rattle.rules.specs.declared.ChannelNumber.{ChannelNumber}
 use Rattle.rules.specs.declared.Details.{Details}
@@ -19,15 +19,15 @@ use Rattle.rules.specs.Table.{table, rowAmong, rowOf, complete, present,
 use Rattle.rules.specs.Profile.{bit, allowsBearer}
 use Rattle.rules.specs.declared.Way.the-variants.{Receive, Send}
 use Rattle.rules.specs.State.{State, Chan, chan, held}
-use Rattle.rules.specs.Reading.{Reading, wrong, asked, reading, Command, Body, Bearer, moreTime, eventList, openChannel, closeChannel, receiveData, sendData, channelStatus, other, bodyIn, bearerIn, commandIn}
-use Rattle.rules.specs.Own.{Reply, Result, Further, Status, error, problem, done, nothing, opened, received, sent, statuses, capped, statusesFrom, own, protocolOf}
-use Rattle.rules.specs.Written.{flagged, unflagged, detailsBytes, bearerBytes, pairBytes, statusBytes, statusObject, statusObjects, furtherObjects, resultBytes, resultObjects, responseObjects, responseBytes, eventBytes}
-use Rattle.rules.specs.Command.{Answer, Outcome, wrote, refused, meantBy}
+use Rattle.rules.specs.Reading.{Reading, reading, Command, Body, Bearer, moreTime, eventList, openChannel, closeChannel, receiveData, sendData, channelStatus, other, bearerIn, commandIn}
+use Rattle.rules.specs.Own.{Reply, Result, Status, error, problem, done, nothing, opened, received, sent, statuses, statusesFrom, own, protocolOf}
+use Rattle.rules.specs.Written.{unflagged, detailsBytes, bearerBytes, pairBytes, statusBytes, statusObject, statusObjects, furtherObjects, resultBytes, resultObjects, responseObjects, responseBytes, eventBytes}
+use Rattle.rules.specs.Command.{Answer, meantBy}
 use Rattle.rules.specs.Radio.{arrivalEvent, dropEvent}
 use Rattle.rules.specs.Run.{Call, starting, commanding, arriving, takingOut, droppingLink, step}
 use Rattle.rules.specs.Sound.{Sound, most, Within}
 use Rattle.rules.proofs.Laws.{branch, both-left, both-right}
-use Rattle.rules.proofs.Cases.{Opens, Linked, arrival-cases, taking-cases, dropping-cases, command-cases, listing-cases, opening-cases, closing-cases, receiving-cases, sending-cases}
+use Rattle.rules.proofs.Cases.{arrival-cases, taking-cases, dropping-cases, command-cases, listing-cases, opening-cases, closing-cases, receiving-cases, sending-cases}
 use Rattle.rules.proofs.Readings.{Read, detailsRead, counted, reading-cases, body-cases, value-fits}
 
 -- a length takes at most two bytes, so an object at most three more than its value

@@ -3,30 +3,26 @@
 use Prim.Native.Nat.{ℕ, zero, suc, _+_, _-_, _*_, _≤_, _<_, min}
 use mathlib.Core.Path.{_≡_, refl, sym, ap, subst, _∙_}
 use mathlib.Core.Bool.{Bool, true, false, false≢true}
-use mathlib.Core.List.{List, [], _∷_, _++_}
+use mathlib.Core.List.{List, [], _∷_}
 use native.Mathlib.Omega.{arith}
-use native.Mathlib.Nat.{le-of-suc-le-suc, not-suc-le-zero}
-use lib.ListN.{length, getD, set, take, drop, replicate, length-append, length-drop, length-take, length-set}
-use lib.Dec.{leb}
-use borrow.Author.Tests.{leb-true}
+use lib.ListN.{length, getD, length-append, length-drop, length-take, length-set}
 use Rattle.rules.specs.declared.ChannelNumber.{ChannelNumber}
 use Rattle.rules.specs.declared.Link.{Link}
 use Rattle.rules.specs.declared.Link.the-variants.{Dropped}
 use Rattle.rules.specs.declared.Refusal.{Refusal}
-use Rattle.rules.specs.Checks.{_⇒_else_}
 use Rattle.rules.specs.Profile.{kept, channels}
 use Rattle.rules.specs.declared.Way.{Way}
 use Rattle.rules.specs.declared.Way.the-variants.{Receive, Send}
 use Rattle.rules.specs.State.{State, Chan, closed, isOpen, start, chan, withChan, room, fresh, readied, dropped, establish, queue, withQueue, held, joined, without, due, marked, appended, removed}
-use Rattle.rules.specs.Pool.{cells, promisedTo, promised, unpromised, grantFor}
+use Rattle.rules.specs.Pool.{cells, promisedTo, promised, unpromised}
 use Rattle.rules.specs.Words.{channelOf}
 use Rattle.rules.specs.Reading.{Reading, wrong, asked, reading, Command, Body, moreTime, eventList, openChannel, closeChannel, receiveData, sendData, channelStatus, other}
 use Rattle.rules.specs.Own.{Reply, bit1, openBefore, listed, own, protocolOf}
 use Rattle.rules.specs.Command.{Answer, refused, answered, meantBy}
 use Rattle.rules.specs.Run.{Call, starting, commanding, arriving, takingOut, droppingLink, step, after}
-use Rattle.rules.specs.Sound.{Each, SoundChan, Sound}
+use Rattle.rules.specs.Sound.{SoundChan, Sound}
 use Rattle.rules.proofs.Laws.{branch, by-way, each-get, each-set, each-replicate}
-use Rattle.rules.proofs.Cases.{Opens, Linked, arrival-cases, taking-cases, dropping-cases, command-cases, listing-cases, opening-cases, closing-cases, receiving-cases, sending-cases}
+use Rattle.rules.proofs.Cases.{arrival-cases, taking-cases, dropping-cases, command-cases, listing-cases, opening-cases, closing-cases, receiving-cases, sending-cases}
 use Rattle.rules.proofs.Grants.{Granted, grant-law, promised-set}
 
 -- the changes of one channel

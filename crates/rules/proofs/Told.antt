@@ -1,29 +1,26 @@
 -- What the answers tell is true of the state after them, and the first steps of a reading, one by one.
 -- Assumes nothing.
 use Prim.Native.Nat.{ℕ, zero, suc, _+_, _-_, _%_, _≤_, _<_}
-use mathlib.Core.Path.{_≡_, refl, sym, ap, _∙_}
-use mathlib.Core.Bool.{Bool, true, false, not, _&&_, false≢true}
+use mathlib.Core.Path.{_≡_, refl, ap, _∙_}
+use mathlib.Core.Bool.{true}
 use mathlib.Core.List.{List, [], _∷_, _++_}
 use native.Mathlib.Omega.{arith}
-use lib.ListN.{length, getD, set, take, replicate, length-append, List·getD-append, List·getD-eq-default}
-use lib.Seq.{getD-set-same, getD-set-other, getD-take, getD-append-add}
-use lib.Dec.{eqb}
-use borrow.Author.Tests.{ltb-false}
+use lib.ListN.{length, getD, replicate}
+use lib.Seq.{getD-set-same, getD-set-other, getD-take}
 use Rattle.rules.specs.declared.ChannelNumber.{ChannelNumber}
 use Rattle.rules.specs.declared.DeviceIdentity.{DeviceIdentity}
 use Rattle.rules.specs.declared.Ending.{Ending}
-use Rattle.rules.specs.Checks.{_⇒_else_, isEmpty}
+use Rattle.rules.specs.Checks.{isEmpty}
 use Rattle.rules.specs.Words.{identityOf, channelOf}
-use Rattle.rules.specs.Frames.{Object, ObjectRead, faulty, objectAt, onward, walkUpTo, walk}
+use Rattle.rules.specs.Frames.{ObjectRead, faulty, objectAt, onward, walkUpTo, walk}
 use Rattle.rules.specs.Profile.{bit, kept}
-use Rattle.rules.specs.declared.Way.the-variants.{Receive, Send}
+use Rattle.rules.specs.declared.Way.the-variants.{Receive}
 use Rattle.rules.specs.State.{State, Chan, closed, isOpen, chan, withChan, queue, withQueue, held, joined, appended}
 use Rattle.rules.specs.Reading.{readObjects, wrong, zeros}
-use Rattle.rules.specs.Own.{Reply, Result, done, problem, sent, capped, sending}
-use Rattle.rules.specs.Command.{Answer, wrote, answered, refusal}
+use Rattle.rules.specs.Command.{Answer, wrote}
 use Rattle.rules.specs.Radio.{arrival}
-use Rattle.rules.proofs.Laws.{branch, stop, skip}
-use Rattle.rules.proofs.Cases.{Linked, arrival-cases, sending-cases}
+use Rattle.rules.proofs.Laws.{stop, skip}
+use Rattle.rules.proofs.Cases.{arrival-cases}
 use Rattle.rules.proofs.Soundness.{open-place}
 
 -- a channel's number and its identity, there and back

@@ -1,16 +1,15 @@
 -- The walk, one object at a time.
 -- Assumes nothing.
-use Prim.Native.Nat.{ℕ, zero, suc, _+_, _-_, _≤_, _<_}
-use mathlib.Core.Path.{_≡_, refl, sym, ap, subst, _∙_}
-use mathlib.Core.Bool.{Bool, true, false}
+use Prim.Native.Nat.{ℕ, zero, suc, _-_, _≤_}
+use mathlib.Core.Path.{_≡_, refl, ap, subst, _∙_}
+use mathlib.Core.Bool.{Bool}
 use mathlib.Core.List.{List, [], _∷_}
 use native.Mathlib.Omega.{arith}
 use native.Mathlib.Nat.{le-of-suc-le-suc, not-suc-le-zero}
-use lib.ListN.{length, take, drop, length-drop}
+use lib.ListN.{length, length-drop}
 use Rattle.rules.specs.declared.Ending.{Ending}
 use Rattle.rules.specs.declared.Ending.the-variants.{End}
-use Rattle.rules.specs.Checks.{_⇒_else_}
-use Rattle.rules.specs.Frames.{LengthRead, len, noLength, longLength, lengthAt, ObjectRead, object, faulty, Object, Walk, TagRead, tag, noTag, tagAt, valueAfter, afterTag, objectAt, onward, walkUpTo, walk}
+use Rattle.rules.specs.Frames.{LengthRead, len, noLength, longLength, lengthAt, ObjectRead, object, faulty, Object, Walk, TagRead, tagAt, valueAfter, afterTag, objectAt, onward, walkUpTo, walk}
 use Rattle.rules.proofs.Laws.{branch}
 
 -- what is left after a length, and after an object, is shorter than what was there

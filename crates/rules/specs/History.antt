@@ -15,7 +15,7 @@ use Rattle.rules.specs.Frames.{walk, contents}
 use Rattle.rules.specs.Table.{rowOf, sift, valueOf}
 use Rattle.rules.specs.State.{State, establish}
 use Rattle.rules.specs.Reading.{Body, Command, moreTime, eventList, openChannel, closeChannel, receiveData, sendData, channelStatus, other, kindOf, detailsIn, commandIn}
-use Rattle.rules.specs.Own.{Further, Result, nothing, opened, received, sent, statuses, error, problem, done, bit1}
+use Rattle.rules.specs.Own.{Result, nothing, opened, received, sent, statuses, error, problem, done, bit1}
 use Rattle.rules.specs.Command.{Outcome, wrote, refused}
 use Rattle.rules.specs.Bench.{Told, told, untold, benchRead}
 use Rattle.rules.specs.Run.{Call, starting, commanding, arriving, takingOut, droppingLink, step}

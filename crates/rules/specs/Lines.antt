@@ -1,13 +1,13 @@
 -- "The line program": a line to a call or R9, an outcome to a printed line, and the program from lines to lines.
 use Prim.Native.Nat.{ℕ, _+_, _-_, _*_, _/_, _%_}
-use mathlib.Core.Bool.{Bool, true, false, not, _&&_, _||_}
-use mathlib.Core.List.{List, [], _∷_, _++_}
+use mathlib.Core.Bool.{Bool, true, false, _&&_, _||_}
+use mathlib.Core.List.{List, [], _∷_}
 use mathlib.Core.Option.{Option, none, some}
 use lib.ListN.{length, getD, drop}
 use lib.Dec.{ltb, leb, eqb}
 use Rattle.rules.specs.declared.ChannelNumber.{ChannelNumber}
 use Rattle.rules.specs.declared.Refusal.the-variants.{Unreadable}
-use Rattle.rules.specs.Checks.{_⇒_else_, isEmpty}
+use Rattle.rules.specs.Checks.{_⇒_else_}
 use Rattle.rules.specs.Words.{numberOf}
 use Rattle.rules.specs.State.{State, start}
 use Rattle.rules.specs.Reading.{pairIn}

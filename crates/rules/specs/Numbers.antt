@@ -7,7 +7,6 @@ use mathlib.Core.Path.{_≡_, refl}
 use mathlib.Core.List.{List, [], _∷_, _++_, map}
 use mathlib.Core.Option.{Option, none, some}
 use lib.ListN.{length}
-use Rattle.rules.specs.declared.ChannelNumber.{ChannelNumber}
 use Rattle.rules.specs.declared.Refusal.the-variants.{Unopened}
 use Rattle.rules.specs.Checks.{_⇒_else_, isEmpty, every, some-of, occurrences, member, same}
 use Rattle.rules.specs.Frames.{longLength, lengthAt, lengthBytes, tagAt, valueAfter, afterTag, objectAt, onward, walkUpTo, walk, objectBytes, written, fills, following, framed, contents, frame}

@@ -1,6 +1,6 @@
 -- "Bytes the modem writes": a response, and the two events.
 use Prim.Native.Nat.{ℕ, _+_, _/_, _%_}
-use mathlib.Core.Bool.{Bool, true, false}
+use mathlib.Core.Bool.{true, false}
 use mathlib.Core.List.{List, [], _∷_, _++_, map}
 use lib.ListN.{length}
 use Rattle.rules.specs.declared.ChannelNumber.{ChannelNumber}

@@ -13,7 +13,7 @@ use Rattle.rules.specs.State.{State, Chan, Queue, closed, chan, withChan, queue
 use Rattle.rules.specs.Pool.{poolSize, cells}
 use Rattle.rules.specs.Sound.{SoundChan, Sound}
 use Rattle.rules.proofs.Laws.{by-way}
-use Rattle.rules.proofs.Soundness.{chan-sound, appended-sound, removed-sound}
+use Rattle.rules.proofs.Soundness.{chan-sound, removed-sound}
 use Rattle.octets.specs.Parts.{part, pasted, cutOut, spread}
 use Rattle.octets.proofs.Pastes.{cut-parts, spread-parts}
 use Rattle.session.specs.Picture.{space, pad, region, poolOf, offset}

@@ -1,6 +1,6 @@
 -- What is known of a good session at the number of a channel, and the law of each change, over plain variables.
 -- Assumes nothing.
-use Prim.Native.Nat.{ℕ, zero, suc, _+_, _-_, _*_, _/_, _≤_, _<_}
+use Prim.Native.Nat.{ℕ, _+_, _-_, _*_, _≤_, _<_}
 use mathlib.Core.Path.{_≡_, refl, sym, ap, subst, _∙_}
 use mathlib.Core.List.{List}
 use native.Mathlib.Omega.{arith}
@@ -13,18 +13,18 @@ use Rattle.rules.specs.declared.Link.the-variants.{NotYet, Established, Dropped
 use Rattle.rules.specs.declared.Way.{Way}
 use Rattle.rules.specs.declared.Way.the-variants.{Receive, Send}
 use Rattle.rules.specs.State.{State, Chan, closed, chan, withChan, queue, withQueue, held, room, due, joined, without, marked, fresh, appended, removed}
-use Rattle.rules.specs.Pool.{cellCount, cellSize, poolSize, grantCap, cells, promisedTo, promised, unpromised}
+use Rattle.rules.specs.Pool.{cellSize, poolSize, grantCap, promisedTo, promised}
 use Rattle.rules.specs.Sound.{SoundChan, Sound}
 use Rattle.rules.proofs.Laws.{each-take}
 use Rattle.rules.proofs.Soundness.{chan-sound}
 use Rattle.octets.specs.Parts.{part, pasted, cutOut, spread}
 use Rattle.session.specs.declared.Channel.{Channel}
 use Rattle.session.specs.Book.{ledgerSize, entryIn, withEntry, withList}
-use Rattle.session.specs.Picture.{space, pad, regions, region, poolOf, linkNumber, linkOf, entry, ledgerOf, baseIn, offset, startIn, shown, Shows, GoodIn}
+use Rattle.session.specs.Picture.{space, regions, region, poolOf, linkNumber, linkOf, entry, ledgerOf, baseIn, offset, startIn, shown, Shows, GoodIn}
 use Rattle.session.specs.Changed.{Numbered, chanIn, Changed, heldIn, dueIn, moreIn, lessIn, Marks, withEvents}
 use Rattle.session.proofs.Ledgers.{ledger-size, entry-read, base-read, entry-written, list-written}
 use Rattle.session.proofs.Regions.{length-regions, length-pad, front, used, used-parts, used-fits, length-region, held-space}
-use Rattle.session.proofs.Views.{link-back, number-back}
+use Rattle.session.proofs.Views.{number-back}
 use Rattle.session.proofs.Changes.{appended-pool, removed-pool, held-part, closed-pool, opened-pool, marked-pool, due-held}
 
 -- the counts of an entry are those of the channel, for either way

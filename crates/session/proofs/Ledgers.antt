@@ -7,7 +7,7 @@ use mathlib.Core.List.{List, [], _∷_, _++_, append-assoc}
 use native.Mathlib.Omega.{arith}
 use native.Mathlib.Nat.{le-of-suc-le-suc, not-suc-le-zero, zero-add}
 use lib.ListN.{length, take, drop, getD, set, length-append, getD-replicate, List·getD-append}
-use lib.Seq.{set-at, take-at, drop-at, getD-at, take-suc, getD-append-add, take-append-add, drop-append-add, sets, sets-eq}
+use lib.Seq.{set-at, take-at, drop-at, getD-at, getD-append-add, take-append-add, drop-append-add, sets-eq}
 use Rattle.rules.specs.declared.Events.{Events}
 use Rattle.rules.specs.declared.ChannelNumber.{ChannelNumber}
 use Rattle.rules.specs.Profile.{profileSize}
@@ -15,7 +15,7 @@ use Rattle.rules.specs.State.{State, Chan, closed, chan, withChan, queue}
 use Rattle.rules.specs.Pool.{cellSize, cells, promisedTo}
 use Rattle.octets.specs.Parts.{pasted}
 use Rattle.session.specs.declared.Channel.{Channel}
-use Rattle.session.specs.Book.{availableAt, statusAt, channelsAt, entrySize, ledgerSize, entryAt, entryFrom, numbersOf, entryIn, withEntry, listed, listedNumber, withList}
+use Rattle.session.specs.Book.{availableAt, statusAt, channelsAt, entrySize, ledgerSize, entryAt, numbersOf, entryIn, withEntry, listed, listedNumber, withList}
 use Rattle.session.specs.Picture.{space, linkNumber, entry, entriesOf, ledgerOf, baseIn}
 use Rattle.session.specs.Changed.{withEvents}
 

@@ -6,21 +6,20 @@ use mathlib.Core.Bool.{Bool, true, false}
 use mathlib.Core.List.{List, [], _∷_}
 use native.Mathlib.Omega.{arith}
 use native.Mathlib.Nat.{le-of-suc-le-suc, not-suc-le-zero}
-use lib.ListN.{length, take, drop, getD}
-use lib.Seq.{getD-take, getD-drop}
-use lib.Dec.{ltb, eqb}
-use borrow.Author.Tests.{ltb-true, ltb-false, eqb-true, eqb-false}
+use lib.ListN.{length, take, getD}
+use lib.Seq.{getD-take}
+use lib.Dec.{ltb}
+use borrow.Author.Tests.{ltb-true, ltb-false}
 use Rattle.rules.specs.declared.ChannelNumber.{ChannelNumber}
 use Rattle.rules.specs.declared.Way.{Way}
 use Rattle.rules.specs.declared.Way.the-variants.{Receive, Send}
 use Rattle.rules.specs.State.{State, Chan, closed, chan, withChan, held}
 use Rattle.rules.specs.Pool.{cellSize, grantCap, cells, promisedTo, promised, unpromised, grantFor}
-use Rattle.rules.specs.Sound.{Each, SoundChan, Sound}
+use Rattle.rules.specs.Sound.{SoundChan, Sound}
 use Rattle.rules.proofs.Laws.{each-take}
 use Rattle.rules.proofs.Grants.{promised-set, grant-whole}
 use Rattle.rules.proofs.Soundness.{chan-sound}
 use Rattle.rules.proofs.Told.{chan-other}
-use Rattle.octets.specs.Parts.{part}
 use Rattle.octets.proofs.Copies.{part-get}
 use Rattle.session.specs.Picture.{space, poolOf, offset}
 use Rattle.session.specs.Cells.{firstCell, Promised}

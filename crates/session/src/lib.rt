@@ -7,7 +7,7 @@ use rules::Link;
 use rules::Refusal;
 use rules::Way;
 ghost use mathlib.Core.Path.{_≡_};
-ghost use Prim.Native.Nat.{ℕ, _+_, _-_, _*_, _/_, _≤_, min};
+ghost use Prim.Native.Nat.{_+_, _-_, _*_, _/_, _≤_, min};
 ghost use lib.ListN.{length};
 ghost use Rattle.rules.specs.Pool.{cellCount, cellSize, poolSize, cells, unpromised};
 ghost use Rattle.rules.specs.State.{start, room, due, closed, fresh, marked, appended, removed};

@@ -5,8 +5,6 @@ use Rattle.rules.specs.Own.{plain}
 use Rattle.rules.proofs.Laws.{stop, skip}
 use Rattle.own.proofs.plain.Statement.{statement}
 use Rattle.own.proofs.plain.Tie as tie
-use Rattle.own.proofs.plain.Reads as reads
-use Rattle.own.proofs.plain.Lts as lts
 
 returns : tie.Need-returns
 unfolding plain

@@ -1,7 +1,6 @@
 -- `own::receive` meets its contract: the law of each way out, at what it calls.
 -- Assumes nothing.
 use native.Mathlib.Omega.{arith}
-use Prim.Native.Nat.{_≤_}
 use Rattle.rules.specs.declared.Way.the-variants.{Receive}
 use Rattle.session.specs.Changed.{heldIn}
 use Rattle.session.proofs.Facts.{bounds, held-within}

@@ -5,9 +5,6 @@ use Rattle.rules.proofs.Laws.{stop, skip}
 use borrow.Author.Needs.{needs}
 use Rattle.own.proofs.short_or.Statement.{statement}
 use Rattle.own.proofs.short_or.Tie as tie
-use Rattle.own.proofs.short_or.Reads as reads
-use Rattle.own.proofs.short_or.Lts as lts
-use Rattle.own.proofs.plain.Reads as plain-reads
 
 returns : tie.Need-returns
 returns c = sym (stop _ _ _ (c .if1 .taken))

@@ -4,8 +4,6 @@ use Rattle.rules.specs.Written.{statusBytes}
 use borrow.Author.Needs.{needs}
 use Rattle.responses.proofs.status.Statement.{statement}
 use Rattle.responses.proofs.status.Tie as tie
-use Rattle.responses.proofs.status.Reads as reads
-use Rattle.responses.proofs.status.Lts as lts
 
 enum-told : tie.Need-enum-told
 enum-told c = search needs

@@ -5,9 +5,6 @@ use Rattle.responses.proofs.Writes.{problem-stands}
 use borrow.Author.Needs.{needs}
 use Rattle.responses.proofs.tell_problem.Statement.{statement}
 use Rattle.responses.proofs.tell_problem.Tie as tie
-use Rattle.responses.proofs.tell_problem.Reads as reads
-use Rattle.responses.proofs.tell_problem.Lts as lts
-use Rattle.octets.proofs.put.Reads as put-reads
 
 slice-aggregate-put : tie.Need-slice-aggregate-put
 slice-aggregate-put c = search needs

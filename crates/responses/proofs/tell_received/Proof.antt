@@ -10,12 +10,6 @@ use Rattle.responses.proofs.Writes.{after-head, whole-part, received-si
 use borrow.Author.Needs.{needs}
 use Rattle.responses.proofs.tell_received.Statement.{statement}
 use Rattle.responses.proofs.tell_received.Tie as tie
-use Rattle.responses.proofs.tell_received.Reads as reads
-use Rattle.responses.proofs.tell_received.Lts as lts
-use Rattle.octets.proofs.put.Reads as put-reads
-use Rattle.octets.proofs.put_part.Reads as put-part-reads
-use Rattle.objects.proofs.write_length.Reads as write-length-reads
-use Rattle.responses.proofs.tell_result.Reads as tell-result-reads
 
 tell-result-requires : tie.Need-tell-result-requires
 tell-result-requires c κs = search needs

@@ -5,9 +5,6 @@ use Rattle.responses.proofs.Writes.{head-stands}
 use borrow.Author.Needs.{needs}
 use Rattle.responses.proofs.tell_result.Statement.{statement}
 use Rattle.responses.proofs.tell_result.Tie as tie
-use Rattle.responses.proofs.tell_result.Reads as reads
-use Rattle.responses.proofs.tell_result.Lts as lts
-use Rattle.octets.proofs.put.Reads as put-reads
 
 slice-aggregate-put : tie.Need-slice-aggregate-put
 slice-aggregate-put c = search needs

@@ -6,10 +6,6 @@ use Rattle.responses.proofs.Writes.{after-head, head-size, sent-stands}
 use borrow.Author.Needs.{needs}
 use Rattle.responses.proofs.tell_sent.Statement.{statement}
 use Rattle.responses.proofs.tell_sent.Tie as tie
-use Rattle.responses.proofs.tell_sent.Reads as reads
-use Rattle.responses.proofs.tell_sent.Lts as lts
-use Rattle.octets.proofs.put.Reads as put-reads
-use Rattle.responses.proofs.tell_result.Reads as tell-result-reads
 
 tell-result-requires : tie.Need-tell-result-requires
 tell-result-requires c κs = search needs

@@ -11,11 +11,6 @@ use Rattle.responses.proofs.Statuses.{status-bytes}
 use borrow.Author.Needs.{needs}
 use Rattle.responses.proofs.tell_status.Statement.{statement}
 use Rattle.responses.proofs.tell_status.Tie as tie
-use Rattle.responses.proofs.tell_status.Reads as reads
-use Rattle.responses.proofs.tell_status.Lts as lts
-use Rattle.octets.proofs.put.Reads as put-reads
-use Rattle.responses.proofs.status.Reads as status-reads
-use Rattle.session.proofs.link_of.Reads as link-of-reads
 
 link-of-requires : tie.Need-link-of-requires
 link-of-requires c κs = search needs

@@ -1,10 +1,9 @@
 -- `session::base` meets its contract: each turn adds the region of one channel more.
 -- Assumes nothing.
-use Prim.Native.Nat.{ℕ, _+_, _-_, _*_, _≤_}
+use Prim.Native.Nat.{_+_, _-_, _*_, _≤_}
 use mathlib.Core.Path.{_≡_, refl, sym, ap, _∙_}
 use native.Mathlib.Omega.{arith}
 use native.Mathlib.Numerals.{add-one}
-use lib.ListN.{length}
 use denote.Ref.{now}
 use Rattle.session.specs.Picture.{baseIn, space}
 use Rattle.session.proofs.base.Statement.{statement}

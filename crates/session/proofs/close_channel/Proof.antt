@@ -1,7 +1,6 @@
 -- `session::close_channel` meets its contract: the law of the change, at what it calls.
 -- Assumes nothing.
-use Prim.Native.Nat.{_+_, _*_}
-use mathlib.Core.Path.{_∙_, ap}
+use mathlib.Core.Path.{ap}
 use native.Mathlib.Omega.{arith}
 use Rattle.session.specs.Picture.{space}
 use Rattle.session.proofs.Facts.{bounds, close-law}

@@ -1,7 +1,5 @@
 -- `session::open_channel` meets its contract: the law of the change, at what it calls.
 -- Assumes nothing.
-use Prim.Native.Nat.{_+_, _*_}
-use mathlib.Core.Path.{_∙_}
 use native.Mathlib.Omega.{arith}
 use Rattle.rules.specs.Pool.{unpromised}
 use Rattle.session.specs.Picture.{space}

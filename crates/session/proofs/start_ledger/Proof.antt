@@ -1,11 +1,11 @@
 -- `session::start_ledger` meets its contract: zeros, and over them what is kept of the profile.
 -- Assumes nothing.
 use Prim.Native.Nat.{ℕ, _+_, _-_, min}
-use mathlib.Core.Path.{_≡_, refl, sym, ap, subst, _∙_}
+use mathlib.Core.Path.{_≡_, sym, ap, subst, _∙_}
 use mathlib.Core.List.{List}
 use native.Mathlib.Omega.{arith}
 use native.Mathlib.Nat.{zero-add}
-use lib.ListN.{length, getD, set, replicate, getD-replicate, length-replicate}
+use lib.ListN.{length, getD, set, replicate, getD-replicate}
 use denote.Ref.{now}
 use Rattle.rules.specs.Profile.{profileSize}
 use Rattle.octets.specs.Parts.{part}

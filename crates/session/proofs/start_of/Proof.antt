@@ -1,10 +1,9 @@
 -- `session::start_of` meets its contract: each way of the definition.
 -- Assumes nothing.
 use Prim.Native.Nat.{_+_}
-use mathlib.Core.Path.{_≡_, sym, ap, _∙_}
+use mathlib.Core.Path.{sym, ap, _∙_}
 use native.Mathlib.Nat.{add-zero}
 use denote.Ref.{now}
-use Rattle.rules.specs.declared.Way.{Way}
 use Rattle.session.specs.Picture.{offset, space, startIn}
 use borrow.Author.Needs.{needs}
 use Rattle.session.proofs.start_of.Statement.{statement}

@@ -5,8 +5,6 @@ use Rattle.rules.specs.Pool.{cells}
 use borrow.Author.Needs.{needs}
 use Rattle.pool.proofs.Pool.cells.Statement.{statement}
 use Rattle.pool.proofs.Pool.cells.Tie as tie
-use Rattle.pool.proofs.Pool.cells.Reads as reads
-use Rattle.pool.proofs.Pool.cells.Lts as lts
 
 add-result : tie.Need-add-result
 add-result c = search needs

@@ -1,17 +1,13 @@
 -- `pool::Pool::grant` meets its contract: each answer is that of the law for its case.
 -- Assumes nothing.
-use Prim.Native.Nat.{ℕ, _*_, _≤_, _<_, min}
+use Prim.Native.Nat.{ℕ, _*_, _≤_, _<_}
 use mathlib.Core.Path.{sym, subst, ap, _∙_}
 use native.Mathlib.Omega.{arith}
-use Rattle.rules.specs.Pool.{cells, grantFor}
+use Rattle.rules.specs.Pool.{cells}
 use Rattle.rules.proofs.Grants.{grant-whole, grant-half}
 use borrow.Author.Needs.{needs}
 use Rattle.pool.proofs.Pool.grant.Statement.{statement}
 use Rattle.pool.proofs.Pool.grant.Tie as tie
-use Rattle.pool.proofs.Pool.grant.Reads as reads
-use Rattle.pool.proofs.Pool.grant.Lts as lts
-use Rattle.pool.proofs.Pool.cells.Reads as cells-reads
-use Rattle.pool.proofs.Pool.within_cap.Reads as within-cap-reads
 
 within-cap-requires : tie.Need-within-cap-requires
 within-cap-requires c κs = search needs

@@ -5,9 +5,6 @@ use Rattle.rules.specs.Pool.{cells}
 use borrow.Author.Needs.{needs}
 use Rattle.pool.proofs.Pool.space.Statement.{statement}
 use Rattle.pool.proofs.Pool.space.Tie as tie
-use Rattle.pool.proofs.Pool.space.Reads as reads
-use Rattle.pool.proofs.Pool.space.Lts as lts
-use Rattle.pool.proofs.Pool.cells.Reads as cells-reads
 
 cells-requires : tie.Need-cells-requires
 cells-requires c κs = search needs
