@@ -68,7 +68,12 @@ fn arrival_packed(
 }
 
 // The take over the lent arrays.
-fn take_packed(ledger: &mut [u16; Ledger::SIZE], pool: &mut [u8; Pool::SIZE], channel: u8, out: &mut [u8]) -> u32
+fn take_packed(
+    ledger: &mut [u16; Ledger::SIZE],
+    pool: &mut [u8; Pool::SIZE],
+    channel: u8,
+    out: &mut [u8],
+) -> u32
     requires { ⌜ GoodIn (now ledger) (now pool) ⌝ }
     ensures { λ r. ⌜ Packs (taking (shown (now (ledger .entry)) (now (pool .entry))) (length (now (out .entry))) (record { 0 = channel })) (now (ledger .exit)) (now (pool .exit)) r (now (out .entry)) (now (out .exit)) ⌝ }
 {
@@ -76,7 +81,12 @@ fn take_packed(ledger: &mut [u16; Ledger::SIZE], pool: &mut [u8; Pool::SIZE], ch
 }
 
 // The drop over the lent arrays.
-fn drop_packed(ledger: &mut [u16; Ledger::SIZE], pool: &mut [u8; Pool::SIZE], channel: u8, out: &mut [u8]) -> u32
+fn drop_packed(
+    ledger: &mut [u16; Ledger::SIZE],
+    pool: &mut [u8; Pool::SIZE],
+    channel: u8,
+    out: &mut [u8],
+) -> u32
     requires { ⌜ GoodIn (now ledger) (now pool) ⌝ }
     ensures { λ r. ⌜ Packs (dropping (shown (now (ledger .entry)) (now (pool .entry))) (length (now (out .entry))) (record { 0 = channel })) (now (ledger .exit)) (now (pool .exit)) r (now (out .entry)) (now (out .exit)) ⌝ }
 {

@@ -7,7 +7,7 @@ use mathlib.Core.List.{List, [], _∷_, _++_, append-assoc}
 use native.Mathlib.Omega.{arith}
 use native.Mathlib.Nat.{le-of-suc-le-suc, not-suc-le-zero, zero-add}
 use lib.ListN.{length, take, drop, getD, set, length-append, getD-replicate, List·getD-append}
-use lib.Seq.{set-at, take-at, drop-at, getD-at, getD-append-add, take-append-add, drop-append-add, sets-eq}
+use lib.Seq.{take-at, drop-at, getD-append-add, take-append-add, drop-append-add, sets-eq}
 use Rattle.rules.specs.declared.Events.{Events}
 use Rattle.rules.specs.declared.ChannelNumber.{ChannelNumber}
 use Rattle.rules.specs.Profile.{profileSize}
@@ -16,7 +16,7 @@ use Rattle.rules.specs.Pool.{cellSize, cells, promisedTo}
 use Rattle.octets.specs.Parts.{pasted}
 use Rattle.session.specs.declared.Channel.{Channel}
 use Rattle.session.specs.Book.{availableAt, statusAt, channelsAt, entrySize, ledgerSize, entryAt, numbersOf, entryIn, withEntry, listed, listedNumber, withList}
-use Rattle.session.specs.Picture.{space, linkNumber, entry, entriesOf, ledgerOf, baseIn}
+use Rattle.session.specs.Picture.{space, linkNumber, entry, entriesOf, headsOf, ledgerOf, baseIn}
 use Rattle.session.specs.Changed.{withEvents}
 
 -- an entry put number by number
@@ -72,23 +72,29 @@ listed-back : (b : Bool) → listed (listedNumber b) ≡ b
 listed-back true = refl
 listed-back false = refl
 
-module _ (a : State) (thirteen : length (a .profile) ≡ profileSize) where
-  abbrev first : ℕ
-  first = listedNumber (a .events .available)
+-- a number behind the front of a list
+set-behind : (p q : List ℕ) (i v : ℕ) → set (p ++ q) (length p + i) v ≡ p ++ set q i v
+set-behind [] q i v = ap (λ (k : ℕ). set q k v) (zero-add i)
+set-behind (x ∷ p) q i v =
+    ap (λ (k : ℕ). set (x ∷ (p ++ q)) k v) (let e : suc (length p) + i ≡ suc (length p + i) = omega arith in e)
+    ∙ ap (λ (l : List ℕ). x ∷ l) (set-behind p q i v)
 
-  abbrev second : ℕ
-  second = listedNumber (a .events .status)
+module _ (a : State) (thirteen : length (a .profile) ≡ profileSize) where
+  -- what stands behind the profile
+  abbrev rest : List ℕ
+  rest = headsOf a ++ entriesOf (a .chans)
 
   -- what stands before the entries
   abbrev front : List ℕ
-  front = a .profile ++ (first ∷ second ∷ [])
+  front = a .profile ++ headsOf a
 
   front-size : length front ≡ channelsAt
-  front-size = length-append (a .profile) (first ∷ second ∷ []) ∙ ap (λ (k : ℕ). k + 2) thirteen
+  unfolding headsOf
+  front-size = length-append (a .profile) (headsOf a) ∙ ap (λ (k : ℕ). k + length (headsOf a)) thirteen
 
   parts : ledgerOf a ≡ front ++ entriesOf (a .chans)
   unfolding ledgerOf
-  parts = sym (append-assoc (a .profile) (first ∷ second ∷ []) (entriesOf (a .chans)))
+  parts = sym (append-assoc (a .profile) (headsOf a) (entriesOf (a .chans)))
 
   pub ledger-size : length (a .chans) ≡ 7 → length (ledgerOf a) ≡ ledgerSize
   ledger-size seven =
@@ -99,20 +105,33 @@ module _ (a : State) (thirteen : length (a .profile) ≡ profileSize) where
 
   pub profile-before : take profileSize (ledgerOf a) ≡ a .profile
   unfolding ledgerOf
-  profile-before = take-at (a .profile) (first ∷ second ∷ entriesOf (a .chans)) profileSize thirteen
+  profile-before = take-at (a .profile) rest profileSize thirteen
+
+  -- the numbers behind the profile, read and written
+  head-read : (i at : ℕ) → at ≡ profileSize + i → getD (ledgerOf a) at 0 ≡ getD rest i 0
+  unfolding ledgerOf
+  head-read i at e =
+      ap (λ (k : ℕ). getD (ledgerOf a) k 0) (let q : at ≡ length (a .profile) + i = omega arith in q) ∙ getD-append-add (a .profile) rest i 0
 
   pub available-read : listed (getD (ledgerOf a) availableAt 0) ≡ a .events .available
-  unfolding ledgerOf
-  available-read =
-      ap listed (getD-at (a .profile) first (second ∷ entriesOf (a .chans)) 0 availableAt thirteen) ∙ listed-back (a .events .available)
+  unfolding headsOf
+  available-read = ap listed (head-read 0 availableAt refl) ∙ listed-back (a .events .available)
 
   pub status-read : listed (getD (ledgerOf a) statusAt 0) ≡ a .events .status
-  unfolding ledgerOf
-  status-read =
-      ap listed
-      (ap (λ (t : List ℕ). getD t statusAt 0) (sym (append-assoc (a .profile) (first ∷ []) (second ∷ entriesOf (a .chans))))
-      ∙ getD-at (a .profile ++ (first ∷ [])) second (entriesOf (a .chans)) 0 statusAt (length-append (a .profile) (first ∷ []) ∙ ap (λ (k : ℕ). k + 1) thirteen))
-      ∙ listed-back (a .events .status)
+  unfolding headsOf
+  status-read = ap listed (head-read 1 statusAt refl) ∙ listed-back (a .events .status)
+
+  head-written : (q : List ℕ) (i at v : ℕ) → at ≡ profileSize + i → set (a .profile ++ q) at v ≡ a .profile ++ set q i v
+  head-written q i at v e =
+      ap (λ (k : ℕ). set (a .profile ++ q) k v) (let r : at ≡ length (a .profile) + i = omega arith in r) ∙ set-behind (a .profile) q i v
+
+  -- another event list
+  pub list-written : (e : Events) → withList (ledgerOf a) e ≡ ledgerOf (withEvents a e)
+  unfolding withList ledgerOf headsOf
+  list-written e =
+      let x = listedNumber (e .available) in
+      let y = listedNumber (e .status) in
+      ap (λ (l : List ℕ). set l statusAt y) (head-written rest 0 availableAt x refl) ∙ head-written (set rest 0 x) 1 statusAt y refl
 
   number-read : (k j at : ℕ) → j < entrySize → at ≡ entryAt k + j → getD (ledgerOf a) at 0 ≡ getD (numbersOf (entry (getD (a .chans) k closed))) j 0
   number-read k j at h e =
@@ -153,7 +172,7 @@ module _ (a : State) (thirteen : length (a .profile) ≡ profileSize) where
 
   -- another entry in the place of a channel
   pub entry-written : (n : ChannelNumber) (d : Chan) → n .0 - 1 < length (a .chans) → withEntry (ledgerOf a) n (entry d) ≡ ledgerOf (withChan a n d)
-  unfolding withEntry pasted withChan ledgerOf
+  unfolding withEntry pasted withChan ledgerOf headsOf
   entry-written n d h =
       let k = n .0 - 1 in
       let y = entriesOf (a .chans) in
@@ -163,16 +182,4 @@ module _ (a : State) (thirteen : length (a .profile) ≡ profileSize) where
       ∙ (λ i. take-append-add front y (entrySize * k) i ++ (numbersOf (entry d) ++ drop-append-add front y (entrySize * k + entrySize) i))
       ∙ append-assoc front (take (entrySize * k) y) (numbersOf (entry d) ++ drop (entrySize * k + entrySize) y)
       ∙ ap (λ (z : List ℕ). front ++ z) (entries-set (a .chans) k d h)
-      ∙ append-assoc (a .profile) (first ∷ second ∷ []) (entriesOf (set (a .chans) k d))
-
-  -- another event list
-  pub list-written : (e : Events) → withList (ledgerOf a) e ≡ ledgerOf (withEvents a e)
-  unfolding withList ledgerOf
-  list-written e =
-      let x = listedNumber (e .available) in
-      let y = listedNumber (e .status) in
-      let r = entriesOf (a .chans) in
-      ap (λ (l : List ℕ). set l statusAt y) (set-at (a .profile) first (second ∷ r) x availableAt thirteen)
-      ∙ ap (λ (l : List ℕ). set l statusAt y) (sym (append-assoc (a .profile) (x ∷ []) (second ∷ r)))
-      ∙ set-at (a .profile ++ (x ∷ [])) second r y statusAt (length-append (a .profile) (x ∷ []) ∙ ap (λ (j : ℕ). j + 1) thirteen)
-      ∙ append-assoc (a .profile) (x ∷ []) (y ∷ r)
+      ∙ append-assoc (a .profile) (headsOf a) (entriesOf (set (a .chans) k d))

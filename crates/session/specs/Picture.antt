@@ -63,11 +63,13 @@ unfoldable pub entriesOf : List Chan → List ℕ
 entriesOf [] = []
 entriesOf (c ∷ cs) = numbersOf (entry c) ++ entriesOf cs
 
--- the ledger: the profile, the event list, and an entry for each channel
+-- the numbers between the profile and the entries: whether 09 and 0A are listed
+unfoldable pub headsOf : State → List ℕ
+headsOf a = listedNumber (a .events .available) ∷ listedNumber (a .events .status) ∷ []
+
+-- the ledger: the profile, these, and an entry for each channel
 unfoldable pub ledgerOf : State → List ℕ
-ledgerOf a =
-    a .profile ++
-    (listedNumber (a .events .available) ∷ listedNumber (a .events .status) ∷ entriesOf (a .chans))
+ledgerOf a = a .profile ++ (headsOf a ++ entriesOf (a .chans))
 
 unfoldable pub picture : State → Session
 picture a = record { ledger = ledgerOf a; pool = poolOf a }
