@@ -10,25 +10,10 @@ use Rattle.host.proofs.pack.Reads as reads
 use Rattle.host.proofs.pack.Lts as lts
 use Rattle.rules.proofs.Refusal.number.Reads as number-reads
 
-enum-known-ended : tie.Need-enum-known-ended
-enum-known-ended c = search needs
-
 cast-result : tie.Need-cast-result
 unfolding Fits
 cast-result c =
     let h = subst Fits (c .before .ended .given .1) (c .before .before .before .pre) in record { fits = omega (arith, h) }
-
-enum-known-ended-2 : tie.Need-enum-known-ended-2
-enum-known-ended-2 c = search needs
-
-number-requires : tie.Need-number-requires
-number-requires c κs = search needs
-
-cast-result-2 : tie.Need-cast-result-2
-cast-result-2 c = search needs
-
-add-result : tie.Need-add-result
-add-result c = search needs
 
 returns : tie.Need-returns
 unfolding packed
@@ -41,4 +26,12 @@ returns-2 c = rw (c .before .before .ended2 .given .1, c .number .ensures)
 pub pack-spec : {M : Type 1} → statement M
 pack-spec =
     tie.close
-    (tie.spec enum-known-ended cast-result enum-known-ended-2 number-requires cast-result-2 add-result returns returns-2)
+    (tie.spec
+    (λ c. search needs)
+    cast-result
+    (λ c. search needs)
+    (λ c κs. search needs)
+    (λ c. search needs)
+    (λ c. search needs)
+    returns
+    returns-2)

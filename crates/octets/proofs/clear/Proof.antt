@@ -13,23 +13,11 @@ Inv-loop d₀ at end n i₀ d i = Copied d₀ at (replicate (end - at) 0) i d
 abbrev μ-loop : tie.MeasureT-loop
 μ-loop d₀ at end n i₀ d i = n - i
 
-sub-n : tie.Need-sub-n Inv-loop μ-loop
-sub-n c = omega arith
-
 loop-holds : tie.Need-loop-holds Inv-loop μ-loop
 loop-holds c = clear-none _ _ _ (c .pre)
 
-add-d : tie.Need-add-d Inv-loop μ-loop
-add-d c = omega arith
-
 slice-write-d : tie.Need-slice-write-d Inv-loop μ-loop
 slice-write-d c = omega (arith, c .before .loop .inv .same)
-
-add-i : tie.Need-add-i Inv-loop μ-loop
-add-i c = omega arith
-
-loop-less : tie.Need-loop-less Inv-loop μ-loop
-loop-less c = omega arith
 
 loop-again : tie.Need-loop-again Inv-loop μ-loop
 loop-again c = clear-more _ _ _ (c .before .before .pre) _ _ (c .before .loop .inv) (c .loop-test .taken)
@@ -46,12 +34,12 @@ clear-spec =
     (tie.spec
     Inv-loop
     μ-loop
-    sub-n
+    (λ c. omega arith)
     loop-holds
-    add-d
+    (λ c. omega arith)
     slice-write-d
-    add-i
-    loop-less
+    (λ c. omega arith)
+    (λ c. omega arith)
     loop-again
     same-length
     returns)

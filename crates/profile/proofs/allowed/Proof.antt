@@ -22,4 +22,12 @@ returns c =
     ap (λ (w : ℕ). eqb (getD (now (s .args .profile)) (s .args .place .byte - 1) 0 / w % 2) 1) (c .weight .ensures)
 
 pub allowed-spec : {M : Type 1} → statement M
-allowed-spec = tie.close (tie.spec (λ c. search needs) (λ c. search needs) (λ c. search needs) (λ c κs. search needs) div-result returns)
+allowed-spec =
+    tie.close
+    (tie.spec
+    (λ c. search needs)
+    (λ c. search needs)
+    (λ c. search needs)
+    (λ c κs. search needs)
+    div-result
+    returns)

@@ -8,15 +8,6 @@ use Rattle.responses.proofs.status.Tie as tie
 enum-told : tie.Need-enum-told
 enum-told c = search needs
 
-enum-told-2 : tie.Need-enum-told-2
-enum-told-2 c = search needs
-
-add-t4 : tie.Need-add-t4
-add-t4 c = search needs
-
-enum-told-3 : tie.Need-enum-told-3
-enum-told-3 c = search needs
-
 returns : tie.Need-returns
 unfolding statusBytes
 returns c = rw (c .enum-told .given .1)
@@ -30,5 +21,4 @@ unfolding statusBytes
 returns-3 c = rw (c .enum-told3 .given .1)
 
 pub status-spec : {M : Type 1} → statement M
-status-spec =
-    tie.close (tie.spec enum-told enum-told-2 add-t4 enum-told-3 returns returns-2 returns-3)
+status-spec = tie.close (tie.spec enum-told (λ c. search needs) (λ c. search needs) (λ c. search needs) returns returns-2 returns-3)

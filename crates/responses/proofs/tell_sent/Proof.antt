@@ -7,31 +7,30 @@ use borrow.Author.Needs.{needs}
 use Rattle.responses.proofs.tell_sent.Statement.{statement}
 use Rattle.responses.proofs.tell_sent.Tie as tie
 
-tell-result-requires : tie.Need-tell-result-requires
-tell-result-requires c κs = search needs
-
-slice-aggregate-put : tie.Need-slice-aggregate-put
-slice-aggregate-put c = search needs
+-- the function's start, from the place that the needs name next to it
+abbrev start : tie.After-tell-result → tie.Start
+start c = c .before .before .before
 
 put-requires : tie.Need-put-requires
 put-requires c κs =
-    let s = c .before .before .before .before .before .before .before in
-    let h = c .before .before .before .before .tell-result .ensures in
+    let after-tell-result : tie.After-tell-result = search in
+    let at-start = start after-tell-result in
+    let s = at-start in
+    let h = after-tell-result .tell-result .ensures in
     after-head _ _ _ _ _ 3 h (s .pre)
 
 add-result : tie.Need-add-result
 add-result c =
-    omega (arith, c .before .before .before .before .before .before .before .tell-result .ensures .counted, head-size (c .before .before .before .before .before .before .before .before .before .before .args .d) (c .before .before .before .before .before .before .before .before .before .before .args .result))
-
-same-length : tie.Need-same-length
-same-length c = search needs
+    let after-tell-result : tie.After-tell-result = search in
+    let at-start = start after-tell-result in
+    omega (arith, after-tell-result .tell-result .ensures .counted, head-size (at-start .args .d) (at-start .args .result))
 
 returns : tie.Need-returns
 returns c =
-    let s = c .before .before .before .before .before .before .before .before .before .before in
-    sent-stands (s .args .d) (s .args .result) (s .args .room) _ (now (s .args .out)) _ _ (c .before .before .before .before .before .before .before .tell-result .ensures) (s .pre) (c .before .before .put .ensures)
+    let after-tell-result : tie.After-tell-result = search in
+    let at-start = start after-tell-result in
+    let s = at-start in
+    sent-stands (s .args .d) (s .args .result) (s .args .room) _ (now (s .args .out)) _ _ (after-tell-result .tell-result .ensures) (s .pre) (c .before .before .put .ensures)
 
 pub tell-sent-spec : {M : Type 1} → statement M
-tell-sent-spec =
-    tie.close
-    (tie.spec tell-result-requires slice-aggregate-put put-requires add-result same-length returns)
+tell-sent-spec = tie.close (tie.spec (λ c κs. search needs) (λ c. search needs) put-requires add-result (λ c. search needs) returns)

@@ -12,45 +12,24 @@ use borrow.Author.Needs.{needs}
 use Rattle.responses.proofs.tell_status.Statement.{statement}
 use Rattle.responses.proofs.tell_status.Tie as tie
 
-link-of-requires : tie.Need-link-of-requires
-link-of-requires c κs = search needs
-
-status-requires : tie.Need-status-requires
-status-requires c κs = search needs
-
-array-read-t11 : tie.Need-array-read-t11
-array-read-t11 c = search needs
-
-array-read-t14 : tie.Need-array-read-t14
-array-read-t14 c = search needs
-
-slice-aggregate-put : tie.Need-slice-aggregate-put
-slice-aggregate-put c = search needs
-
-put-requires : tie.Need-put-requires
-put-requires c κs = search needs
-
-add-result : tie.Need-add-result
-add-result c = search needs
-
-same-length : tie.Need-same-length
-same-length c = search needs
-
 returns : tie.Need-returns
 returns c =
-    let s = c .before .before .before .before .before .before .before .before in
-    (c .before .before .put .ensures ∙ ap (λ (t : List ℕ). pasted (now (s .args .out)) (s .args .at) t) (status-bytes (s .args .n) (linkOf (s .args .link)) _ (c .before .before .before .before .before .status .ensures ∙ ap (statusBytes (s .args .n)) (c .before .before .before .before .before .before .link-of .ensures))), refl)
+    let after-status : tie.After-status = search in
+    let after-link-of : tie.After-link-of = search in
+    let at-start : tie.Start = search in
+    let s = at-start in
+    (c .before .before .put .ensures ∙ ap (λ (t : List ℕ). pasted (now (s .args .out)) (s .args .at) t) (status-bytes (s .args .n) (linkOf (s .args .link)) _ (after-status .status .ensures ∙ ap (statusBytes (s .args .n)) (after-link-of .link-of .ensures))), refl)
 
 pub tell-status-spec : {M : Type 1} → statement M
 tell-status-spec =
     tie.close
     (tie.spec
-    link-of-requires
-    status-requires
-    array-read-t11
-    array-read-t14
-    slice-aggregate-put
-    put-requires
-    add-result
-    same-length
+    (λ c κs. search needs)
+    (λ c κs. search needs)
+    (λ c. search needs)
+    (λ c. search needs)
+    (λ c. search needs)
+    (λ c κs. search needs)
+    (λ c. search needs)
+    (λ c. search needs)
     returns)

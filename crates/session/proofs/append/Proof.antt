@@ -64,4 +64,12 @@ returns c =
 
 pub append-spec : {M : Type 1} → statement M
 append-spec =
-    tie.close (tie.spec start-of-requires (λ c κs. search needs) add-at put-requires more-requires put-entry-requires returns)
+    tie.close
+    (tie.spec
+    start-of-requires
+    (λ c κs. search needs)
+    add-at
+    put-requires
+    more-requires
+    put-entry-requires
+    returns)

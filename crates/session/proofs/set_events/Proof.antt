@@ -22,6 +22,4 @@ returns c =
     λ i. set (set (now (s .args .ledger)) availableAt (byte-is (s .args .events .available) i)) statusAt (byte-is (s .args .events .status) i)
 
 pub set-events-spec : {M : Type 1} → statement M
-set-events-spec =
-    tie.close
-    (tie.spec (λ c. search needs) (λ c. search needs) (λ c. search needs) (λ c. search needs) returns)
+set-events-spec = tie.close (tie.spec (λ c. search needs) (λ c. search needs) (λ c. search needs) (λ c. search needs) returns)

@@ -6,15 +6,9 @@ use borrow.Author.Needs.{needs}
 use Rattle.pool.proofs.Pool.cells.Statement.{statement}
 use Rattle.pool.proofs.Pool.cells.Tie as tie
 
-add-result : tie.Need-add-result
-add-result c = search needs
-
-sub-result : tie.Need-sub-result
-sub-result c = search needs
-
 returns : tie.Need-returns
 unfolding cells
 returns c = omega arith
 
 pub cells-spec : {M : Type 1} → statement M
-cells-spec = tie.close (tie.spec add-result sub-result returns)
+cells-spec = tie.close (tie.spec (λ c. search needs) (λ c. search needs) returns)

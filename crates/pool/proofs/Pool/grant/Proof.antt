@@ -9,19 +9,14 @@ use borrow.Author.Needs.{needs}
 use Rattle.pool.proofs.Pool.grant.Statement.{statement}
 use Rattle.pool.proofs.Pool.grant.Tie as tie
 
-within-cap-requires : tie.Need-within-cap-requires
-within-cap-requires c κs = search needs
-
-cells-requires : tie.Need-cells-requires
-cells-requires c κs = search needs
-
 mul-if1 : tie.Need-mul-if1
 unfolding cells
 mul-if1 c = omega arith
 
 returns : tie.Need-returns
 returns c =
-    let a = c .before .before .before .args in
+    let at-start : tie.Start = search in
+    let a = at-start .args in
     let w = c .before .before .within-cap .ensures in
     let n = c .before .cells .ensures ∙ ap cells w in
     w ∙ sym (grant-whole (a .request) (a .free) (subst (λ (k : ℕ). 2 * k ≤ a .free) n (c .if1 .taken)))
@@ -36,11 +31,10 @@ cast-result c = omega arith
 
 returns-2 : tie.Need-returns-2
 returns-2 c =
-    let a = c .before .before .before .args in
+    let at-start : tie.Start = search in
+    let a = at-start .args in
     let n = c .before .cells .ensures ∙ ap cells (c .before .before .within-cap .ensures) in
     sym (grant-half (a .request) (a .free) (subst (λ (k : ℕ). a .free < 2 * k) n (c .if1 .left)))
 
 pub grant-spec : {M : Type 1} → statement M
-grant-spec =
-    tie.close
-    (tie.spec within-cap-requires cells-requires mul-if1 returns mul-result cast-result returns-2)
+grant-spec = tie.close (tie.spec (λ c κs. search needs) (λ c κs. search needs) mul-if1 returns mul-result cast-result returns-2)

@@ -6,9 +6,6 @@ use borrow.Author.Needs.{needs}
 use Rattle.pool.proofs.Pool.space.Statement.{statement}
 use Rattle.pool.proofs.Pool.space.Tie as tie
 
-cells-requires : tie.Need-cells-requires
-cells-requires c κs = search needs
-
 mul-result : tie.Need-mul-result
 unfolding cells
 mul-result c = omega arith
@@ -18,4 +15,4 @@ unfolding cells
 returns c = (search needs, omega arith)
 
 pub space-spec : {M : Type 1} → statement M
-space-spec = tie.close (tie.spec cells-requires mul-result returns)
+space-spec = tie.close (tie.spec (λ c κs. search needs) mul-result returns)
