@@ -4,13 +4,14 @@ use mathlib.Core.List.{List}
 use mathlib.Core.Option.{Option, none, some}
 use lib.ListN.{drop}
 use Rattle.rules.specs.Run.{Call, commanding, arriving, takingOut, droppingLink}
+use Rattle.text.specs.Sizes.{responseSize, eventSize}
 use Rattle.text.specs.declared.Spoken.{Spoken}
 use Rattle.text.specs.declared.Spoken.the-variants.{Command, Arrival, Take, Drop, Nothing}
 
 -- the call, with the bytes of its frame
 unfoldable pub callSpoken : Spoken → List ℕ → Option Call
-callSpoken Command s = some (commanding 255 s)
-callSpoken (Arrival n) s = some (arriving 16 n (drop 2 s))
+callSpoken Command s = some (commanding responseSize s)
+callSpoken (Arrival n) s = some (arriving eventSize n (drop 2 s))
 callSpoken (Take n count) s = some (takingOut count n)
-callSpoken (Drop n) s = some (droppingLink 16 n)
+callSpoken (Drop n) s = some (droppingLink eventSize n)
 callSpoken Nothing s = none

@@ -1,4 +1,4 @@
--- A line gathered from chunks: up to 3201 bytes of it are kept, which is enough to see that it is too long.
+-- A line gathered from chunks, of which enough is kept to see that it is too long.
 use Prim.Native.Nat.{ℕ, _+_, _-_}
 use mathlib.Core.Path.{_≡_}
 use mathlib.Core.List.{List, [], _∷_}
@@ -6,6 +6,7 @@ use lib.ListN.{length, take, drop}
 use lib.Dec.{eqb}
 use Rattle.rules.specs.Checks.{_⇒_else_, member}
 use Rattle.octets.specs.Parts.{pasted}
+use Rattle.text.specs.Sizes.{keptCap}
 use Rattle.text.specs.declared.Gathered.{Gathered}
 
 -- the bytes before the first line feed
@@ -15,7 +16,7 @@ beforeFeed (c ∷ s) = let rest = beforeFeed s in eqb c 10 ⇒ [] else c ∷ res
 
 -- those of them that are kept behind the so many that the line has
 unfoldable pub fitting : ℕ → List ℕ → List ℕ
-fitting had s = take (3201 - had) (beforeFeed s)
+fitting had s = take (keptCap - had) (beforeFeed s)
 
 -- a chunk was read from a place on, up to its first line feed or its end
 pub record Gathers (g : Gathered) (had : ℕ) (chunk : List ℕ) (from : ℕ) (before after : List ℕ) : Type 0 where

@@ -1,3 +1,4 @@
+pub mod Sizes
 pub mod Frames
 pub mod Calls
 pub mod Prints

@@ -11,10 +11,36 @@ ghost use Rattle.rules.specs.Command.{wrote, refused};
 ghost use Rattle.rules.specs.Lines.{isDigit, digitValue, digitOf, bytesOf, frameOf, callOf, hex};
 ghost use Rattle.octets.specs.Parts.{pasted};
 ghost use Rattle.session.specs.Calls.{overlaid};
+ghost use Rattle.text.specs.Sizes.{frameCap, keptCap, shortLine};
 ghost use Rattle.text.specs.Frames.{readable, frameTold, frameBytes};
 ghost use Rattle.text.specs.Calls.{callSpoken};
 ghost use Rattle.text.specs.Prints.{countOf, outcomeOf, lineOf};
 ghost use Rattle.text.specs.Gathers.{Gathers};
+
+// The numbers of lines.
+pub struct Line {}
+
+impl Line {
+    // The most bytes of a frame, and their digits.
+    pub const FRAME: usize = 1600;
+
+    pub const DIGITS: usize = 3200;
+
+    // What is kept of a line: enough to see that it is too long.
+    pub const KEPT: usize = 3201;
+
+    // The buffers lent to a command, to an arrival and a drop, and at most to a take.
+    pub const RESPONSE: usize = 255;
+
+    pub const EVENT: usize = 16;
+
+    pub const TAKEN: usize = 1500;
+
+    // A printed line without bytes, and the longest of all.
+    pub const SHORT: usize = 3;
+
+    pub const PRINTED: usize = 3003;
+}
 
 // A line as a frame: so many bytes, or unreadable.
 pub enum Frame {
@@ -84,13 +110,13 @@ fn readable(line: &[u8]) -> bool
     true
 }
 
-// Reads a line of at most 3200 digits as a frame, whose bytes go to the front of `out`; an unreadable line writes nothing.
+// Reads a line as a frame, whose bytes go to the front of `out`; an unreadable line writes nothing.
 pub fn read_frame(line: &[u8], out: &mut [u8]) -> Frame
-    requires { ⌜ 1600 ≤ length (now out) ⌝ }
+    requires { ⌜ frameCap ≤ length (now out) ⌝ }
     ensures { λ r. ⌜ r ≡ frameTold (frameOf (now (line .entry))) ⌝ }
     ensures { λ r. ⌜ now (out .exit) ≡ overlaid (frameBytes (frameOf (now (line .entry)))) (now (out .entry)) ⌝ }
 {
-    if 3200 < line.len() {
+    if Line::DIGITS < line.len() {
         return Frame::Unreadable;
     }
     if !readable(line) {
@@ -106,7 +132,7 @@ pub fn read_frame(line: &[u8], out: &mut [u8]) -> Frame
     Frame::Bytes(n)
 }
 
-// The take that a frame A1 asks for: four bytes, of which two are a count up to 1500.
+// The take that a frame A1 asks for: four bytes, of which two are a count.
 fn read_take(frame: &[u8], n: ChannelNumber) -> Spoken
     requires { ⌜ (getD (now frame) 0 0 ≡ 0xA1) × (getD (now frame) 1 0 ≡ n .0) ⌝ }
     ensures { λ r. ⌜ callOf (now (frame .entry)) ≡ callSpoken r (now (frame .entry)) ⌝ }
@@ -115,7 +141,7 @@ fn read_take(frame: &[u8], n: ChannelNumber) -> Spoken
         return Spoken::Nothing;
     }
     let count = 256 * frame[2] as usize + frame[3] as usize;
-    if 1500 < count {
+    if Line::TAKEN < count {
         return Spoken::Nothing;
     }
     Spoken::Take(n, count)
@@ -178,14 +204,14 @@ fn print_bytes(out: &mut [u8], at: usize, bytes: &[u8])
 
 // Prints the line for bytes that were written, and tells the place behind it.
 fn print_written(out: &mut [u8], at: usize, bytes: &[u8]) -> usize
-    requires { ⌜ at + 2 * length (now bytes) + 3 ≤ length (now out) ⌝ }
+    requires { ⌜ at + 2 * length (now bytes) + shortLine ≤ length (now out) ⌝ }
     ensures { λ r. ⌜ now (out .exit) ≡ pasted (now (out .entry)) at (lineOf (wrote (now (bytes .entry)))) ⌝ }
     ensures { λ r. ⌜ r ≡ at + length (lineOf (wrote (now (bytes .entry)))) ⌝ }
 {
     if bytes.len() == 0 {
         let none = [45u8, 45, 10];
         octets::put(out, at, &none);
-        return at + 3;
+        return at + Line::SHORT;
     }
     print_bytes(out, at, bytes);
     let end = at + 2 * bytes.len();
@@ -195,18 +221,18 @@ fn print_written(out: &mut [u8], at: usize, bytes: &[u8]) -> usize
 
 // Prints the line for a refusal, and tells the place behind it.
 fn print_refusal(out: &mut [u8], at: usize, refusal: Refusal) -> usize
-    requires { ⌜ at + 3 ≤ length (now out) ⌝ }
+    requires { ⌜ at + shortLine ≤ length (now out) ⌝ }
     ensures { λ r. ⌜ now (out .exit) ≡ pasted (now (out .entry)) at (lineOf (refused refusal)) ⌝ }
     ensures { λ r. ⌜ r ≡ at + length (lineOf (refused refusal)) ⌝ }
 {
     let line = [82u8, refusal.number() + 48, 10];
     octets::put(out, at, &line);
-    at + 3
+    at + Line::SHORT
 }
 
 // Prints a line into `out` from `at` on: the bytes written, in capitals, "--" if none, or R and the number; tells the place behind it.
 pub fn print(out: &mut [u8], at: usize, ended: Ended, bytes: &[u8]) -> usize
-    requires { ⌜ (countOf ended ≤ length (now bytes)) × (at + 2 * length (now bytes) + 3 ≤ length (now out)) ⌝ }
+    requires { ⌜ (countOf ended ≤ length (now bytes)) × (at + 2 * length (now bytes) + shortLine ≤ length (now out)) ⌝ }
     ensures { λ r. ⌜ now (out .exit) ≡ pasted (now (out .entry)) at (lineOf (outcomeOf ended (now (bytes .entry)))) ⌝ }
     ensures { λ r. ⌜ r ≡ at + length (lineOf (outcomeOf ended (now (bytes .entry)))) ⌝ }
 {
@@ -216,9 +242,9 @@ pub fn print(out: &mut [u8], at: usize, ended: Ended, bytes: &[u8]) -> usize
     }
 }
 
-// Reads a chunk from a place on, up to its first line feed or its end, and keeps up to 3201 bytes of the line.
+// Reads a chunk from a place on, up to its first line feed or its end, and keeps of the line what is needed of it.
 pub fn gather(line: &mut [u8], len: usize, chunk: &[u8], from: usize) -> Gathered
-    requires { ⌜ (length (now line) ≡ 3201) × (len ≤ 3201) × (from ≤ length (now chunk)) ⌝ }
+    requires { ⌜ (length (now line) ≡ keptCap) × (len ≤ keptCap) × (from ≤ length (now chunk)) ⌝ }
     ensures { λ r. ⌜ Gathers r len (now (chunk .entry)) from (now (line .entry)) (now (line .exit)) ⌝ }
 {
     let mut kept = len;
@@ -233,7 +259,7 @@ pub fn gather(line: &mut [u8], len: usize, chunk: &[u8], from: usize) -> Gathere
                 whole: true,
             };
         }
-        if kept < 3201 {
+        if kept < Line::KEPT {
             line[kept] = c;
             kept += 1;
         }
