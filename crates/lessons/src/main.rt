@@ -3,7 +3,9 @@ use io;
 use libc;
 use libc::STDOUT_FILENO;
 use os;
+use pool::Pool;
 use stream::run;
+use text::Line;
 
 // Plays the script of a file.
 fn play(name: &[u8]) {
@@ -15,8 +17,8 @@ fn play(name: &[u8]) {
         os::fail(name);
         return;
     }
-    let mut pool = [0u8; 8192];
-    let mut line = [0u8; 3201];
+    let mut pool = [0u8; Pool::SIZE];
+    let mut line = [0u8; Line::KEPT];
     let mut piece = io::large_buffer();
     let mut out = io::large_buffer();
     run(fd, &mut pool, &mut line, &mut piece, &mut out);

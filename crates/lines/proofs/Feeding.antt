@@ -1,64 +1,65 @@
 -- A piece of the input: what the code keeps of it, and what the reader does with it.
 -- Assumes nothing.
-use Prim.Native.Nat.{ℕ, zero, suc, _+_, _-_, _≤_, _<_, min}
+use Prim.Native.Nat.{ℕ, zero, suc, _+_, _-_, _≤_, _<_}
 use mathlib.Core.Path.{_≡_, refl, sym, ap, subst, _∙_}
 use mathlib.Core.Bool.{Bool, true, false}
 use mathlib.Core.List.{List, [], _∷_, _++_, append-nil}
 use mathlib.Core.Option.{Option, none, some}
 use native.Mathlib.Omega.{arith}
-use lib.ListN.{length, take, drop, length-append, length-take}
-use lib.Seq.{take-all, take-nil, append-snoc, length-take-le}
+use lib.ListN.{length, take, drop, replicate, length-append, length-take}
+use lib.Seq.{take-all, take-nil, take-take, append-snoc, length-take-le}
 use lib.Dec.{leb, eqb}
 use borrow.Author.Tests.{leb-true, leb-false, lt-ltb}
 use Rattle.rules.specs.Checks.{_⇒_else_, isEmpty, member, some-of}
+use Rattle.rules.specs.Pool.{poolSize}
 use Rattle.rules.specs.State.{State, start}
 use Rattle.rules.specs.Lines.{frameOf, callIn, perform, lineStep}
 use Rattle.rules.specs.Input.{Reader, Fed, lineBytes, between, begins, goes, lineEnds, fed, feeds, finishes, atFirst}
 use Rattle.rules.proofs.Laws.{stop, skip}
 use Rattle.rules.proofs.Input.{fed-pieces}
+use Rattle.rules.proofs.Soundness.{start-sound}
 use Rattle.octets.specs.Parts.{pasted}
 use Rattle.octets.proofs.Pastes.{take-pasted, length-pasted}
-use Rattle.session.specs.Picture.{ShowsAt, shownAt}
+use Rattle.session.specs.Picture.{shown, ledgerOf}
+use Rattle.session.proofs.Starts.{empty-pool}
+use Rattle.session.proofs.Views.{shows-good, shows-back}
+use Rattle.text.specs.Sizes.{digitCap, keptCap}
 use Rattle.text.specs.declared.Gathered.{Gathered}
 use Rattle.text.specs.Gathers.{beforeFeed, fitting, Gathers}
 use Rattle.text.proofs.Stores.{paste-none}
-use Rattle.lines.specs.declared.Performed.{Performed}
 use Rattle.lines.specs.declared.Running.{Running}
 use Rattle.lines.specs.declared.Progress.{Progress}
-use Rattle.lines.specs.Says.{SaysFed}
-use Rattle.lines.specs.Holds.{Ready, Holds, piece, lastPiece, Goes, Keeps}
-use Rattle.lines.proofs.Shown.{known}
+use Rattle.lines.specs.Says.{Says}
+use Rattle.lines.specs.Holds.{Ready, readerIn, cut, piece, lastPiece, Goes, Keeps}
 
--- of a line that is too long, 3201 bytes tell it
-frame-kept : (l : List ℕ) → frameOf (take 3201 l) ≡ frameOf l
+-- of a line that is too long, what is kept tells it
+frame-kept : (l : List ℕ) → frameOf (take keptCap l) ≡ frameOf l
 unfolding frameOf
-frame-kept l = by (leb (length l) 3201) refl
+frame-kept l = by (leb (length l) keptCap) refl
   where
-    by : (b : Bool) → leb (length l) 3201 ≡ b → frameOf (take 3201 l) ≡ frameOf l
-    by true e = ap frameOf (take-all 3201 l (leb-true (length l) 3201 e))
+    by : (b : Bool) → leb (length l) keptCap ≡ b → frameOf (take keptCap l) ≡ frameOf l
+    by true e = ap frameOf (take-all keptCap l (leb-true (length l) keptCap e))
     by false e =
-        let h = leb-false (length l) 3201 e in
-        let k = length-take 3201 l in
-        stop _ _ _ (lt-ltb 3200 (length (take 3201 l)) (omega arith)) ∙ sym (stop _ _ _ (lt-ltb 3200 (length l) (omega arith)))
+        let h = leb-false (length l) keptCap e in
+        let k = length-take keptCap l in
+        stop _ _ _ (lt-ltb digitCap (length (take keptCap l)) (omega arith)) ∙ sym (stop _ _ _ (lt-ltb digitCap (length l) (omega arith)))
 
-ends-kept :
-    (b : Bool) (a : State) (l : List ℕ) →
-    lineEnds (record { begun = b; state = a; pending = take 3201 l }) ≡ lineEnds (record { begun = b; state = a; pending = l })
+ends-cut : (r : Reader) → lineEnds (cut r) ≡ lineEnds r
 unfolding lineEnds goes lineStep
-ends-kept b a l =
+ends-cut r =
     ap
     (λ (o : Option (List ℕ)).
-    let p = perform a (callIn o) in
+    let p = perform (r .state) (callIn o) in
     let g : Fed = record { reader = between (p .state); out = lineBytes (p .line) } in
-    b ⇒ g else begins o)
-    (frame-kept l)
+    r .begun ⇒ g else begins o)
+    (frame-kept (r .pending))
 
+-- behind a line that is whole the reader stands between two lines
 begins-between : (o : Option (List ℕ)) → begins o .reader ≡ between (begins o .reader .state)
 unfolding begins
 begins-between none = refl
 begins-between (some p) = refl
 
--- behind a line that is whole the reader stands between two lines
 ends-between : (b : Bool) (a : State) (l : List ℕ) → let r : Reader = record { begun = b; state = a; pending = l } in lineEnds r .reader ≡ between (lineEnds r .reader .state)
 unfolding lineEnds goes _⇒_else_
 ends-between true a l = refl
@@ -112,6 +113,7 @@ finishes-fed r = by (isEmpty (r .pending))
     by true = refl
     by false = sym (ap (λ (f : Fed). f .out) (fed-end r))
 
+-- what is kept of two parts
 take-both : (n : ℕ) (s t : List ℕ) → take n (s ++ t) ≡ take n s ++ take (n - length s) t
 take-both n [] t = ap (λ (k : ℕ). take k t) (let e : n ≡ n - 0 = omega arith in e) ∙ ap (λ (l : List ℕ). l ++ take (n - 0) t) (sym (take-nil n))
 take-both zero (c ∷ s) t = ap (λ (k : ℕ). take k t) (let e : 0 ≡ 0 - length (c ∷ s) = omega arith in e)
@@ -127,30 +129,31 @@ piece-size s = length-append (beforeFeed s) _ ∙ ap (λ (k : ℕ). length (befo
     by true = refl
     by false = refl
 
--- what a piece does, by what it comes to
-goes-by :
-    (x : Reader) (s : List ℕ) (f : Fed) (c : Progress) (p line before : List ℕ) (at : ℕ) (after : List ℕ) → feeds x s ≡ f →
-    Holds (f .reader) (c .running) p line → after ≡ pasted before at (f .out) → c .at ≡ at + length (f .out) → Goes x s c p line before at after
-goes-by x s f c p line before at after e h t k =
-    record {
-      holds = subst (λ (y : Fed). Holds (y .reader) (c .running) p line) (sym e) h;
-      printed = t ∙ ap (λ (y : Fed). pasted before at (y .out)) (sym e);
-      place = k ∙ ap (λ (y : Fed). at + length (y .out)) (sym e);
-    }
+-- the code keeps all of the reader that it holds
+pub held-size : (c : Running) (t p line : List ℕ) → Ready c t p line → length (take (c .len) line) ≡ c .len
+held-size c t p line y = length-take-le (c .len) line (omega (arith, y .size, y .kept))
 
-module _ (c : Running) (p line chunk : List ℕ) (from : ℕ) (g : Gathered) (line′ : List ℕ) (y : Ready c p line) (h : Gathers g (c .len) chunk from line line′) where
+pub held-cut : (c : Running) (t p line : List ℕ) → Ready c t p line → readerIn c t p line ≡ cut (readerIn c t p line)
+held-cut c t p line y =
+    let e = held-size c t p line y in
+    λ i. record { begun = c .begun; state = shown t p; pending = sym (take-all keptCap (take (c .len) line) (omega (arith, y .kept))) i }
+
+module _ (c : Running) (t p line chunk : List ℕ) (from : ℕ) (g : Gathered) (line′ : List ℕ) (y : Ready c t p line) (h : Gathers g (c .len) chunk from line line′) where
   abbrev s : List ℕ
   s = drop from chunk
 
-  -- the line's buffer
-  fits : c .len + length (fitting (c .len) s) ≤ 3201
-  unfolding fitting
-  fits = let e = length-take (3201 - c .len) (beforeFeed s) in omega (arith, y .kept)
+  abbrev x : Reader
+  x = readerIn c t p line
 
-  len-few : g .len ≤ 3201
+  -- the line's buffer
+  fits : c .len + length (fitting (c .len) s) ≤ keptCap
+  unfolding fitting
+  fits = let e = length-take (keptCap - c .len) (beforeFeed s) in omega (arith, y .kept)
+
+  len-few : g .len ≤ keptCap
   len-few = let e = fits in omega (arith, h .len)
 
-  line-size : length line′ ≡ 3201
+  line-size : length line′ ≡ keptCap
   line-size = let e = fits in ap length (h .kept) ∙ length-pasted line (c .len) (fitting (c .len) s) (omega (arith, y .size)) ∙ y .size
 
   pub len-fits : g .len ≤ length line′
@@ -163,60 +166,53 @@ module _ (c : Running) (p line chunk : List ℕ) (from : ℕ) (g : Gathered) (li
         next = e ∙ h .next ∙ ap (λ (b : Bool). from + (length (beforeFeed s) + (b ⇒ 1 else 0))) (h .whole) ∙ ap (λ (k : ℕ). from + k) (sym (piece-size s));
       }
 
-  module _ (x : Reader) (z : Holds x c p line) where
-    kept-line : take (g .len) line′ ≡ take 3201 (x .pending ++ beforeFeed s)
-    unfolding fitting
-    kept-line =
-        let e = fits in
-        let k : 3201 - c .len ≡ 3201 - length (x .pending) = omega (arith, z .count) in
-        (λ i. take (h .len i) (h .kept i)) ∙ take-pasted line (c .len) (fitting (c .len) s) (omega (arith, y .size))
-        ∙ (λ i. z .pending i ++ take (k i) (beforeFeed s)) ∙ sym (take-both 3201 (x .pending) (beforeFeed s))
+  kept-line : take (g .len) line′ ≡ take keptCap (x .pending ++ beforeFeed s)
+  unfolding fitting
+  kept-line =
+      let e = fits in
+      let n = held-size c t p line y in
+      let k : keptCap - c .len ≡ keptCap - length (x .pending) = omega arith in
+      (λ i. take (h .len i) (h .kept i)) ∙ take-pasted line (c .len) (fitting (c .len) s) (omega (arith, y .size))
+      ∙ (λ i. sym (take-all keptCap (x .pending) (omega (arith, y .kept))) i ++ take (k i) (beforeFeed s)) ∙ sym (take-both keptCap (x .pending) (beforeFeed s))
 
-    kept-count : g .len ≡ min (length (x .pending ++ beforeFeed s)) 3201
-    unfolding fitting
-    kept-count =
-        let e = length-take (3201 - c .len) (beforeFeed s) in
-        let k = length-append (x .pending) (beforeFeed s) in
-        omega (arith, h .len, z .count)
-
-    -- a line that goes on, and one that is whole
-    goes-open :
-        (out : List ℕ) (at : ℕ) → g .whole ≡ false →
-        Goes x (piece s) (record { running = record { begun = c .begun; ledger = c .ledger; len = g .len }; next = g .next; at = at }) p line′ out at out
-    goes-open out at e =
-        goes-by x (piece s) (grown x (beforeFeed s)) _ p line′ out at out (piece-open x s (sym (h .whole) ∙ e))
-        (record { begun = z .begun; shows = z .shows; pending = kept-line; count = kept-count }) (paste-none out at) (omega arith)
-
-    goes-whole :
-        (r : Performed) (p′ out : List ℕ) (at : ℕ) (out′ : List ℕ) → g .whole ≡ true →
-        SaysFed (lineEnds (record { begun = c .begun; state = shownAt (c .ledger) p; pending = take (g .len) line′ })) r p′ out at out′ →
-        Goes x (piece s) (record { running = record { begun = true; ledger = r .ledger; len = 0 }; next = g .next; at = r .at }) p′ line′ out at out′
-    goes-whole r p′ out at out′ e t =
-        let q = grown x (beforeFeed s) .reader in
-        let same =
-        (λ i. lineEnds (record { begun = z .begun i; state = known (x .state) (c .ledger) p (y .good) (z .shows) i; pending = kept-line i }))
-        ∙ ends-kept (x .begun) (x .state) (q .pending) in
-        let w = subst (λ (f : Fed). SaysFed f r p′ out at out′) same t in
-        goes-by x (piece s) (lineEnds q) _ p′ line′ out at out′ (piece-whole x s (sym (h .whole) ∙ e))
-        (subst (λ (v : Reader). Holds v (record { begun = true; ledger = r .ledger; len = 0 }) p′ line′) (sym (ends-between (x .begun) (x .state) (q .pending)))
-        (record { begun = refl; shows = w .shows; pending = sym (take-nil 3201); count = omega arith })) (w .stands) (w .place)
-
-  -- all that is told of a piece
-  abbrev Feeds : Progress → List ℕ → List ℕ → ℕ → List ℕ → Type 0
-  Feeds d p′ out at out′ =
-      ((x : Reader) → Holds x c p line → Goes x (piece s) d p′ line′ out at out′) × (Keeps d (c .len) chunk from line line′ × Ready (d .running) p′ line′)
-
+  -- a line that goes on, and one that is whole
   pub feeds-open :
-      (out : List ℕ) (at : ℕ) → g .whole ≡ false →
-      Feeds (record { running = record { begun = c .begun; ledger = c .ledger; len = g .len }; next = g .next; at = at }) p out at out
-  feeds-open out at e = ((λ x z. goes-open x z out at e), (keeps _ refl, record { good = y .good; size = line-size; kept = len-few }))
+      (out : List ℕ) (at : ℕ) → g .whole ≡ false → let d : Progress = record { running = record { begun = c .begun; len = g .len }; next = g .next; at = at } in
+      Goes (feeds x (piece s)) d t p line′ out at out × Keeps d (c .len) chunk from line line′
+  feeds-open out at e =
+      let d : Progress = record { running = record { begun = c .begun; len = g .len }; next = g .next; at = at } in (
+        subst (λ (f : Fed). Goes f d t p line′ out at out) (sym (piece-open x s (sym (h .whole) ∙ e)))
+            (record {
+              ready = record { good = y .good; size = line-size; kept = len-few };
+              holds = λ i. record { begun = c .begun; state = shown t p; pending = kept-line i };
+              printed = paste-none out at;
+              place = omega arith;
+            }),
+        keeps d refl,
+      )
 
   pub feeds-whole :
-      (r : Performed) (p′ out : List ℕ) (at : ℕ) (out′ : List ℕ) → g .whole ≡ true →
-      SaysFed (lineEnds (record { begun = c .begun; state = shownAt (c .ledger) p; pending = take (g .len) line′ })) r p′ out at out′ →
-      Feeds (record { running = record { begun = true; ledger = r .ledger; len = 0 }; next = g .next; at = r .at }) p′ out at out′
-  feeds-whole r p′ out at out′ e t =
-      ((λ x z. goes-whole x z r p′ out at out′ e t), (keeps _ refl, record { good = t .good; size = line-size; kept = omega arith }))
+      (k : ℕ) (t′ p′ out : List ℕ) (at : ℕ) (out′ : List ℕ) → g .whole ≡ true →
+      Says (lineEnds (record { begun = c .begun; state = shown t p; pending = take (g .len) line′ })) t′ p′ k out at out′ →
+      let d : Progress = record { running = record { begun = true; len = 0 }; next = g .next; at = k } in
+      Goes (feeds x (piece s)) d t′ p′ line′ out at out′ × Keeps d (c .len) chunk from line line′
+  feeds-whole k t′ p′ out at out′ e w =
+      let d : Progress = record { running = record { begun = true; len = 0 }; next = g .next; at = k } in
+      let r : Reader = record { begun = c .begun; state = shown t p; pending = take (g .len) line′ } in
+      let same : lineEnds r ≡ feeds x (piece s) =
+      (λ i. lineEnds (record { begun = c .begun; state = shown t p; pending = kept-line i })) ∙ ends-cut (grown x (beforeFeed s) .reader)
+      ∙ sym (piece-whole x s (sym (h .whole) ∙ e)) in (
+        subst (λ (f : Fed). Goes f d t′ p′ line′ out at out′) same
+            (record {
+              ready = record { good = w .good; size = line-size; kept = omega arith };
+              holds =
+                  (λ i. record { begun = true; state = w .state i; pending = sym (take-nil keptCap) i })
+                  ∙ ap cut (sym (ends-between (c .begun) (shown t p) (take (g .len) line′)));
+              printed = w .stands;
+              place = w .place;
+            }),
+        keeps d refl,
+      )
 
 -- the end of the input: nothing is left of it, or a line
 empty-is : (l : List ℕ) → length l ≡ 0 → isEmpty l ≡ true
@@ -229,38 +225,70 @@ unfolding isEmpty
 held-is [] e = absurd (let z : 1 ≤ 0 = e in omega arith)
 held-is (c ∷ l) e = refl
 
-module _ (c : Running) (p line out : List ℕ) (at : ℕ) (x : Reader) (z : Holds x c p line) where
-  pub ends-none : c .len < 1 → Goes x (lastPiece x) (record { running = c; next = 0; at = at }) p line out at out
+module _ (c : Running) (t p line out : List ℕ) (at : ℕ) (y : Ready c t p line) where
+  abbrev z : Reader
+  z = readerIn c t p line
+
+  pub ends-none : c .len < 1 → Goes (feeds z (lastPiece z)) (record { running = c; next = 0; at = at }) t p line out at out
   unfolding lastPiece feeds
   ends-none h =
-      let e : length (x .pending) ≡ 0 = omega (arith, z .count) in
-      goes-by x (lastPiece x) (record { reader = x; out = [] }) _ p line out at out (ap (feeds x) (stop _ _ _ (empty-is (x .pending) e))) z (paste-none out at)
-      (omega arith)
+      let e = held-size c t p line y in
+      subst (λ (s : List ℕ). Goes (feeds z s) (record { running = c; next = 0; at = at }) t p line out at out)
+      (sym (stop _ _ _ (empty-is (z .pending) (omega arith))))
+      (record { ready = y; holds = held-cut c t p line y; printed = paste-none out at; place = omega arith })
 
   pub ends-held :
-      (d : Progress) (p′ line′ out′ : List ℕ) → 1 ≤ c .len → Goes x (piece (10 ∷ [])) d p′ line′ out at out′ → Goes x (lastPiece x) d p′ line′ out at out′
+      (d : Progress) (t′ p′ line′ out′ : List ℕ) → 1 ≤ c .len → Goes (feeds z (piece (10 ∷ []))) d t′ p′ line′ out at out′ →
+      Goes (feeds z (lastPiece z)) d t′ p′ line′ out at out′
   unfolding lastPiece piece beforeFeed member some-of _⇒_else_
-  ends-held d p′ line′ out′ h t =
-      let e : 1 ≤ length (x .pending) = omega (arith, z .count) in
-      subst (λ (s : List ℕ). Goes x s d p′ line′ out at out′) (sym (skip _ _ _ (held-is (x .pending) e))) t
+  ends-held d t′ p′ line′ out′ h w =
+      let e = held-size c t p line y in
+      subst (λ (s : List ℕ). Goes (feeds z s) d t′ p′ line′ out at out′) (sym (skip _ _ _ (held-is (z .pending) (omega arith)))) w
 
 -- a line feed adds nothing to the line
 pub line-stays : (d : Progress) (k : ℕ) (line line′ : List ℕ) → Keeps d k (10 ∷ []) 0 line line′ → line′ ≡ line
 unfolding fitting beforeFeed _⇒_else_
-line-stays d k line line′ t = t .kept ∙ ap (pasted line k) (take-nil (3201 - k)) ∙ sym (paste-none line k)
+line-stays d k line line′ t = t .kept ∙ ap (pasted line k) (take-nil (keptCap - k)) ∙ sym (paste-none line k)
 
 pub next-one : (d : Progress) (k : ℕ) (line line′ : List ℕ) → Keeps d k (10 ∷ []) 0 line line′ → d .next ≡ 1
 unfolding piece beforeFeed member some-of _⇒_else_
 next-one d k line line′ t = t .next
 
--- what is held has a reader
-pub reader-of :
-    (c : Running) (p line : List ℕ) → Ready c p line → Holds (record { begun = c .begun; state = shownAt (c .ledger) p; pending = take (c .len) line }) c p line
-reader-of c p line y =
-    let e = length-take-le (c .len) line (omega (arith, y .size, y .kept)) in
-    record { begun = refl; shows = record { shows = y .good .good .shows; kept = y .good .kept }; pending = sym (take-all 3201 (take (c .len) line) (omega (arith, y .kept))); count = omega (arith, y .kept) }
+-- before the first byte the code may go on, and holds what the reader has
+pub first-ready : (t p line : List ℕ) → t ≡ ledgerOf (start []) → p ≡ replicate poolSize 0 → length line ≡ keptCap → Ready (record { begun = false; len = 0 }) t p line
+first-ready t p line e f n =
+    record { good = shows-good (start []) t p (start-sound []) (record { ledger = e; pool = f ∙ empty-pool [] }); size = n; kept = omega arith }
 
--- before the first byte
-pub first-held : (l p line : List ℕ) → ShowsAt (start []) l p → Holds atFirst (record { begun = false; ledger = l; len = 0 }) p line
+pub first-held : (t p line : List ℕ) → t ≡ ledgerOf (start []) → p ≡ replicate poolSize 0 → readerIn (record { begun = false; len = 0 }) t p line ≡ atFirst
 unfolding atFirst
-first-held l p line s = record { begun = refl; shows = s; pending = sym (take-nil 3201); count = omega arith }
+first-held t p line e f =
+    λ i. record { begun = false; state = shows-back (start []) t p (start-sound []) (record { ledger = e; pool = f ∙ empty-pool [] }) i; pending = [] }
+
+-- what the code holds of a reader goes on as the reader does
+abbrev trimmed : Fed → Fed
+trimmed f = record { reader = cut (f .reader); out = f .out }
+
+kept-byte : (l : List ℕ) (c : ℕ) → take keptCap (take keptCap l ++ c ∷ []) ≡ take keptCap (l ++ c ∷ [])
+kept-byte l c =
+    let k : take keptCap (take keptCap l) ≡ take keptCap l = take-take keptCap keptCap l (omega arith) in
+    let n = length-take keptCap l in
+    let e : keptCap - length (take keptCap l) ≡ keptCap - length l = omega arith in
+    take-both keptCap (take keptCap l) (c ∷ []) ∙ (λ i. k i ++ take (e i) (c ∷ [])) ∙ sym (take-both keptCap l (c ∷ []))
+
+fed-cut : (r : Reader) (c : ℕ) → trimmed (fed (cut r) c) ≡ trimmed (fed r c)
+unfolding fed _⇒_else_
+fed-cut r c = by (eqb c 10)
+  where
+    by : (b : Bool) → trimmed (b ⇒ lineEnds (cut r) else grown (cut r) (c ∷ [])) ≡ trimmed (b ⇒ lineEnds r else grown r (c ∷ []))
+    by true = ap trimmed (ends-cut r)
+    by false = λ i. record { reader = record { begun = r .begun; state = r .state; pending = kept-byte (r .pending) c i }; out = [] }
+
+pub feeds-cut : (s : List ℕ) (r : Reader) → trimmed (feeds (cut r) s) ≡ trimmed (feeds r s)
+unfolding feeds
+feeds-cut [] r = λ i. record { reader = record { begun = r .begun; state = r .state; pending = take-take keptCap keptCap (r .pending) (omega arith) i }; out = [] }
+feeds-cut (c ∷ s) r =
+    let f = fed (cut r) c in
+    let g = fed r c in
+    let e = fed-cut r c in
+    let rest = sym (feeds-cut s (f .reader)) ∙ ap (λ (x : Fed). trimmed (feeds (x .reader) s)) e ∙ feeds-cut s (g .reader) in
+    λ i. record { reader = rest i .reader; out = e i .out ++ rest i .out }

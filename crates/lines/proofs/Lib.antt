@@ -1,5 +1,3 @@
-pub mod Shown
 pub mod Telling
-pub mod Reading
 pub mod Feeding
 pub mod Settled

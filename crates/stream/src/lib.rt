@@ -6,12 +6,18 @@ use lines::Running;
 use lines::before;
 use lines::feed;
 use lines::finish;
+use pool::Pool;
+use session::Ledger;
+use text::Line;
 ghost use mathlib.Core.Path.{_≡_};
 ghost use mathlib.Core.Bool.{true};
 ghost use Prim.Native.Nat.{_≤_};
 ghost use lib.ListN.{length, replicate};
-ghost use Rattle.rules.specs.Input.{Reader, feeds};
-ghost use Rattle.lines.specs.Holds.{Ready, Holds};
+ghost use Rattle.rules.specs.Pool.{poolSize};
+ghost use Rattle.rules.specs.Input.{feeds};
+ghost use Rattle.text.specs.Sizes.{keptCap};
+ghost use Rattle.lines.specs.Holds.{Ready, readerIn, cut};
+ghost use Rattle.stream.specs.Sizes.{pieceSize};
 
 // What a piece of the input left behind, and whether more is to come.
 struct Turn {
@@ -29,21 +35,21 @@ fn write_out(out: &[u8], at: usize) -> bool
 // Performs the lines of a piece of the input. The output is written where a further line might not fit, and at the end.
 fn feed_all(
     running: Running,
-    pool: &mut [u8; 8192],
+    ledger: &mut [u16; Ledger::SIZE],
+    pool: &mut [u8; Pool::SIZE],
     line: &mut [u8],
     piece: &[u8],
     out: &mut [u8],
 ) -> Turn
-    requires { ⌜ Ready running (now pool) (now line) ⌝ }
-    requires { ⌜ length (now out) ≡ 65536 ⌝ }
-    ensures { λ r. ⌜ Ready (r .running) (now (pool .exit)) (now (line .exit)) ⌝ }
-    ensures { λ r. ⌜ (r .more ≡ true → (x : Reader) → Holds x running (now (pool .entry)) (now (line .entry)) → Holds (feeds x (now (piece .entry)) .reader) (r .running) (now (pool .exit)) (now (line .exit))) ⌝ }
+    requires { ⌜ Ready running (now ledger) (now pool) (now line) × (length (now out) ≡ pieceSize) ⌝ }
+    ensures { λ r. ⌜ Ready (r .running) (now (ledger .exit)) (now (pool .exit)) (now (line .exit)) ⌝ }
+    ensures { λ r. ⌜ (r .more ≡ true → readerIn (r .running) (now (ledger .exit)) (now (pool .exit)) (now (line .exit)) ≡ cut (feeds (readerIn running (now (ledger .entry)) (now (pool .entry)) (now (line .entry))) (now (piece .entry)) .reader)) ⌝ }
 {
     let mut kept = running;
     let mut next: usize = 0;
     let mut at: usize = 0;
     while next < piece.len() {
-        if out.len() - at < 3003 {
+        if out.len() - at < Line::PRINTED {
             if !write_out(out, at) {
                 return Turn {
                     running: kept,
@@ -52,7 +58,7 @@ fn feed_all(
             }
             at = 0;
         }
-        let progress = feed(kept, pool, line, piece, next, out, at);
+        let progress = feed(kept, ledger, pool, line, piece, next, out, at);
         kept = progress.running;
         next = progress.next;
         at = progress.at;
@@ -64,11 +70,16 @@ fn feed_all(
 }
 
 // The input ended: what is left of it is performed.
-fn end(running: Running, pool: &mut [u8; 8192], line: &mut [u8], out: &mut [u8])
-    requires { ⌜ Ready running (now pool) (now line) ⌝ }
-    requires { ⌜ length (now out) ≡ 65536 ⌝ }
+fn end(
+    running: Running,
+    ledger: &mut [u16; Ledger::SIZE],
+    pool: &mut [u8; Pool::SIZE],
+    line: &mut [u8],
+    out: &mut [u8],
+)
+    requires { ⌜ Ready running (now ledger) (now pool) (now line) × (length (now out) ≡ pieceSize) ⌝ }
 {
-    let progress = finish(running, pool, line, out, 0);
+    let progress = finish(running, ledger, pool, line, out, 0);
     write_out(out, progress.at);
 }
 
@@ -76,14 +87,14 @@ fn end(running: Running, pool: &mut [u8; 8192], line: &mut [u8], out: &mut [u8])
 fn take_turn(
     fd: i32,
     running: Running,
-    pool: &mut [u8; 8192],
+    ledger: &mut [u16; Ledger::SIZE],
+    pool: &mut [u8; Pool::SIZE],
     line: &mut [u8],
     piece: &mut [u8],
     out: &mut [u8],
 ) -> Turn
-    requires { ⌜ Ready running (now pool) (now line) ⌝ }
-    requires { ⌜ length (now out) ≡ 65536 ⌝ }
-    ensures { λ r. ⌜ (r .more ≡ true → Ready (r .running) (now (pool .exit)) (now (line .exit))) ⌝ }
+    requires { ⌜ Ready running (now ledger) (now pool) (now line) × (length (now out) ≡ pieceSize) ⌝ }
+    ensures { λ r. ⌜ (r .more ≡ true → Ready (r .running) (now (ledger .exit)) (now (pool .exit)) (now (line .exit))) ⌝ }
 {
     let got = libc::read(fd, piece);
     if got < 0 {
@@ -93,26 +104,27 @@ fn take_turn(
         };
     }
     if got == 0 {
-        end(running, pool, line, out);
+        end(running, ledger, pool, line, out);
         return Turn {
             running,
             more: false,
         };
     }
     let n = io::count(got, piece);
-    feed_all(running, pool, line, &piece[..n], out)
+    feed_all(running, ledger, pool, line, &piece[..n], out)
 }
 
 // Runs the line program over a file, turn by turn, until one is the last. Their number is bounded by one that no file uses up.
-pub fn run(fd: i32, pool: &mut [u8; 8192], line: &mut [u8], piece: &mut [u8], out: &mut [u8])
-    requires { ⌜ now pool ≡ replicate 8192 0 ⌝ }
-    requires { ⌜ (length (now line) ≡ 3201) × (length (now piece) ≡ 65536) × (length (now out) ≡ 65536) ⌝ }
-    ensures { λ _. ⌜ (length (now (line .exit)) ≡ 3201) × (length (now (piece .exit)) ≡ 65536) × (length (now (out .exit)) ≡ 65536) ⌝ }
+pub fn run(fd: i32, pool: &mut [u8; Pool::SIZE], line: &mut [u8], piece: &mut [u8], out: &mut [u8])
+    requires { ⌜ now pool ≡ replicate poolSize 0 ⌝ }
+    requires { ⌜ (length (now line) ≡ keptCap) × (length (now piece) ≡ pieceSize) × (length (now out) ≡ pieceSize) ⌝ }
+    ensures { λ _. ⌜ (length (now (line .exit)) ≡ keptCap) × (length (now (piece .exit)) ≡ pieceSize) × (length (now (out .exit)) ≡ pieceSize) ⌝ }
 {
-    let mut kept = before();
+    let mut ledger = [0u16; Ledger::SIZE];
+    let mut kept = before(&mut ledger);
     let mut turns = u64::MAX;
     while turns > 0 {
-        let done = take_turn(fd, kept, pool, line, piece, out);
+        let done = take_turn(fd, kept, &mut ledger, pool, line, piece, out);
         if !done.more {
             return;
         }

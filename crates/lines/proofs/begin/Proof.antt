@@ -1,71 +1,81 @@
--- `lines::begin` starts a session from the line's frame, or from nothing with R9.
+-- `lines::begin` meets its contract: a session from the frame of the line, or from nothing with R9.
 -- Assumes nothing.
 use mathlib.Core.Path.{sym}
-use lib.Seq.{length-take-le}
+use native.Mathlib.Omega.{arith}
 use denote.Ref.{now}
+use lib.Seq.{length-take-le}
+use Rattle.session.proofs.Facts.{good-table}
+use Rattle.text.specs.Prints.{countOf, outcomeOf}
 use Rattle.text.proofs.Bounds.{frame-read}
-use Rattle.lines.proofs.Reading.{frame-unread, first-read, first-unread}
+use Rattle.lines.proofs.Telling.{frame-unread, first-read, first-unread}
 use borrow.Author.Needs.{needs}
 use Rattle.lines.proofs.begin.Statement.{statement}
 use Rattle.lines.proofs.begin.Tie as tie
 
-clear-requires : tie.Need-clear-requires
-clear-requires c κs = search needs
-
-slice-aggregate-read-frame : tie.Need-slice-aggregate-read-frame
-slice-aggregate-read-frame c = search needs
-
-read-frame-requires : tie.Need-read-frame-requires
-read-frame-requires c κs = search needs
-
-enum-known-n : tie.Need-enum-known-n
-enum-known-n c = search needs
-
 array-share-prefix-frame : tie.Need-array-share-prefix-frame
-array-share-prefix-frame c = (frame-read _ _ _ _ _ (c .before .before .before .before .before .read-frame .ensures) (c .before .before .n .given .1)) .fits
+array-share-prefix-frame c =
+    let n : tie.After-n = search in
+    let f : tie.After-read-frame = search in
+    frame-read _ _ _ _ _ (f .read-frame .ensures) (n .n .given .1) .fits
 
 slice-aggregate-start-ledger : tie.Need-slice-aggregate-start-ledger
-slice-aggregate-start-ledger c = sym (length-take-le _ _ ((frame-read _ _ _ _ _ (c .before .before .before .before .before .before .read-frame .ensures) (c .before .before .before .n .given .1)) .fits))
+slice-aggregate-start-ledger c =
+    let n : tie.After-n = search in
+    let f : tie.After-read-frame = search in
+    sym (length-take-le _ _ (frame-read _ _ _ _ _ (f .read-frame .ensures) (n .n .given .1) .fits))
 
 start-ledger-requires : tie.Need-start-ledger-requires
-start-ledger-requires c κs = search needs
-
-enum-told : tie.Need-enum-told
-enum-told c = search needs
-
-slice-aggregate-start-ledger-2 : tie.Need-slice-aggregate-start-ledger-2
-slice-aggregate-start-ledger-2 c = search needs
+start-ledger-requires c κs =
+    let s : tie.Start = search in
+    good-table _ _ (s .pre .0)
 
 start-ledger-requires-2 : tie.Need-start-ledger-requires-2
-start-ledger-requires-2 c κs = search needs
+start-ledger-requires-2 c κs =
+    let s : tie.Start = search in
+    good-table _ _ (s .pre .0)
 
-print-unreadable-requires : tie.Need-print-unreadable-requires
-print-unreadable-requires c κs = search needs
+print-requires : tie.Need-print-requires
+unfolding countOf
+print-requires c κs =
+    let s : tie.Start = search in
+    (omega arith, omega (arith, s .pre .1))
 
 returns : tie.Need-returns
-returns c = first-read _ _ _ _ (c .before .before .before .before .before .before .before .before .before .before .before .before .before .pre .1) (c .before .before .before .before .before .before .before .before .before .clear .ensures) (c .start-ledger .ensures) _ (now (c .before .before .before .before .before .before .before .before .before .before .before .before .before .args .out)) (c .before .before .before .before .before .before .before .before .before .before .before .before .before .args .at) ((frame-read _ _ _ _ _ (c .before .before .before .before .before .before .before .read-frame .ensures) (c .before .before .before .before .n .given .1)) .bytes)
-
-same-length : tie.Need-same-length
-same-length c = search needs
+returns c =
+    let l : tie.After-start-ledger = search in
+    let n : tie.After-n = search in
+    let f : tie.After-read-frame = search in
+    let k : tie.After-clear = search in
+    let s : tie.Start = search in
+    first-read _ _ _ _ _ (s .pre .0) (k .clear .ensures) (l .start-ledger .ensures) _ (now (s .args .out)) (s .args .at) (frame-read _ _ _ _ _ (f .read-frame .ensures) (n .n .given .1) .bytes)
 
 returns-2 : tie.Need-returns-2
-returns-2 c = first-unread _ _ _ (c .before .before .before .before .before .before .before .before .before .before .before .before .before .before .before .before .pre .1) (c .before .before .before .before .before .before .before .before .before .before .before .before .clear .ensures) (c .before .before .before .before .start-ledger2 .ensures) _ _ _ _ _ (frame-unread _ _ (c .before .before .before .before .before .before .before .before .before .before .read-frame .ensures .0) (c .before .before .before .before .before .before .before .enum-told .given .1)) (c .before .before .print-unreadable .ensures)
+unfolding outcomeOf
+returns-2 c =
+    let w : tie.After-print = search in
+    let l : tie.After-start-ledger2 = search in
+    let n : tie.After-enum-told = search in
+    let f : tie.After-read-frame = search in
+    let k : tie.After-clear = search in
+    let s : tie.Start = search in
+    first-unread _ _ _ _ (s .pre .0) (k .clear .ensures) (l .start-ledger2 .ensures) _ _ _ _ _ (frame-unread _ _ (f .read-frame .ensures .0) (n .enum-told .given .1)) (w .print .ensures)
 
 pub begin-spec : {M : Type 1} → statement M
 begin-spec =
     tie.close
     (tie.spec
-    clear-requires
-    slice-aggregate-read-frame
-    read-frame-requires
-    enum-known-n
+    (λ c κs. search needs)
+    (λ c. search needs)
+    (λ c κs. search needs)
+    (λ c. search needs)
     array-share-prefix-frame
     slice-aggregate-start-ledger
     start-ledger-requires
-    enum-told
-    slice-aggregate-start-ledger-2
+    (λ c. search needs)
+    (λ c. search needs)
     start-ledger-requires-2
-    print-unreadable-requires
+    (λ c. search needs)
+    print-requires
     returns
-    same-length
+    (λ c. search needs)
     returns-2)

@@ -1,4 +1,4 @@
--- `lines::feed` keeps the piece, and performs a line that is whole.
+-- `lines::feed` meets its contract: a piece is kept, and a line that is whole performed.
 -- Assumes nothing.
 use mathlib.Core.Path.{sym}
 use lib.Seq.{length-take-le}
@@ -9,43 +9,43 @@ use borrow.Author.Needs.{needs}
 use Rattle.lines.proofs.feed.Statement.{statement}
 use Rattle.lines.proofs.feed.Tie as tie
 
-gather-requires : tie.Need-gather-requires
-gather-requires c κs = search needs
-
-same-length : tie.Need-same-length
-same-length c = search needs
-
 returns : tie.Need-returns
-returns c = feeds-open _ _ _ _ _ _ _ (c .before .before .before .before .before .before .before .before .before .before .pre .0) (c .before .before .before .before .gather .ensures) (now (c .before .before .before .before .before .before .before .before .before .before .args .out)) (c .before .before .before .before .before .before .before .before .before .before .args .at) (not-true _ (c .if1 .taken))
+returns c =
+    let i : tie.Then1 = search in
+    let g : tie.After-gather = search in
+    let s : tie.Start = search in
+    feeds-open _ _ _ _ _ _ _ _ (s .pre .0) (g .gather .ensures) (now (s .args .out)) (s .args .at) (not-true _ (i .if1 .taken))
 
 slice-reshare-prefix-end-line : tie.Need-slice-reshare-prefix-end-line
-slice-reshare-prefix-end-line c = len-fits _ _ _ _ _ _ _ (c .before .before .before .before .before .before .before .before .before .before .before .pre .0) (c .before .before .before .before .before .gather .ensures)
+slice-reshare-prefix-end-line c =
+    let g : tie.After-gather = search in
+    let s : tie.Start = search in
+    len-fits _ _ _ _ _ _ _ _ (s .pre .0) (g .gather .ensures)
 
 slice-aggregate-end-line : tie.Need-slice-aggregate-end-line
-slice-aggregate-end-line c = sym (length-take-le _ _ (len-fits _ _ _ _ _ _ _ (c .before .before .before .before .before .before .before .before .before .before .before .before .pre .0) (c .before .before .before .before .before .before .gather .ensures)))
-
-end-line-requires : tie.Need-end-line-requires
-end-line-requires c κs = search needs
-
-same-length-2 : tie.Need-same-length-2
-same-length-2 c = search needs
-
-same-length-3 : tie.Need-same-length-3
-same-length-3 c = search needs
+slice-aggregate-end-line c =
+    let g : tie.After-gather = search in
+    let s : tie.Start = search in
+    sym (length-take-le _ _ (len-fits _ _ _ _ _ _ _ _ (s .pre .0) (g .gather .ensures)))
 
 returns-2 : tie.Need-returns-2
-returns-2 c = feeds-whole _ _ _ _ _ _ _ (c .before .before .before .before .before .before .before .before .before .before .before .before .before .before .before .before .before .pre .0) (c .before .before .before .before .before .before .before .before .before .before .before .gather .ensures) _ _ _ _ _ (not-false _ (c .before .before .before .before .before .before .before .if1 .left)) (c .before .before .before .end-line .ensures)
+returns-2 c =
+    let w : tie.After-end-line = search in
+    let i : tie.Else1 = search in
+    let g : tie.After-gather = search in
+    let s : tie.Start = search in
+    feeds-whole _ _ _ _ _ _ _ _ (s .pre .0) (g .gather .ensures) _ _ _ _ _ _ (not-false _ (i .if1 .left)) (w .end-line .ensures)
 
 pub feed-spec : {M : Type 1} → statement M
 feed-spec =
     tie.close
     (tie.spec
-    gather-requires
-    same-length
+    (λ c κs. search needs)
+    (λ c. search needs)
     returns
     slice-reshare-prefix-end-line
     slice-aggregate-end-line
-    end-line-requires
-    same-length-2
-    same-length-3
+    (λ c κs. search needs)
+    (λ c. search needs)
+    (λ c. search needs)
     returns-2)

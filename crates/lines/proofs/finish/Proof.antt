@@ -1,4 +1,4 @@
--- `lines::finish` performs what is left as a line, if anything is.
+-- `lines::finish` meets its contract: what is left is performed as a line, if anything is.
 -- Assumes nothing.
 use mathlib.Core.Path.{refl}
 use native.Mathlib.Omega.{arith}
@@ -9,24 +9,26 @@ use Rattle.lines.proofs.finish.Statement.{statement}
 use Rattle.lines.proofs.finish.Tie as tie
 
 returns : tie.Need-returns
-returns c = ((λ x z. ends-none _ _ _ (now (c .before .before .before .before .args .out)) (c .before .before .before .before .args .at) x z (c .if1 .taken)), (refl, omega (arith, c .if1 .taken)))
-
-slice-aggregate-feed : tie.Need-slice-aggregate-feed
-slice-aggregate-feed c = search needs
-
-feed-requires : tie.Need-feed-requires
-feed-requires c κs = search needs
-
-same-length : tie.Need-same-length
-same-length c = search needs
-
-same-length-2 : tie.Need-same-length-2
-same-length-2 c = search needs
+returns c =
+    let i : tie.Then1 = search in
+    let s : tie.Start = search in
+    (ends-none _ _ _ _ (now (s .args .out)) (s .args .at) (s .pre .0) (i .if1 .taken), (refl, omega (arith, i .if1 .taken)))
 
 returns-2 : tie.Need-returns-2
-returns-2 c = let w = c .before .before .before .before .feed .ensures in ((λ x z. ends-held _ _ _ _ _ x z _ _ _ _ (c .before .before .before .before .before .before .before .before .before .if1 .left) (w .0 x z)), (line-stays _ _ _ _ (w .1 .0), omega (arith, next-one _ _ _ _ (w .1 .0), c .before .before .before .before .before .before .before .before .before .if1 .left)))
+returns-2 c =
+    let w : tie.After-feed = search in
+    let i : tie.Else1 = search in
+    let s : tie.Start = search in
+    let h = w .feed .ensures in
+    (ends-held _ _ _ _ _ _ (s .pre .0) _ _ _ _ _ (i .if1 .left) (h .0), (line-stays _ _ _ _ (h .1), omega (arith, next-one _ _ _ _ (h .1), i .if1 .left)))
 
 pub finish-spec : {M : Type 1} → statement M
 finish-spec =
     tie.close
-    (tie.spec returns slice-aggregate-feed feed-requires same-length same-length-2 returns-2)
+    (tie.spec
+    returns
+    (λ c. search needs)
+    (λ c κs. search needs)
+    (λ c. search needs)
+    (λ c. search needs)
+    returns-2)

@@ -1,64 +1,118 @@
--- `stream::feed_all` reads the piece line by line: what holds between two of them.
+-- `stream::feed_all` meets its contract: what holds between two lines of the piece.
 -- Assumes nothing.
-use Prim.Native.Nat.{_-_}
-use mathlib.Core.Path.{sym, _∙_}
+use Prim.Native.Nat.{_+_, _-_, _≤_}
 use mathlib.Core.Bool.{false≢true}
 use mathlib.Core.Logic.{⊎-elim}
 use native.Mathlib.Omega.{arith}
 use lib.ListN.{length}
-use borrow.Author.Needs.{needs}
+use Rattle.text.specs.Sizes.{lineCap}
+use Rattle.lines.specs.Holds.{readerIn}
+use Rattle.stream.specs.Sizes.{pieceSize}
 use Rattle.stream.proofs.Pieces.{Midway, midway-none, midway-all, midway-less, midway-more}
 use Rattle.stream.proofs.feed_all.Statement.{statement}
 use Rattle.stream.proofs.feed_all.Tie as tie
-use Rattle.stream.proofs.feed_all.Reads as reads
-use Rattle.stream.proofs.feed_all.Lts as lts
-use Rattle.lines.proofs.feed.Reads as feed-reads
-use Rattle.stream.proofs.write_out.Reads as write-out-reads
 
 abbrev Inv-loop : tie.InvT-loop
-Inv-loop pool₀ line₀ piece out₀ kept₀ next₀ at₀ pool line out kept next at = Midway kept₀ pool₀ line₀ piece kept pool line out next at
+Inv-loop ledger₀ pool₀ line₀ piece out₀ kept₀ next₀ at₀ ledger pool line out kept next at =
+    Midway (readerIn kept₀ ledger₀ pool₀ line₀) piece kept ledger pool line out next at
 
 abbrev μ-loop : tie.MeasureT-loop
-μ-loop pool₀ line₀ piece out₀ kept₀ next₀ at₀ pool line out kept next at = length piece - next
+μ-loop ledger₀ pool₀ line₀ piece out₀ kept₀ next₀ at₀ ledger pool line out kept next at = length piece - next
+
+-- a further line fits, behind what was printed or from the start
+fits : (j : tie.Joined1 Inv-loop μ-loop) → j .if1 .at + lineCap ≤ pieceSize
+fits j =
+    let l : tie.At-loop Inv-loop μ-loop = search in
+    let n = l .loop .inv .size in
+    ⊎-elim (λ u. let e = u .4 in omega arith) (λ u. let e = u .1 in let f = u .0 .left in omega arith) (j .if1 .came)
 
 loop-holds : tie.Need-loop-holds Inv-loop μ-loop
-loop-holds c = midway-none _ _ _ _ _ (c .before .before .before .pre .0) (c .before .before .before .pre .1)
+loop-holds c =
+    let s : tie.Start Inv-loop μ-loop = search in
+    midway-none _ _ _ _ _ _ (s .pre .0) (s .pre .1)
 
 sub-if1 : tie.Need-sub-if1 Inv-loop μ-loop
-sub-if1 c = (c .before .loop .inv) .room
+sub-if1 c =
+    let l : tie.At-loop Inv-loop μ-loop = search in
+    let w = l .loop .inv in
+    w .room
 
 write-out-requires : tie.Need-write-out-requires Inv-loop μ-loop
-write-out-requires c κs = (c .before .before .before .loop .inv) .room
+write-out-requires c κs =
+    let l : tie.At-loop Inv-loop μ-loop = search in
+    let w = l .loop .inv in
+    w .room
 
 same-length : tie.Need-same-length Inv-loop μ-loop
-same-length c = c .before .before .before .before .before .loop .inv .ready .size ∙ sym (c .before .before .before .before .before .before .before .before .before .pre .0 .size)
+same-length c =
+    let l : tie.At-loop Inv-loop μ-loop = search in
+    let w = l .loop .inv in
+    let s : tie.Start Inv-loop μ-loop = search in
+    omega (arith, w .ready .size, s .pre .0 .size)
 
 same-length-2 : tie.Need-same-length-2 Inv-loop μ-loop
-same-length-2 c = c .before .before .before .before .before .loop .inv .size ∙ sym (c .before .before .before .before .before .before .before .before .before .pre .1)
+same-length-2 c =
+    let l : tie.At-loop Inv-loop μ-loop = search in
+    let w = l .loop .inv in
+    let s : tie.Start Inv-loop μ-loop = search in
+    omega (arith, w .size, s .pre .1)
 
 returns : tie.Need-returns Inv-loop μ-loop
-returns c = (c .before .before .before .before .before .loop .inv .ready, λ m. absurd (false≢true m))
+returns c =
+    let l : tie.At-loop Inv-loop μ-loop = search in
+    let w = l .loop .inv in
+    (w .ready, λ m. absurd (false≢true m))
 
 feed-requires : tie.Need-feed-requires Inv-loop μ-loop
-feed-requires c κs = let w = c .before .before .before .before .before .loop .inv in (w .ready, (w .within, ⊎-elim (λ u. let e = u .4 in omega (arith, w .size)) (λ u. let e = u .1 in let f = u .0 .left in omega (arith, w .size)) (c .before .before .before .if1 .came)))
+feed-requires c κs =
+    let j : tie.Joined1 Inv-loop μ-loop = search in
+    let l : tie.At-loop Inv-loop μ-loop = search in
+    let w = l .loop .inv in
+    (w .ready, (w .within, omega (arith, fits j, w .size)))
 
 loop-less : tie.Need-loop-less Inv-loop μ-loop
-loop-less c = omega (arith, midway-less _ _ _ _ _ _ _ _ _ _ (c .before .before .before .before .before .before .before .before .before .before .before .loop .inv) (c .before .before .before .before .before .before .before .before .before .before .loop-test .taken) _ _ _ _ _ (c .before .before .before .before .before .feed .ensures))
+loop-less c =
+    let f : tie.After-feed Inv-loop μ-loop = search in
+    let i : tie.In-loop Inv-loop μ-loop = search in
+    let l : tie.At-loop Inv-loop μ-loop = search in
+    let w = l .loop .inv in
+    omega (arith, midway-less _ _ _ _ _ _ _ _ _ w (i .loop-test .taken) _ _ _ _ _ _ (f .feed .ensures))
 
 loop-again : tie.Need-loop-again Inv-loop μ-loop
-loop-again c = let w = c .before .before .before .before .before .before .before .before .before .before .before .loop .inv in midway-more _ _ _ _ _ _ _ _ _ _ w (c .before .before .before .before .before .before .before .before .before .before .loop-test .taken) _ _ _ _ _ (c .before .before .before .before .before .feed .ensures) (⊎-elim (λ u. let e = u .4 in omega (arith, w .size)) (λ u. let e = u .1 in omega (arith, w .room)) (c .before .before .before .before .before .before .before .before .before .if1 .came)) (omega (arith, w .size))
+loop-again c =
+    let f : tie.After-feed Inv-loop μ-loop = search in
+    let j : tie.Joined1 Inv-loop μ-loop = search in
+    let i : tie.In-loop Inv-loop μ-loop = search in
+    let l : tie.At-loop Inv-loop μ-loop = search in
+    let w = l .loop .inv in
+    midway-more _ _ _ _ _ _ _ _ _ w (i .loop-test .taken) _ _ _ _ _ _ (f .feed .ensures) (omega (arith, fits j, w .size)) (omega (arith, w .size))
 
 write-out-requires-2 : tie.Need-write-out-requires-2 Inv-loop μ-loop
-write-out-requires-2 c κs = (c .before .before .loop .inv) .room
+write-out-requires-2 c κs =
+    let l : tie.At-loop Inv-loop μ-loop = search in
+    let w = l .loop .inv in
+    w .room
 
 same-length-3 : tie.Need-same-length-3 Inv-loop μ-loop
-same-length-3 c = c .before .before .before .loop .inv .ready .size ∙ sym (c .before .before .before .before .before .before .before .pre .0 .size)
+same-length-3 c =
+    let l : tie.At-loop Inv-loop μ-loop = search in
+    let w = l .loop .inv in
+    let s : tie.Start Inv-loop μ-loop = search in
+    omega (arith, w .ready .size, s .pre .0 .size)
 
 same-length-4 : tie.Need-same-length-4 Inv-loop μ-loop
-same-length-4 c = c .before .before .before .loop .inv .size ∙ sym (c .before .before .before .before .before .before .before .pre .1)
+same-length-4 c =
+    let l : tie.At-loop Inv-loop μ-loop = search in
+    let w = l .loop .inv in
+    let s : tie.Start Inv-loop μ-loop = search in
+    omega (arith, w .size, s .pre .1)
 
 returns-2 : tie.Need-returns-2 Inv-loop μ-loop
-returns-2 c = (c .before .before .before .loop .inv .ready, λ m. midway-all _ _ _ _ _ _ _ _ _ _ (c .before .before .before .loop .inv) (c .before .before .loop-test .left))
+returns-2 c =
+    let e : tie.After-loop Inv-loop μ-loop = search in
+    let l : tie.At-loop Inv-loop μ-loop = search in
+    let w = l .loop .inv in
+    (w .ready, λ m. midway-all _ _ _ _ _ _ _ _ _ w (e .loop-test .left))
 
 pub feed-all-spec : {M : Type 1} → statement M
 feed-all-spec =

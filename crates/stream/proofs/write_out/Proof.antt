@@ -1,22 +1,15 @@
--- `stream::write_out` lends the front of the output.
+-- `stream::write_out` meets its contract: the front of the output is lent.
 -- Assumes nothing.
 use mathlib.Core.Path.{sym}
 use lib.Seq.{length-take-le}
 use borrow.Author.Needs.{needs}
 use Rattle.stream.proofs.write_out.Statement.{statement}
 use Rattle.stream.proofs.write_out.Tie as tie
-use Rattle.stream.proofs.write_out.Reads as reads
-use Rattle.stream.proofs.write_out.Lts as lts
-use Rattle.io.proofs.write_all.Reads as write-all-reads
 
 slice-aggregate-write-all : tie.Need-slice-aggregate-write-all
-slice-aggregate-write-all c = sym (length-take-le _ _ (c .before .before .pre))
-
-write-all-requires : tie.Need-write-all-requires
-write-all-requires c κs = search needs
-
-returns : tie.Need-returns
-returns c = search needs
+slice-aggregate-write-all c =
+    let s : tie.Start = search in
+    sym (length-take-le _ _ (s .pre))
 
 pub write-out-spec : {M : Type 1} → statement M
-write-out-spec = tie.close (tie.spec slice-aggregate-write-all write-all-requires returns)
+write-out-spec = tie.close (tie.spec slice-aggregate-write-all (λ c κs. search needs) (λ c. search needs))
