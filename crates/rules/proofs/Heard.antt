@@ -20,7 +20,7 @@ use Rattle.rules.specs.State.{State, isDropped}
 use Rattle.rules.specs.Reading.{detailsIn, reading}
 use Rattle.rules.specs.Own.{Status, Further, Result, nothing, opened, received, sent, statuses, error, problem, done}
 use Rattle.rules.specs.Written.{Response, detailsBytes, statusBytes, statusObject, statusObjects, furtherObjects, resultBytes, resultObjects, responseObjects, responseBytes}
-use Rattle.rules.specs.Bench.{bearerProper, errorProper, successProper, furtherProper, resultProper, rising, proper, valueAt, statusIn, statusesIn, furtherIn, resultIn, responseIn, Told, told, untold, benchRead}
+use Rattle.rules.specs.Bench.{bearerProper, errorProper, successProper, bare, furtherProper, resultProper, rising, proper, valueAt, statusIn, statusesIn, furtherIn, resultIn, responseIn, Told, told, untold, benchRead}
 use Rattle.rules.specs.Command.{Answer, wrote, command, meantBy}
 use Rattle.rules.specs.Sound.{Each, Sound}
 use Rattle.rules.proofs.Laws.{branch, stop, skip, both-left, both-right, either, by-equal, each-member}
@@ -86,7 +86,7 @@ list-back (s ∷ ss) e =
 -- what follows a result is read as it was written, for the type that has it
 further-back : (t : ℕ) (f : Further) → furtherProper t f ≡ true → furtherIn t (furtherObjects f) ≡ f
 unfolding furtherProper furtherIn furtherObjects statusObject valueAt _⇒_else_
-further-back t nothing e = each-member (λ (k : ℕ). furtherIn k [] ≡ nothing) t (0x02 ∷ 0x05 ∷ 0x41 ∷ []) (refl, (refl, (refl, tt))) e
+further-back t nothing e = each-member (λ (k : ℕ). furtherIn k [] ≡ nothing) t bare (refl, (refl, (refl, tt))) e
 further-back t (opened s b g) e =
     let fit : eqb t 0x40 && rising 0 (s ∷ []) ≡ true = both-left _ (not (isDropped (s .link))) (both-left _ (bearerProper b) (both-left _ (leb 1 g) (both-left _ (leb g 1500) e))) in
     let first = rising-first 0 s [] (both-right (eqb t 0x40) (rising 0 (s ∷ [])) fit) in

@@ -95,9 +95,13 @@ unfoldable pub rising : ℕ → List Status → Bool
 rising n [] = true
 rising n (s ∷ ss) = ltb n (s .number .0) && leb (s .number .0) 7 && rising (s .number .0) ss
 
+-- the types whose result nothing follows
+abbrev pub bare : List ℕ
+bare = 0x02 ∷ 0x05 ∷ 0x41 ∷ []
+
 -- what follows is that of the type: data up to 237, grant 1 to 1500, counts up to FF
 unfoldable pub furtherProper : ℕ → Further → Bool
-furtherProper t nothing = member t (0x02 ∷ 0x05 ∷ 0x41 ∷ [])
+furtherProper t nothing = member t bare
 furtherProper t (opened s b g) =
     eqb t 0x40 && rising 0 (s ∷ []) && not (isDropped (s .link)) && bearerProper b && leb 1 g && leb g 1500
 furtherProper t (received s left) = eqb t 0x42 && leb (length s) 237
