@@ -16,9 +16,6 @@ returns : tie.Need-returns
 unfolding digitValue
 returns c = search checks
 
-sub-result-2 : tie.Need-sub-result-2
-sub-result-2 c = search needs
-
 returns-2 : tie.Need-returns-2
 unfolding digitValue
 returns-2 c = search checks
@@ -31,5 +28,4 @@ unfolding digitValue
 returns-3 c = search checks
 
 pub digit-value-spec : {M : Type 1} → statement M
-digit-value-spec =
-    tie.close (tie.spec sub-result returns sub-result-2 returns-2 sub-result-3 returns-3)
+digit-value-spec = tie.close (tie.spec sub-result returns (λ c. search needs) returns-2 sub-result-3 returns-3)

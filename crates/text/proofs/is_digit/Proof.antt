@@ -27,5 +27,4 @@ returns-7 : tie.Need-returns-7
 returns-7 c = no-digit _ (omega arith) (omega arith) (omega arith)
 
 pub is-digit-spec : {M : Type 1} → statement M
-is-digit-spec =
-    tie.close (tie.spec returns returns-2 returns-3 returns-4 returns-5 returns-6 returns-7)
+is-digit-spec = tie.close (tie.spec returns returns-2 returns-3 returns-4 returns-5 returns-6 returns-7)

@@ -7,57 +7,32 @@ use borrow.Author.Needs.{needs}
 use Rattle.text.proofs.print_written.Statement.{statement}
 use Rattle.text.proofs.print_written.Tie as tie
 
-slice-aggregate-put : tie.Need-slice-aggregate-put
-slice-aggregate-put c = search needs
-
-put-requires : tie.Need-put-requires
-put-requires c κs = search needs
-
-add-result : tie.Need-add-result
-add-result c = search needs
-
-same-length : tie.Need-same-length
-same-length c = search needs
-
 returns : tie.Need-returns
-returns c = line-as _ _ _ _ _ _ (nothing-line (now (c .before .before .before .before .before .before .before .before .args .bytes)) (c .before .before .before .before .before .if1 .taken)) (c .before .before .put .ensures) refl
-
-print-bytes-requires : tie.Need-print-bytes-requires
-print-bytes-requires c κs = search needs
-
-mul-end : tie.Need-mul-end
-mul-end c = search needs
-
-add-end : tie.Need-add-end
-add-end c = search needs
-
-slice-write-out : tie.Need-slice-write-out
-slice-write-out c = search needs
-
-add-result-2 : tie.Need-add-result-2
-add-result-2 c = search needs
-
-same-length-2 : tie.Need-same-length-2
-same-length-2 c = search needs
+returns c =
+    let at-then1 : tie.Then1 = search in
+    let at-start : tie.Start = search in
+    line-as _ _ _ _ _ _ (nothing-line (now (at-start .args .bytes)) (at-then1 .if1 .taken)) (c .before .before .put .ensures) refl
 
 returns-2 : tie.Need-returns-2
 returns-2 c =
-    let s = c .before .before .before .before .before .before .before in
-    hexed-line (now (s .args .out)) (s .args .at) (now (s .args .bytes)) _ (c .before .before .before .before .if1 .left) (s .pre) (c .before .before .print-bytes .ensures)
+    let at-else1 : tie.Else1 = search in
+    let at-start : tie.Start = search in
+    let s = at-start in
+    hexed-line (now (s .args .out)) (s .args .at) (now (s .args .bytes)) _ (at-else1 .if1 .left) (s .pre) (c .before .before .print-bytes .ensures)
 
 pub print-written-spec : {M : Type 1} → statement M
 print-written-spec =
     tie.close
     (tie.spec
-    slice-aggregate-put
-    put-requires
-    add-result
-    same-length
+    (λ c. search needs)
+    (λ c κs. search needs)
+    (λ c. search needs)
+    (λ c. search needs)
     returns
-    print-bytes-requires
-    mul-end
-    add-end
-    slice-write-out
-    add-result-2
-    same-length-2
+    (λ c κs. search needs)
+    (λ c. search needs)
+    (λ c. search needs)
+    (λ c. search needs)
+    (λ c. search needs)
+    (λ c. search needs)
     returns-2)

@@ -12,29 +12,19 @@ returns : tie.Need-returns
 unfolding callSpoken
 returns c = empty-call (now (c .before .before .args .frame)) (c .if1 .taken)
 
-shared-slice-read-first : tie.Need-shared-slice-read-first
-shared-slice-read-first c = search needs
-
 returns-2 : tie.Need-returns-2
 unfolding callOf callSpoken
 returns-2 c = search parts
 
 returns-3 : tie.Need-returns-3
 unfolding callSpoken
-returns-3 c = short-call (now (c .before .before .before .before .before .args .frame)) (c .before .if2 .left) (c .if3 .taken)
-
-shared-slice-read-t7 : tie.Need-shared-slice-read-t7
-shared-slice-read-t7 c = search needs
+returns-3 c =
+    let at-start : tie.Start = search in
+    short-call (now (at-start .args .frame)) (c .before .if2 .left) (c .if3 .taken)
 
 returns-4 : tie.Need-returns-4
 unfolding callOf callSpoken
 returns-4 c = search parts
-
-read-take-requires : tie.Need-read-take-requires
-read-take-requires c κs = search needs
-
-returns-5 : tie.Need-returns-5
-returns-5 c = search needs
 
 returns-6 : tie.Need-returns-6
 unfolding callOf callSpoken
@@ -53,13 +43,13 @@ read-call-spec =
     tie.close
     (tie.spec
     returns
-    shared-slice-read-first
+    (λ c. search needs)
     returns-2
     returns-3
-    shared-slice-read-t7
+    (λ c. search needs)
     returns-4
-    read-take-requires
-    returns-5
+    (λ c κs. search needs)
+    (λ c. search needs)
     returns-6
     returns-7
     returns-8)

@@ -17,54 +17,40 @@ abbrev μ-loop : tie.MeasureT-loop
 returns : tie.Need-returns Inv-loop μ-loop
 returns c = told-long _ _ (c .if1 .taken)
 
-readable-requires : tie.Need-readable-requires Inv-loop μ-loop
-readable-requires c κs = tt
-
 returns-2 : tie.Need-returns-2 Inv-loop μ-loop
 returns-2 c = told-unread _ _ (c .before .before .if1 .left) (sym (c .before .readable .ensures) ∙ not-true _ (c .if2 .taken))
 
 loop-holds : tie.Need-loop-holds Inv-loop μ-loop
-loop-holds c = fills-none _ _ (sym (c .before .readable .ensures) ∙ not-false _ (c .if2 .left)) (c .before .before .if1 .left) (c .before .before .before .before .before .pre)
-
-mul-k : tie.Need-mul-k Inv-loop μ-loop
-mul-k c = omega arith
-
-shared-slice-read-digit-value : tie.Need-shared-slice-read-digit-value Inv-loop μ-loop
-shared-slice-read-digit-value c = omega arith
+loop-holds c =
+    let at-start : tie.Start Inv-loop μ-loop = search in
+    fills-none _ _ (sym (c .before .readable .ensures) ∙ not-false _ (c .if2 .left)) (c .before .before .if1 .left) (at-start .pre)
 
 digit-value-requires : tie.Need-digit-value-requires Inv-loop μ-loop
 digit-value-requires c κs = fills-digit _ _ _ _ (c .before .before .loop .inv) _ (omega arith)
 
 mul-out : tie.Need-mul-out Inv-loop μ-loop
-mul-out c = let d = fills-small _ _ _ _ (c .before .before .before .loop .inv) _ _ (omega arith) (c .digit-value .ensures) in omega arith
-
-add-digit-value : tie.Need-add-digit-value Inv-loop μ-loop
-add-digit-value c = omega arith
-
-shared-slice-read-digit-value-2 : tie.Need-shared-slice-read-digit-value-2 Inv-loop μ-loop
-shared-slice-read-digit-value-2 c = omega arith
+mul-out c =
+    let at-loop : tie.At-loop Inv-loop μ-loop = search in
+    let d = fills-small _ _ _ _ (at-loop .loop .inv) _ _ (omega arith) (c .digit-value .ensures) in omega arith
 
 digit-value-requires-2 : tie.Need-digit-value-requires-2 Inv-loop μ-loop
-digit-value-requires-2 c κs = fills-digit _ _ _ _ (c .before .before .before .before .loop .inv) _ (omega arith)
+digit-value-requires-2 c κs =
+    let at-loop : tie.At-loop Inv-loop μ-loop = search in
+    fills-digit _ _ _ _ (at-loop .loop .inv) _ (omega arith)
 
 add-out : tie.Need-add-out Inv-loop μ-loop
 add-out c =
-    let w = c .before .before .before .before .before .loop .inv in
+    let at-loop : tie.At-loop Inv-loop μ-loop = search in
+    let w = at-loop .loop .inv in
     let d = fills-small _ _ _ _ w _ _ (omega arith) (c .before .before .digit-value .ensures) in
     let e = fills-small _ _ _ _ w _ _ (omega arith) (c .digit-value2 .ensures) in
     omega arith
 
-slice-write-out : tie.Need-slice-write-out Inv-loop μ-loop
-slice-write-out c = omega arith
-
-add-i : tie.Need-add-i Inv-loop μ-loop
-add-i c = omega arith
-
-loop-less : tie.Need-loop-less Inv-loop μ-loop
-loop-less c = omega arith
-
 loop-again : tie.Need-loop-again Inv-loop μ-loop
-loop-again c = fills-more _ _ _ _ (c .before .before .before .before .before .loop .inv) _ (c .before .before .before .before .loop-test .taken) (λ j. 16 * c .before .before .digit-value .ensures j + c .digit-value2 .ensures j)
+loop-again c =
+    let in-loop : tie.In-loop Inv-loop μ-loop = search in
+    let at-loop : tie.At-loop Inv-loop μ-loop = search in
+    fills-more _ _ _ _ (at-loop .loop .inv) _ (in-loop .loop-test .taken) (λ j. 16 * c .before .before .digit-value .ensures j + c .digit-value2 .ensures j)
 
 same-length : tie.Need-same-length Inv-loop μ-loop
 same-length c = c .before .loop .inv .copied .same
@@ -79,20 +65,20 @@ read-frame-spec =
     Inv-loop
     μ-loop
     returns
-    readable-requires
+    (λ c κs. tt)
     returns-2
     loop-holds
-    mul-k
-    shared-slice-read-digit-value
+    (λ c. omega arith)
+    (λ c. omega arith)
     digit-value-requires
     mul-out
-    add-digit-value
-    shared-slice-read-digit-value-2
+    (λ c. omega arith)
+    (λ c. omega arith)
     digit-value-requires-2
     add-out
-    slice-write-out
-    add-i
-    loop-less
+    (λ c. omega arith)
+    (λ c. omega arith)
+    (λ c. omega arith)
     loop-again
     same-length
     returns-3)

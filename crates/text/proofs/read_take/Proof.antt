@@ -11,17 +11,11 @@ returns : tie.Need-returns
 unfolding callSpoken
 returns c = take-unsized _ (c .before .args .n) (c .before .pre) (c .if1 .taken)
 
-shared-slice-read-count : tie.Need-shared-slice-read-count
-shared-slice-read-count c = search needs
-
 cast-count : tie.Need-cast-count
 cast-count c = omega (arith, c .shared-slice-known .given 2)
 
 mul-count : tie.Need-mul-count
 mul-count c = omega (arith, c .shared-slice-known .given 2)
-
-shared-slice-read-count-2 : tie.Need-shared-slice-read-count-2
-shared-slice-read-count-2 c = search needs
 
 cast-count-2 : tie.Need-cast-count-2
 cast-count-2 c = omega (arith, c .shared-slice-known2 .given 3)
@@ -31,21 +25,26 @@ add-count c = omega (arith, c .shared-slice-known2 .given 2, c .shared-slice-kno
 
 returns-2 : tie.Need-returns-2
 unfolding callSpoken
-returns-2 c = let s = c .before .before .before .before in take-over _ (s .args .n) (s .pre) (c .if2 .taken)
+returns-2 c =
+    let at-start : tie.Start = search in
+    let s = at-start in take-over _ (s .args .n) (s .pre) (c .if2 .taken)
 
 returns-3 : tie.Need-returns-3
 unfolding callSpoken
-returns-3 c = let s = c .before .before .before .before in take-call _ (s .args .n) (s .pre) (c .before .before .before .if1 .left) (c .if2 .left)
+returns-3 c =
+    let at-else1 : tie.Else1 = search in
+    let at-start : tie.Start = search in
+    let s = at-start in take-call _ (s .args .n) (s .pre) (at-else1 .if1 .left) (c .if2 .left)
 
 pub read-take-spec : {M : Type 1} → statement M
 read-take-spec =
     tie.close
     (tie.spec
     returns
-    shared-slice-read-count
+    (λ c. search needs)
     cast-count
     mul-count
-    shared-slice-read-count-2
+    (λ c. search needs)
     cast-count-2
     add-count
     returns-2

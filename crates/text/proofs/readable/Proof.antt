@@ -18,41 +18,30 @@ abbrev μ-loop : tie.MeasureT-loop
 loop-holds : tie.Need-loop-holds Inv-loop μ-loop
 loop-holds c = pairs-none _
 
-sub-if1 : tie.Need-sub-if1 Inv-loop μ-loop
-sub-if1 c = omega arith
-
 returns : tie.Need-returns Inv-loop μ-loop
 returns c = pairs-odd _ _ (c .before .before .loop .inv) (c .before .loop-test .taken) (c .if1 .taken)
 
-shared-slice-read-is-digit : tie.Need-shared-slice-read-is-digit Inv-loop μ-loop
-shared-slice-read-is-digit c = omega arith
-
-is-digit-requires : tie.Need-is-digit-requires Inv-loop μ-loop
-is-digit-requires c κs = tt
-
 returns-2 : tie.Need-returns-2 Inv-loop μ-loop
-returns-2 c = no-first _ _ (c .before .before .before .before .before .loop .inv) (c .before .before .before .if1 .left) (sym (c .before .is-digit .ensures) ∙ not-true _ (c .if2 .taken))
-
-add-is-digit : tie.Need-add-is-digit Inv-loop μ-loop
-add-is-digit c = omega arith
-
-shared-slice-read-is-digit-2 : tie.Need-shared-slice-read-is-digit-2 Inv-loop μ-loop
-shared-slice-read-is-digit-2 c = omega arith
-
-is-digit-requires-2 : tie.Need-is-digit-requires-2 Inv-loop μ-loop
-is-digit-requires-2 c κs = tt
+returns-2 c =
+    let at-else1 : tie.Else1 Inv-loop μ-loop = search in
+    let at-loop : tie.At-loop Inv-loop μ-loop = search in
+    no-first _ _ (at-loop .loop .inv) (at-else1 .if1 .left) (sym (c .before .is-digit .ensures) ∙ not-true _ (c .if2 .taken))
 
 returns-3 : tie.Need-returns-3 Inv-loop μ-loop
-returns-3 c = no-second _ _ (c .before .before .before .before .before .before .before .before .loop .inv) (c .before .before .before .before .before .before .if1 .left) (sym (c .before .before .before .before .is-digit .ensures) ∙ not-false _ (c .before .before .before .if2 .left)) (sym (c .before .is-digit2 .ensures) ∙ not-true _ (c .if3 .taken))
-
-add-i : tie.Need-add-i Inv-loop μ-loop
-add-i c = omega arith
-
-loop-less : tie.Need-loop-less Inv-loop μ-loop
-loop-less c = omega arith
+returns-3 c =
+    let at-else2 : tie.Else2 Inv-loop μ-loop = search in
+    let after-is-digit : tie.After-is-digit Inv-loop μ-loop = search in
+    let at-else1 : tie.Else1 Inv-loop μ-loop = search in
+    let at-loop : tie.At-loop Inv-loop μ-loop = search in
+    no-second _ _ (at-loop .loop .inv) (at-else1 .if1 .left) (sym (after-is-digit .is-digit .ensures) ∙ not-false _ (at-else2 .if2 .left)) (sym (c .before .is-digit2 .ensures) ∙ not-true _ (c .if3 .taken))
 
 loop-again : tie.Need-loop-again Inv-loop μ-loop
-loop-again c = pairs-more _ _ (c .before .before .before .before .before .before .before .before .loop .inv) (c .before .before .before .before .before .before .if1 .left) (sym (c .before .before .before .before .is-digit .ensures) ∙ not-false _ (c .before .before .before .if2 .left)) (sym (c .before .is-digit2 .ensures) ∙ not-false _ (c .if3 .left))
+loop-again c =
+    let at-else2 : tie.Else2 Inv-loop μ-loop = search in
+    let after-is-digit : tie.After-is-digit Inv-loop μ-loop = search in
+    let at-else1 : tie.Else1 Inv-loop μ-loop = search in
+    let at-loop : tie.At-loop Inv-loop μ-loop = search in
+    pairs-more _ _ (at-loop .loop .inv) (at-else1 .if1 .left) (sym (after-is-digit .is-digit .ensures) ∙ not-false _ (at-else2 .if2 .left)) (sym (c .before .is-digit2 .ensures) ∙ not-false _ (c .if3 .left))
 
 returns-4 : tie.Need-returns-4 Inv-loop μ-loop
 returns-4 c = pairs-end _ _ (c .before .loop .inv) (c .loop-test .left)
@@ -64,16 +53,16 @@ readable-spec =
     Inv-loop
     μ-loop
     loop-holds
-    sub-if1
+    (λ c. omega arith)
     returns
-    shared-slice-read-is-digit
-    is-digit-requires
+    (λ c. omega arith)
+    (λ c κs. tt)
     returns-2
-    add-is-digit
-    shared-slice-read-is-digit-2
-    is-digit-requires-2
+    (λ c. omega arith)
+    (λ c. omega arith)
+    (λ c κs. tt)
     returns-3
-    add-i
-    loop-less
+    (λ c. omega arith)
+    (λ c. omega arith)
     loop-again
     returns-4)
