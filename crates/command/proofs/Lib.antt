@@ -2,10 +2,11 @@ pub mod Keys
 pub mod Tables
 pub mod Lengths
 pub mod Sifting
+pub mod Counting
+pub mod Needed
 pub mod Sorting
 pub mod Framing
 pub mod Steps
-pub mod Counting
 pub mod Known
 pub mod Settling
 pub mod Opening

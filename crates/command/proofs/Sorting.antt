@@ -18,106 +18,125 @@ use Rattle.rules.proofs.Laws.{branch, stop, skip}
 use Rattle.octets.specs.Parts.{part}
 use Rattle.objects.specs.Places.{objectOf, Stands, placeUpTo, placeOf}
 use Rattle.objects.proofs.Walking.{here-end, here-fault, here-object, Ends, ends-start, ends-on, ends-end, ends-fault, place-here}
-use Rattle.command.specs.declared.Met.{Met}
 use Rattle.command.specs.declared.Row.{Row}
 use Rattle.command.specs.declared.Sorted.{Sorted}
 use Rattle.command.specs.declared.Survey.{Survey}
 use Rattle.command.specs.Plans.{timesBy, needed, RowFor}
-use Rattle.command.specs.Surveys.{surveyOf, noted, slotted, indexIn, slotOf, unmet, metOf, metAgain, sortedBy}
-use Rattle.command.specs.Requests.{theDetails, Headed, MetIs, Sorts}
+use Rattle.command.specs.Surveys.{surveyOf, noted, slots, slotOf, firstOf, allStand, sortedBy}
+use Rattle.command.specs.Requests.{theDetails, Headed, StandsAt, Sorts}
 use Rattle.command.proofs.Keys.{every-member}
 use Rattle.command.proofs.Lengths.{part-size}
+use Rattle.command.proofs.Needed.{first-there, complete-is}
 use Rattle.command.proofs.Sifting.{numbers, occurs-more, occurs-present, value-more, value-none, more, sift-more, survey-more}
 use Rattle.command.proofs.Tables.{has-slot, slot-within, slot-one, times-none, required-slot, own-needed, further-needed}
 
--- what was met of a number among the objects before a place; so many objects may still stand from there on
-pub record Met-before (s : List ℕ) (before : List Object) (at fuel n : ℕ) (m : Met) : Type 0 where
-  pub count : m .count ≡ occurrences n (numbers before)
-  pub value : valueOf n before ≡ part (m .start) (m .start + m .len) s
-  pub within : m .start + m .len ≤ length s
-  pub place : placeOf n s ≡ (eqb (m .count) 0 ⇒ at + placeUpTo n fuel (drop at s) else m .start)
+-- what was met of a number among the objects before a place: how many, and where the first value starts; so many objects may still stand from there on
+pub record Met (s : List ℕ) (before : List Object) (at fuel n count start : ℕ) : Type 0 where
+  pub counted : count ≡ occurrences n (numbers before)
+  pub there : eqb start 0 ≡ eqb count 0
+  pub value : valueOf n before ≡ part start (start + length (valueOf n before)) s
+  pub within : start + length (valueOf n before) ≤ length s
+  pub last : eqb count 0 ≡ false → getD s (start - 1) 0 ≡ length (valueOf n before)
+  pub place : placeOf n s ≡ (eqb count 0 ⇒ at + placeUpTo n fuel (drop at s) else start)
 
-module _ {s : List ℕ} {before : List Object} {at fuel n : ℕ} {m : Met} (w : Met-before s before at (suc fuel) n m) {number : ℕ} {flag : Bool} {start k next : ℕ} (st : Stands s at number flag start k next) where
+-- one object more
+module _
+    {s : List ℕ} {before : List Object} {at fuel n count first : ℕ} (w : Met s before at (suc fuel) n count first)
+    {number : ℕ} {flag : Bool} {start k next : ℕ} (st : Stands s at number flag start k next) where
   abbrev o : Object
   o = objectOf s number flag start k
 
-  -- an object of another number
-  met-other : (n ≡ number → ⊥) → Met-before s (before ++ (o ∷ [])) next fuel n m
+  -- the value that is known, of objects of which another part is known
+  keeps :
+      (at′ fuel′ count′ : ℕ) (os : List Object) → valueOf n os ≡ valueOf n before → count′ ≡ occurrences n (numbers os) → eqb count′ 0 ≡ eqb count 0 →
+      placeOf n s ≡ (eqb count 0 ⇒ at′ + placeUpTo n fuel′ (drop at′ s) else first) → Met s os at′ fuel′ n count′ first
+  keeps at′ fuel′ count′ os v c z p =
+      let l = ap length v in
+      record {
+        counted = c;
+        there = w .there ∙ sym z;
+        value = v ∙ w .value ∙ ap (λ (m : ℕ). part first (first + m) s) (sym l);
+        within = omega (arith, w .within);
+        last = λ q. w .last (sym z ∙ q) ∙ sym l;
+        place = p ∙ ap (λ (b : Bool). b ⇒ at′ + placeUpTo n fuel′ (drop at′ s) else first) (sym z);
+      }
+
+  met-other : (n ≡ number → ⊥) → Met s (before ++ (o ∷ [])) next fuel n count first
   unfolding _⇒_else_
   met-other h =
       let e = ne-eqb n number h in
-      record {
-        count =
-            let a = occurs-more n before o in
-            let z = skip {A = ℕ} (eqb n number) 1 0 e in
-            omega (arith, w .count);
-        value = value-more n before o ∙ (λ i. eqb (occurrences n (numbers before)) 0 ⇒ (skip (eqb n number) (o .value) [] e i) else valueOf n before) ∙ by (eqb (occurrences n (numbers before)) 0) refl ∙ w .value;
-        within = w .within;
-        place = w .place ∙ ap (λ (x : ℕ). eqb (m .count) 0 ⇒ x else m .start) later;
-      }
+      let v = value-more n before o ∙ ap (λ (l : List ℕ). eqb (occurrences n (numbers before)) 0 ⇒ l else valueOf n before) (skip _ _ _ e) in
+      let c : count ≡ occurrences n (numbers (before ++ (o ∷ []))) =
+      let a = occurs-more n before o in let z = skip {A = ℕ} (eqb n number) 1 0 e in omega (arith, w .counted) in
+      keeps next fuel count (before ++ (o ∷ [])) (v ∙ by (eqb (occurrences n (numbers before)) 0) refl) c refl
+      (w .place ∙ ap (λ (x : ℕ). eqb count 0 ⇒ x else first) later)
     where
       by : (b : Bool) → eqb (occurrences n (numbers before)) 0 ≡ b → (b ⇒ [] else valueOf n before) ≡ valueOf n before
       by true e = sym (value-none n before (eqb-true (occurrences n (numbers before)) 0 e))
       by false e = refl
 
       later : at + placeUpTo n (suc fuel) (drop at s) ≡ next + placeUpTo n fuel (drop next s)
-      later =
-          let p = place-here st n fuel ∙ skip _ _ _ (ne-eqb n number h) in
-          omega (arith, st .behind, st .ends)
+      later = let p = place-here st n fuel ∙ skip _ _ _ (ne-eqb n number h) in omega (arith, st .behind, st .ends)
 
-  -- an object of this number
-  met-same : n ≡ number → Met-before s (before ++ (o ∷ [])) next fuel n (metAgain m start k)
-  unfolding metAgain _⇒_else_
-  met-same e = by (eqb (m .count) 0) refl
+  met-same : n ≡ number → Met s (before ++ (o ∷ [])) next fuel n (count + 1) (firstOf count first start)
+  unfolding firstOf _⇒_else_
+  met-same e = by (eqb count 0) refl
     where
-      one : occurrences n (numbers (before ++ (o ∷ []))) ≡ occurrences n (numbers before) + 1
+      one : count + 1 ≡ occurrences n (numbers (before ++ (o ∷ [])))
       one =
           let a = occurs-more n before o in
           let z = stop {A = ℕ} (eqb n number) 1 0 (eq-eqb n number e) in
-          omega arith
+          omega (arith, w .counted)
+
+      some : eqb (count + 1) 0 ≡ false
+      some = ne-eqb (count + 1) 0 (λ x. absurd (omega arith))
 
       here : at + placeUpTo n (suc fuel) (drop at s) ≡ start
-      here =
-          let p = place-here st n fuel ∙ stop _ _ _ (eq-eqb n number e) in
-          omega (arith, st .behind)
+      here = let p = place-here st n fuel ∙ stop _ _ _ (eq-eqb n number e) in omega (arith, st .behind)
 
-      by : (b : Bool) → eqb (m .count) 0 ≡ b →
-          Met-before s (before ++ (o ∷ [])) next fuel n (b ⇒ record { count = 1; start = start; len = k } else record { count = m .count + 1; start = m .start; len = m .len })
+      none-or : (b : Bool) → eqb count 0 ≡ b → eqb (occurrences n (numbers before)) 0 ≡ b
+      none-or b q = ap (λ (x : ℕ). eqb x 0) (sym (w .counted)) ∙ q
+
+      by : (b : Bool) → eqb count 0 ≡ b → Met s (before ++ (o ∷ [])) next fuel n (count + 1) (b ⇒ start else first)
       by true q =
-          let z = eqb-true (m .count) 0 q in
+          let v = value-more n before o ∙ stop _ _ _ (none-or true q) ∙ stop _ _ _ (eq-eqb n number e) in
+          let l = ap length v ∙ part-size s start k (omega (arith, st .ends, st .within)) in
           record {
-            count = omega (arith, w .count, one);
-            value =
-                value-more n before o ∙ stop _ _ _ (ap (λ (x : ℕ). eqb x 0) (sym (w .count)) ∙ q) ∙ stop _ _ _ (eq-eqb n number e);
+            counted = one;
+            there = ne-eqb start 0 (λ x. absurd (omega (arith, st .behind))) ∙ sym some;
+            value = v ∙ ap (λ (m : ℕ). part start (start + m) s) (sym l);
             within = omega (arith, st .ends, st .within);
-            place = w .place ∙ stop _ _ _ q ∙ here;
+            last = λ _. st .last ∙ sym l;
+            place = w .place ∙ stop _ _ _ q ∙ here ∙ sym (skip _ _ _ some);
           }
       by false q =
-          let z = eqb-false (m .count) 0 q in
-          record {
-            count = omega (arith, w .count, one);
-            value = value-more n before o ∙ skip _ _ _ (ap (λ (x : ℕ). eqb x 0) (sym (w .count)) ∙ q) ∙ w .value;
-            within = w .within;
-            place = w .place ∙ skip _ _ _ q ∙ sym (skip _ _ _ (ne-eqb (m .count + 1) 0 (λ x. absurd (omega arith))));
-          }
+          keeps next fuel (count + 1) (before ++ (o ∷ [])) (value-more n before o ∙ skip _ _ _ (none-or false q)) one (some ∙ sym q)
+          (w .place ∙ skip _ _ _ q ∙ sym (skip _ _ _ q))
 
 -- the objects before a place are sorted
-pub record Sorting (s : List ℕ) (slots : List Met) (v : Survey) (at : ℕ) : Type 0 where
+pub record Sorting (s counts starts : List ℕ) (v : Survey) (at : ℕ) : Type 0 where
   pub before : List Object
   pub fuel : ℕ
   pub enough : length s ≤ at + fuel
   pub objects : walk s .objects ≡ before ++ walk (drop at s) .objects
   pub ends : Ends s at
-  pub size : length slots ≡ 15
-  pub few : (k : ℕ) → k < 15 → 2 * getD slots k unmet .count ≤ at
-  pub met : (n : ℕ) → has-slot n ≡ true → Met-before s before at fuel n (metOf slots n)
+  pub counts-long : length counts ≡ slots
+  pub starts-long : length starts ≡ slots
+  pub few : (k : ℕ) → k < slots → 2 * getD counts k 0 ≤ at
+  pub met : (n : ℕ) → has-slot n ≡ true → Met s before at fuel n (getD counts (slotOf n) 0) (getD starts (slotOf n) 0)
   pub survey : v ≡ surveyOf (sift (rowOf (theDetails s)) [] before)
 
 -- nothing is met before the first object
 abbrev blank : Survey
 blank = record { flagged = false; ignored = false; misfit = false }
 
-sorting-none : (s : List ℕ) → Sorting s (replicate 15 unmet) blank 0
+abbrev zeros : List ℕ
+zeros = replicate slots 0
+
+zero-at : (k : ℕ) → k < slots → 0 ≡ getD zeros k 0
+zero-at k h = sym (getD-replicate slots k 0 0 h)
+
+sorting-none : (s : List ℕ) → Sorting s zeros zeros blank 0
 unfolding occurrences valueOf sift some-of isEmpty measured every
 sorting-none s =
     record {
@@ -126,27 +145,28 @@ sorting-none s =
       enough = omega arith;
       objects = refl;
       ends = ends-start s;
-      size = refl;
-      few = λ k h. let e = ap (λ (m : Met). m .count) (getD-replicate 15 k unmet unmet h) in omega arith;
-      met = λ n h. subst (λ (m : Met). Met-before s [] 0 (length s) n m) (sym (getD-replicate 15 (slotOf n) unmet unmet (slot-within n))) (none n);
+      counts-long = refl;
+      starts-long = refl;
+      few = λ k h. let e = zero-at k h in omega arith;
+      met = λ n h. subst (λ (z : ℕ). Met s [] 0 (length s) n z z) (zero-at (slotOf n) (slot-within n)) (none n);
       survey = refl;
     }
   where
-    none : (n : ℕ) → Met-before s [] 0 (length s) n unmet
+    none : (n : ℕ) → Met s [] 0 (length s) n 0 0
     none n =
-        record {
-          count = refl;
-          value = refl;
-          within = omega arith;
-          place = let e : placeOf n s ≡ 0 + placeUpTo n (length s) (drop 0 s) = omega arith in e ∙ sym (stop _ _ _ refl);
-        }
+        let p : placeOf n s ≡ 0 + placeUpTo n (length s) (drop 0 s) = omega arith in
+        record { counted = refl; there = refl; value = refl; within = omega arith; last = λ q. absurd (true≢false q); place = p ∙ sym (stop _ _ _ refl) }
 
-met-counts : (m : Met) (start n : ℕ) → metAgain m start n .count ≡ m .count + 1
-unfolding metAgain
-met-counts m start n = branch (λ (x : Met). x .count ≡ m .count + 1) _ _ _ (λ e. let z = eqb-true (m .count) 0 e in omega arith) (λ _. refl)
+-- a list of which one entry is another
+module _ (l : List ℕ) (k x : ℕ) (h : k < length l) where
+  set-there : (j : ℕ) → j ≡ k → x ≡ getD (set l k x) j 0
+  set-there j e = sym (ap (λ (i : ℕ). getD (set l k x) i 0) e ∙ getD-set-same l k x 0 h)
 
--- one object more
-module _ {s : List ℕ} {slots : List Met} {v : Survey} {at : ℕ} (w : Sorting s slots v at)
+  set-elsewhere : (j : ℕ) → (j ≡ k → ⊥) → getD l j 0 ≡ getD (set l k x) j 0
+  set-elsewhere j e = sym (getD-set-other l k j x 0 e)
+
+module _
+    {s counts starts : List ℕ} {v : Survey} {at : ℕ} (w : Sorting s counts starts v at)
     {number : ℕ} {flag : Bool} {start n next : ℕ} (st : Stands s at number flag start n next) {row : Row} (r : RowFor row (theDetails s)) where
   abbrev x : Object
   x = objectOf s number flag start n
@@ -154,60 +174,67 @@ module _ {s : List ℕ} {slots : List Met} {v : Survey} {at : ℕ} (w : Sorting 
   abbrev slot : ℕ
   slot = slotOf number
 
-  abbrev met : Met
-  met = metAgain (metOf slots number) start n
-
-  room : slot < length slots
-  room = let h = slot-within number in omega (arith, w .size)
-
-  few-more : (k : ℕ) → k < 15 → 2 * getD (set slots slot met) k unmet .count ≤ next
-  few-more k h = by (eqb k slot) refl
-    where
-      by : (b : Bool) → eqb k slot ≡ b → 2 * getD (set slots slot met) k unmet .count ≤ next
-      by true e =
-          let q = ap (λ (j : ℕ). getD (set slots slot met) j unmet .count) (eqb-true k slot e) in
-          let c = ap (λ (m : Met). m .count) (getD-set-same slots slot met unmet room) in
-          let a = met-counts (metOf slots number) start n in
-          let f = w .few slot (slot-within number) in
-          omega (arith, st .behind, st .ends)
-      by false e =
-          let c = ap (λ (m : Met). m .count) (getD-set-other slots slot k met unmet (eqb-false k slot e)) in
-          let f = w .few k h in
-          omega (arith, st .behind, st .ends)
-
-  met-more :
-      (f : ℕ) → ((k : ℕ) → has-slot k ≡ true → Met-before s (w .before) at (suc f) k (metOf slots k)) →
-      (k : ℕ) → has-slot k ≡ true → Met-before s (w .before ++ (x ∷ [])) next f k (metOf (set slots slot met) k)
-  met-more f was k h = by (eqb k number) refl
-    where
-      by : (b : Bool) → eqb k number ≡ b → Met-before s (w .before ++ (x ∷ [])) next f k (metOf (set slots slot met) k)
-      by true e =
-          let q = eqb-true k number e in
-          subst (λ (m : Met). Met-before s (w .before ++ (x ∷ [])) next f k m)
-          (sym (ap (λ (j : ℕ). metOf (set slots slot met) j) q ∙ getD-set-same slots slot met unmet room ∙ ap (λ (j : ℕ). metAgain (metOf slots j) start n) (sym q)))
-          (met-same (was k h) st q)
-      by false e =
-          let q = eqb-false k number e in
-          subst (λ (m : Met). Met-before s (w .before ++ (x ∷ [])) next f k m)
-          (sym (getD-set-other slots slot (slotOf k) met unmet (λ p. q (slot-one k number h p)))) (met-other (was k h) st q)
+  abbrev seen : ℕ
+  seen = getD counts slot 0
 
   abbrev t : ℕ
   t = times (rowOf (theDetails s)) number
 
-  counted : ltb (metOf slots number .count) (timesBy row number) ≡ ltb (occurrences number (numbers (w .before))) t
-  counted = ap (λ (k : ℕ). ltb (metOf slots number .count) k) (r .times-are number) ∙ by (has-slot number) refl
+  room : (l : List ℕ) → length l ≡ slots → slot < length l
+  room l e = let b = slot-within number in omega arith
+
+  few-more : (k : ℕ) → k < slots → 2 * getD (set counts slot (seen + 1)) k 0 ≤ next
+  few-more k h = by (eqb k slot) refl
     where
-      by : (b : Bool) → has-slot number ≡ b → ltb (metOf slots number .count) t ≡ ltb (occurrences number (numbers (w .before))) t
-      by true h = ap (λ (k : ℕ). ltb k t) (w .met number h .count)
+      by : (b : Bool) → eqb k slot ≡ b → 2 * getD (set counts slot (seen + 1)) k 0 ≤ next
+      by true e =
+          let c = set-there counts slot (seen + 1) (room counts (w .counts-long)) k (eqb-true k slot e) in
+          let f = w .few slot (slot-within number) in
+          omega (arith, st .behind, st .ends)
+      by false e =
+          let c = set-elsewhere counts slot (seen + 1) (room counts (w .counts-long)) k (eqb-false k slot e) in
+          let f = w .few k h in
+          omega (arith, st .behind, st .ends)
+
+  met-more :
+      (f a : ℕ) → ((k : ℕ) → has-slot k ≡ true → Met s (w .before) at (suc f) k (getD counts (slotOf k) 0) (getD starts (slotOf k) 0)) →
+      a ≡ firstOf seen (getD starts slot 0) start → (k : ℕ) → has-slot k ≡ true →
+      Met s (w .before ++ (x ∷ [])) next f k (getD (set counts slot (seen + 1)) (slotOf k) 0) (getD (set starts slot a) (slotOf k) 0)
+  met-more f a was ea k h = by (eqb k number) refl
+    where
+      M : ℕ → ℕ → Type 0
+      M c d = Met s (w .before ++ (x ∷ [])) next f k c d
+
+      by : (c : Bool) → eqb k number ≡ c → M (getD (set counts slot (seen + 1)) (slotOf k) 0) (getD (set starts slot a) (slotOf k) 0)
+      by true e =
+          let q = eqb-true k number e in
+          let p = ap slotOf q in
+          let there = set-there counts slot (seen + 1) (room counts (w .counts-long)) (slotOf k) p in
+          let first = sym ea ∙ set-there starts slot a (room starts (w .starts-long)) (slotOf k) p in
+          subst (λ (j : ℕ). M j (getD (set starts slot a) (slotOf k) 0)) there
+          (subst (λ (j : ℕ). M (seen + 1) j) first
+          (met-same (subst (λ (j : ℕ). Met s (w .before) at (suc f) k (getD counts j 0) (getD starts j 0)) p (was k h)) st q))
+      by false e =
+          let q = eqb-false k number e in
+          let p : slotOf k ≡ slot → ⊥ = λ z. q (slot-one k number h z) in
+          let there = set-elsewhere counts slot (seen + 1) (room counts (w .counts-long)) (slotOf k) p in
+          let first = set-elsewhere starts slot a (room starts (w .starts-long)) (slotOf k) p in
+          subst (λ (j : ℕ). M j (getD (set starts slot a) (slotOf k) 0)) there (subst (λ (j : ℕ). M (getD counts (slotOf k) 0) j) first (met-other (was k h) st q))
+
+  counted : ltb seen (timesBy row number) ≡ ltb (occurrences number (numbers (w .before))) t
+  counted = ap (λ (k : ℕ). ltb seen k) (r .times-are number) ∙ by (has-slot number) refl
+    where
+      by : (b : Bool) → has-slot number ≡ b → ltb seen t ≡ ltb (occurrences number (numbers (w .before))) t
+      by true h = ap (λ (k : ℕ). ltb k t) (w .met number h .counted)
       by false h =
           let z = times-none (theDetails s) number h in
-          le-ltb (metOf slots number .count) t (omega arith) ∙ sym (le-ltb (occurrences number (numbers (w .before))) t (omega arith))
+          le-ltb seen t (omega arith) ∙ sym (le-ltb (occurrences number (numbers (w .before))) t (omega arith))
 
   sorting-step :
-      (f : ℕ) → w .fuel ≡ f →
-      Sorting s (set slots slot met) (noted v (ltb (metOf slots number .count) (timesBy row number)) (lengthFits number (x .value)) flag) next
-  sorting-step zero e = absurd (omega (arith, w .enough, st .behind, st .ends, st .within))
-  sorting-step (suc f) e =
+      (f : ℕ) → w .fuel ≡ f → (a : ℕ) → a ≡ firstOf seen (getD starts slot 0) start → (u : Survey) →
+      u ≡ noted v (ltb seen (timesBy row number)) (lengthFits number (x .value)) flag → Sorting s (set counts slot (seen + 1)) (set starts slot a) u next
+  sorting-step zero e a ea u eu = absurd (omega (arith, w .enough, st .behind, st .ends, st .within))
+  sorting-step (suc f) e a ea u eu =
       let rs = rowOf (theDetails s) in
       record {
         before = w .before ++ (x ∷ []);
@@ -217,35 +244,34 @@ module _ {s : List ℕ} {slots : List Met} {v : Survey} {at : ℕ} (w : Sorting 
             w .objects ∙ ap (λ (y : Walk). w .before ++ y .objects) (here-object st)
             ∙ sym (append-assoc (w .before) (x ∷ []) (walk (drop next s) .objects));
         ends = ends-on (w .ends) st;
-        size = length-set slots slot met ∙ w .size;
+        counts-long = length-set counts slot (seen + 1) ∙ w .counts-long;
+        starts-long = length-set starts slot a ∙ w .starts-long;
         few = few-more;
-        met = met-more f (λ k h. subst (λ (j : ℕ). Met-before s (w .before) at j k (metOf slots k)) e (w .met k h));
+        met = met-more f a (λ k h. subst (λ (j : ℕ). Met s (w .before) at j k (getD counts (slotOf k) 0) (getD starts (slotOf k) 0)) e (w .met k h)) ea;
         survey =
-            (λ i. noted (w .survey i) (counted i) (lengthFits number (x .value)) flag)
-            ∙ survey-more (sift rs [] (w .before)) (ltb (occurrences number (numbers (w .before))) (times rs number)) x
-            ∙ ap surveyOf (sym (sift-more rs (w .before) x));
+            eu ∙ (λ i. noted (w .survey i) (counted i) (lengthFits number (x .value)) flag)
+            ∙ survey-more (sift rs [] (w .before)) (ltb (occurrences number (numbers (w .before))) t) x ∙ ap surveyOf (sym (sift-more rs (w .before) x));
       }
 
   -- the same, from what the code found
   pub sorting-on :
-      (k : ℕ) (m : Met) (u : Survey) (t : ℕ) (fit : Bool) → k ≡ slotOf number → m ≡ metAgain (getD slots k unmet) start n → t ≡ timesBy row number →
-      fit ≡ lengthFits number (part start (start + n) s) → u ≡ noted v (ltb (getD slots k unmet .count) t) fit flag → Sorting s (set slots k m) u next
-  sorting-on k m u t fit ek em et ef eu =
-      let es : set slots k m ≡ set slots slot met = λ i. set slots (ek i) ((em ∙ ap (λ (j : ℕ). metAgain (getD slots j unmet) start n) ek) i) in
-      let ev = eu ∙ (λ i. noted v (ltb (getD slots (ek i) unmet .count) (et i)) (ef i) flag) in
-      subst (λ (y : List Met). Sorting s y u next) (sym es)
-      (subst (λ (y : Survey). Sorting s (set slots slot met) y next) (sym ev) (sorting-step (w .fuel) refl))
+      (k a c : ℕ) (fit : Bool) (u : Survey) → k ≡ slotOf number → a ≡ firstOf (getD counts k 0) (getD starts k 0) start → c ≡ timesBy row number →
+      fit ≡ lengthFits number (part start (start + n) s) → u ≡ noted v (ltb (getD counts k 0) c) fit flag →
+      Sorting s (set counts k (getD counts k 0 + 1)) (set starts k a) u next
+  sorting-on k a c fit u ek ea ec ef eu =
+      subst (λ (j : ℕ). Sorting s (set counts j (getD counts j 0 + 1)) (set starts j a) u next) (sym ek)
+      (sorting-step (w .fuel) refl a (ea ∙ ap (λ (j : ℕ). firstOf (getD counts j 0) (getD starts j 0) start) ek) u
+      (eu ∙ (λ i. noted v (ltb (getD counts (ek i) 0) (ec i)) (ef i) flag)))
 
 -- behind the first object, which is 01
 module _ {s : List ℕ} {first : ℕ} (g : Headed s first) {row : Row} (r : RowFor row (theDetails s)) where
-  three : lengthFits 0x01 (part first (first + 3) s) ≡ true
+  three : true ≡ lengthFits 0x01 (part first (first + 3) s)
   unfolding lengthFits _⇒_else_
-  three = eq-eqb (length (part first (first + 3) s)) 3 (part-size s first 3 (omega (arith, g .stands .within)))
+  three = sym (eq-eqb (length (part first (first + 3) s)) 3 (part-size s first 3 (omega (arith, g .stands .within))))
 
-  pub sorting-start : Sorting s (set (replicate 15 unmet) 0 (record { count = 1; start = first; len = 3 })) blank (first + 3)
-  unfolding slotOf indexIn slotted metAgain timesBy member some-of noted _⇒_else_
-  sorting-start =
-      sorting-on (sorting-none s) (g .stands) r 0 _ blank (timesBy row 0x01) true refl refl refl (sym three) refl
+  pub sorting-start : Sorting s (set zeros 1 1) (set zeros 1 first) blank (first + 3)
+  unfolding slotOf firstOf timesBy member some-of noted _⇒_else_
+  sorting-start = sorting-on (sorting-none s) (g .stands) r 1 first (timesBy row 0x01) true blank refl refl refl three refl
 
 -- what stands no object is a fault
 fault-met : (l : List ℕ) (e : Ending) → objectAt l ≡ faulty e → isFault e ≡ true
@@ -264,46 +290,82 @@ fault-met l e f = sym (ap failing f) ∙ all (tagAt l)
     all noTag = refl
     all (tag n b r) = after n b (lengthAt r)
 
+-- what was found, from slots that were computed
+pub gathered :
+    (starts : List ℕ) (row : Row) (survey : Survey) (whole complete : Bool) (a b c e : ℕ) → a ≡ slotOf 0x02 → b ≡ slotOf (row .own) →
+    c ≡ slotOf (row .further) → e ≡ slotOf 0x3C → complete ≡ allStand (getD starts a 0) (getD starts b 0) (getD starts c 0) →
+    _≡_ {A = Sorted}
+    (record {
+      survey = survey;
+      whole = whole;
+      complete = complete;
+      devices = getD starts a 0;
+      own = getD starts b 0;
+      further = getD starts c 0;
+      transport = getD starts e 0;
+    })
+    (sortedBy starts row survey whole)
+gathered starts row survey whole complete a b c e qa qb qc qe q =
+    λ i.
+    record {
+      survey = survey;
+      whole = whole;
+      complete = (q ∙ (λ j. allStand (getD starts (qa j) 0) (getD starts (qb j) 0) (getD starts (qc j) 0))) i;
+      devices = getD starts (qa i) 0;
+      own = getD starts (qb i) 0;
+      further = getD starts (qc i) 0;
+      transport = getD starts (qe i) 0;
+    }
+
 -- where no object is left, what was met is what stands
-module _ {s : List ℕ} {slots : List Met} {v : Survey} {at : ℕ} (w : Sorting s slots v at) {row : Row} (r : RowFor row (theDetails s)) where
+module _
+    {s counts starts : List ℕ} {v : Survey} {at : ℕ} (w : Sorting s counts starts v at) {first : ℕ} (g : Headed s first)
+    {row : Row} (r : RowFor row (theDetails s)) where
   module _ (none : walk (drop at s) .objects ≡ []) where
     all : w .before ≡ walk s .objects
     all = sym (w .objects ∙ ap (λ (l : List Object). w .before ++ l) none ∙ append-nil (w .before))
 
-    met-is : (n : ℕ) → has-slot n ≡ true → MetIs (metOf slots n) s n
-    met-is n h =
-        let m = w .met n h in
-        let there = ap (λ (k : ℕ). eqb k 0) (m .count) ∙ occurs-present n (w .before) ∙ ap (λ (l : List Object). not (present n l)) all in
+    stands : (n : ℕ) → has-slot n ≡ true → StandsAt (getD starts (slotOf n) 0) s n
+    stands n h =
+        let m = subst (λ (os : List Object). Met s os at (w .fuel) n (getD counts (slotOf n) 0) (getD starts (slotOf n) 0)) all (w .met n h) in
+        let there = m .there ∙ ap (λ (k : ℕ). eqb k 0) (m .counted) ∙ occurs-present n (walk s .objects) in
+        let some : present n (walk s .objects) ≡ true → eqb (getD counts (slotOf n) 0) 0 ≡ false = λ e. sym (m .there) ∙ there ∙ ap not e in
         record {
           there = there;
-          value = ap (λ (l : List Object). valueOf n l) (sym all) ∙ m .value;
+          value = m .value;
           within = m .within;
-          place = λ e. sym (m .place ∙ skip _ _ _ (there ∙ ap not e));
+          last = λ e. m .last (some e);
+          place = λ e. sym (m .place ∙ skip _ _ _ (some e));
         }
 
     needs-slot : (n : ℕ) → member n (needed row) ≡ true → has-slot n ≡ true
     needs-slot n e = required-slot (theDetails s) n (every-member (λ k. member k (rowOf (theDetails s) .required)) n (needed row) (r .required) e)
 
-    sorts : (whole : Bool) → whole ≡ not (isFault (walk s .ending)) → Sorts (sortedBy slots row v whole) s row
-    unfolding member some-of slotted
+    sorts : (whole : Bool) → whole ≡ not (isFault (walk s .ending)) → Sorts (sortedBy starts row v whole) s row
+    unfolding member some-of
     sorts whole e =
+        let own = needs-slot (row .own) (own-needed (row .own) (row .further)) in
+        let further = needs-slot (row .further) (further-needed (row .own) (row .further)) in
         record {
           survey = w .survey ∙ ap (λ (l : List Object). surveyOf (sift (rowOf (theDetails s)) [] l)) all;
           whole = e;
-          devices = met-is 0x02 refl;
-          own = met-is (row .own) (needs-slot (row .own) (own-needed (row .own) (row .further)));
-          further = met-is (row .further) (needs-slot (row .further) (further-needed (row .own) (row .further)));
-          transport = met-is 0x3C refl;
+          complete = complete-is s r (first-there g) (stands 0x02 refl) (stands (row .own) own) (stands (row .further) further);
+          devices = stands 0x02 refl;
+          own = stands (row .own) own;
+          further = stands (row .further) further;
+          transport = stands 0x3C refl;
         }
 
-  pub sorted-end : {u : Sorted} → u ≡ sortedBy slots row v true → length s ≤ at → Sorts u s row
+  pub sorted-end : {u : Sorted} {b : Bool} → u ≡ sortedBy starts row v b → b ≡ true → length s ≤ at → Sorts u s row
   unfolding isFault
-  sorted-end eu q =
-      subst (λ (x : Sorted). Sorts x s row) (sym eu)
-      (sorts (ap (λ (y : Walk). y .objects) (here-end s at q)) true (ap (λ (e : Ending). not (isFault e)) (ends-end s at (w .ends) q .0)))
+  sorted-end eu eb q =
+      subst (λ (y : Sorted). Sorts y s row) (sym eu)
+      (sorts (ap (λ (y : Walk). y .objects) (here-end s at q)) _ (eb ∙ ap (λ (e : Ending). not (isFault e)) (ends-end s at (w .ends) q .0)))
 
-  pub sorted-fault : {u : Sorted} → u ≡ sortedBy slots row v false → (e : Ending) → at < length s → objectAt (drop at s) ≡ faulty e → Sorts u s row
-  sorted-fault eu e q f =
-      subst (λ (x : Sorted). Sorts x s row) (sym eu)
-      (sorts (ap (λ (y : Walk). y .objects) (here-fault s at e q f)) false
-      (sym (ap not (fault-met (drop at s) e f)) ∙ ap (λ (y : Ending). not (isFault y)) (ends-fault s at e (w .ends) q f .0)))
+  pub sorted-fault :
+      {u : Sorted} {b : Bool} → u ≡ sortedBy starts row v b → b ≡ false → (e : Ending) → at < length s → objectAt (drop at s) ≡ faulty e →
+      Sorts u s row
+  sorted-fault eu eb e q f =
+      subst (λ (y : Sorted). Sorts y s row) (sym eu)
+      (sorts (ap (λ (y : Walk). y .objects) (here-fault s at e q f)) _
+      (eb ∙ sym (ap not (fault-met (drop at s) e f)) ∙ ap (λ (y : Ending). not (isFault y)) (ends-fault s at e (w .ends) q f .0)))

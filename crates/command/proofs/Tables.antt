@@ -9,7 +9,7 @@ use native.Mathlib.Nat.{le-of-suc-le-suc}
 use types.Run.{OneOf}
 use lib.ListN.{length, getD}
 use lib.Dec.{ltb, leb, eqb}
-use borrow.Author.Tests.{leb-true, le-leb, lt-leb, eqb-true, eq-eqb, ne-eqb, not-true}
+use borrow.Author.Tests.{ltb-true, leb-true, le-leb, lt-leb, eqb-true, eq-eqb, ne-eqb, not-true}
 use Rattle.rules.specs.declared.Details.{Details}
 use Rattle.rules.specs.Checks.{_⇒_else_, every, some-of, member}
 use Rattle.rules.specs.Profile.{bit, allowsType}
@@ -21,73 +21,42 @@ use Rattle.command.specs.declared.Place.{Place}
 use Rattle.command.specs.declared.Plan.{Plan}
 use Rattle.command.specs.declared.Row.{Row}
 use Rattle.command.specs.Plans.{profileSize, handlerKind, ownNumber, needed, timesBy, RowFor, PlaceFor, PlanOf}
-use Rattle.command.specs.Surveys.{slotted, indexIn, slotOf}
+use Rattle.command.specs.Surveys.{slots, slotOf}
 use Rattle.command.proofs.Keys.{in-keys, out-keys, Outside, outside, every-member, no-member, All, all-true}
 
--- where a number stands in a list
-module _ (n : ℕ) where
-  index-in : (xs : List ℕ) → member n xs ≡ true → indexIn n xs < length xs
-  unfolding indexIn member some-of
-  index-in [] e = absurd (false≢true e)
-  index-in (x ∷ xs) e =
-      branch (λ (k : ℕ). k < suc (length xs)) (eqb n x) 0 (suc (indexIn n xs)) (λ _. omega arith)
-      (λ q. let h = index-in xs (sym (ap (λ (b : Bool). b || member n xs) q) ∙ e) in omega arith)
-
-  index-out : (xs : List ℕ) → member n xs ≡ false → indexIn n xs ≡ length xs
-  unfolding indexIn member some-of
-  index-out [] e = refl
-  index-out (x ∷ xs) e =
-      skip _ _ _ (either-left (eqb n x) (member n xs) e) ∙ ap suc (index-out xs (either-right (eqb n x) (member n xs) e))
-
-  index-get : (xs : List ℕ) → member n xs ≡ true → getD xs (indexIn n xs) 0 ≡ n
-  unfolding indexIn member some-of
-  index-get [] e = absurd (false≢true e)
-  index-get (x ∷ xs) e =
-      branch (λ (k : ℕ). getD (x ∷ xs) k 0 ≡ n) (eqb n x) 0 (suc (indexIn n xs)) (λ q. sym (eqb-true n x q))
-      (λ q. index-get xs (sym (ap (λ (b : Bool). b || member n xs) q) ∙ e))
-
--- the slot of a number: one of fourteen, or the last
+-- the slot of a number that a row may have is its own
 abbrev pub has-slot : ℕ → Bool
-has-slot n = member n slotted
+has-slot n = ltb 0 n && ltb n slots
 
-pub slot-key : {n k : ℕ} → n ≡ k → slotOf k ≡ slotOf n
-slot-key e = ap slotOf (sym e)
+slot-self : (n : ℕ) → has-slot n ≡ true → slotOf n ≡ n
+unfolding slotOf
+slot-self n h = stop _ _ _ (both-right (ltb 0 n) (ltb n slots) h)
 
-pub slot-low : (n : ℕ) → has-slot n ≡ true → slotOf n < 14
-unfolding slotOf slotted
-slot-low n e = index-in n slotted e
-
-pub slot-last : (n : ℕ) → has-slot n ≡ false → slotOf n ≡ 14
-unfolding slotOf slotted
-slot-last n e = index-out n slotted e
-
-pub slot-rest : (n : ℕ) → Outside n slotted (Unit {0}) → 14 ≡ slotOf n
-slot-rest n w = sym (slot-last n (outside n slotted w))
-
-pub slot-within : (n : ℕ) → slotOf n < 15
-slot-within n = by (has-slot n) refl
-  where
-    by : (b : Bool) → has-slot n ≡ b → slotOf n < 15
-    by true e = let h = slot-low n e in omega arith
-    by false e = let h = slot-last n e in omega arith
-
--- two numbers of one slot are one
 pub slot-one : (n m : ℕ) → has-slot n ≡ true → slotOf n ≡ slotOf m → n ≡ m
 unfolding slotOf
-slot-one n m h e = by (has-slot m) refl
-  where
-    by : (b : Bool) → has-slot m ≡ b → n ≡ m
-    by true k = sym (index-get n slotted h) ∙ ap (λ (i : ℕ). getD slotted i 0) e ∙ index-get m slotted k
-    by false k = absurd (let a = slot-low n h in let b = slot-last m k in omega arith)
+slot-one n m h e =
+    let some = ltb-true 0 n (both-left (ltb 0 n) (ltb n slots) h) in
+    branch (λ (k : ℕ). n ≡ k → n ≡ m) (ltb m slots) m 0 (λ _ q. q) (λ _ q. absurd (omega arith)) (sym (slot-self n h) ∙ e)
+
+pub slot-within : (n : ℕ) → slotOf n < slots
+unfolding slotOf
+slot-within n = branch (λ (k : ℕ). k < slots) (ltb n slots) n 0 (λ q. ltb-true n slots q) (λ _. omega arith)
+
+-- a test of every number of a row
+abbrev row-all : (ℕ → Bool) → rules.Row → Bool
+row-all f r = every f (r .twice) && (every f (r .required) && every f (r .also))
+
+times-out : (f : ℕ → Bool) (r : rules.Row) (n : ℕ) → row-all f r ≡ true → f n ≡ false → times r n ≡ 0
+unfolding times
+times-out f r n e h =
+    let twice = every f (r .twice) in
+    let required = every f (r .required) in
+    let also = every f (r .also) in
+    let rest = both-right twice (required && also) e in
+    skip _ _ _ (no-member f n (r .twice) (both-left twice (required && also) e) h)
+    ∙ skip _ _ _ (λ i. no-member f n (r .required) (both-left required also rest) h i || no-member f n (r .also) (both-right required also rest) h i)
 
 -- every number of a row has a slot
-abbrev row-slotted : rules.Row → Bool
-row-slotted r = every has-slot (r .twice) && (every has-slot (r .required) && every has-slot (r .also))
-
-table-slotted : every row-slotted table ≡ true
-unfolding table every member some-of slotted
-table-slotted = refl
-
 row-has :
     (f : rules.Row → Bool) (t : ℕ) (rs : List rules.Row) → f (record { kind = t; required = []; also = []; twice = [] }) ≡ true →
     every f rs ≡ true → f (rowAmong t rs) ≡ true
@@ -96,44 +65,19 @@ row-has f t [] z e = z
 row-has f t (r ∷ rs) z e =
     branch (λ (x : rules.Row). f x ≡ true) _ _ _ (λ _. both-left (f r) (every f rs) e) (λ _. row-has f t rs z (both-right (f r) (every f rs) e))
 
-slotted-row : (t : ℕ) → row-slotted (rowAmong t table) ≡ true
-unfolding every
-slotted-row t = row-has row-slotted t table refl table-slotted
-
--- a number without a slot stands in no row, of the rules or of the code
-module _ (n : ℕ) (h : has-slot n ≡ false) where
-  absent : (xs : List ℕ) → every has-slot xs ≡ true → member n xs ≡ false
-  absent xs e = no-member has-slot n xs e h
-
-  times-out : (r : rules.Row) → row-slotted r ≡ true → times r n ≡ 0
-  unfolding times
-  times-out r e =
-      let twice = every has-slot (r .twice) in
-      let required = every has-slot (r .required) in
-      let also = every has-slot (r .also) in
-      skip _ _ _ (absent (r .twice) (both-left twice (required && also) e))
-      ∙ skip _ _ _
-      (λ i.
-      absent (r .required) (both-left required also (both-right twice (required && also) e)) i ||
-      absent (r .also) (both-right required also (both-right twice (required && also) e)) i)
-
-  times-by-out : (row : Row) → every has-slot (needed row) ≡ true → timesBy row n ≡ 0
-  unfolding timesBy every member some-of slotted
-  times-by-out row e =
-      skip _ _ _ (absent (0x05 ∷ 0x1E ∷ []) refl) ∙ skip _ _ _ (absent (0x3C ∷ 0x47 ∷ []) refl)
-      ∙ skip _ _ _ (absent (0x04 ∷ 0x0D ∷ 0x3E ∷ []) refl) ∙ skip _ _ _ (absent (needed row) e)
+slotted : (d : Details) → row-all has-slot (rowOf d) ≡ true
+unfolding rowOf table every
+slotted d = row-has (row-all has-slot) (d .kind) table refl refl
 
 pub times-none : (d : Details) (n : ℕ) → has-slot n ≡ false → times (rowOf d) n ≡ 0
-unfolding rowOf
-times-none d n h = times-out n h (rowAmong (d .kind) table) (slotted-row (d .kind))
+times-none d n h = times-out has-slot (rowOf d) n (slotted d) h
 
 -- a required number has a slot, and may stand
 pub required-slot : (d : Details) (n : ℕ) → member n (rowOf d .required) ≡ true → has-slot n ≡ true
-unfolding rowOf
 required-slot d n e =
-    let r = rowAmong (d .kind) table in
-    every-member has-slot n (r .required)
-    (both-left (every has-slot (r .required)) (every has-slot (r .also)) (both-right (every has-slot (r .twice)) _ (slotted-row (d .kind)))) e
+    let r = rowOf d in
+    let rest = both-right (every has-slot (r .twice)) (every has-slot (r .required) && every has-slot (r .also)) (slotted d) in
+    every-member has-slot n (r .required) (both-left (every has-slot (r .required)) (every has-slot (r .also)) rest) e
 
 pub required-may : (r : rules.Row) (n : ℕ) → member n (r .required) ≡ true → 1 ≤ times r n
 unfolding times
@@ -153,49 +97,71 @@ pub further-needed : (a b : ℕ) → member b (0x01 ∷ 0x02 ∷ a ∷ b ∷ [])
 unfolding member some-of
 further-needed a b = or-right (eqb b 0x01) _ (or-right (eqb b 0x02) _ (or-right (eqb b a) _ (or-self b false)))
 
--- a row of the code is one of the rules: tried at each number that has a slot
-abbrev alike : Row → rules.Row → Bool
-alike row r = every (λ n. eqb (timesBy row n) (times r n)) slotted
+-- the numbers that a row of the code may have besides those that it needs
+abbrev others : List ℕ
+others = 0x04 ∷ 0x05 ∷ 0x0D ∷ 0x1E ∷ 0x3C ∷ 0x3E ∷ 0x47 ∷ []
 
-times-alike :
-    (row : Row) (r : rules.Row) → row-slotted r ≡ true → every has-slot (needed row) ≡ true → alike row r ≡ true → (n : ℕ) → timesBy row n ≡ times r n
-times-alike row r u v e n = by (has-slot n) refl
-  where
-    by : (b : Bool) → has-slot n ≡ b → timesBy row n ≡ times r n
-    by true h = eqb-true (timesBy row n) (times r n) (every-member (λ n. eqb (timesBy row n) (times r n)) n slotted e h)
-    by false h = times-by-out n h row v ∙ sym (times-out n h r u)
+-- a row of the code is one of the rules: tried at each of its numbers, beside which neither row has any
+module _ (row : Row) (r : rules.Row) where
+  abbrev agrees : ℕ → Bool
+  agrees n = eqb (timesBy row n) (times r n)
 
--- the counts of a number, by the line that has it
+  abbrev among : ℕ → Bool
+  among n = member n (needed row) || member n others
+
+  times-by-out : (n : ℕ) → member n (needed row) ≡ false → member n others ≡ false → timesBy row n ≡ 0
+  unfolding timesBy every member some-of
+  times-by-out n h k =
+      let out : (ks : List ℕ) → every (λ j. member j others) ks ≡ true → member n ks ≡ false = λ ks e. no-member (λ j. member j others) n ks e k in
+      skip _ _ _ h ∙ skip _ _ _ (out (0x05 ∷ 0x1E ∷ []) refl) ∙ skip _ _ _ (out (0x3C ∷ 0x47 ∷ []) refl)
+      ∙ skip _ _ _ (out (0x04 ∷ 0x0D ∷ 0x3E ∷ []) refl)
+
+  times-alike : row-all among r ≡ true → every agrees (needed row) ≡ true → every agrees others ≡ true → (n : ℕ) → timesBy row n ≡ times r n
+  times-alike u e f n = by (member n (needed row)) (member n others) refl refl
+    where
+      by : (a b : Bool) → member n (needed row) ≡ a → member n others ≡ b → timesBy row n ≡ times r n
+      by true b h k = eqb-true (timesBy row n) (times r n) (every-member agrees n (needed row) e h)
+      by false true h k = eqb-true (timesBy row n) (times r n) (every-member agrees n others f k)
+      by false false h k = times-by-out n h k ∙ sym (times-out among r n u (λ i. h i || k i))
+
+-- the counts of a number that is not required, by the line that has it
 apart : (ks js : List ℕ) (n : ℕ) → OneOf ks n → every (λ k. not (member k js)) ks ≡ true → member n js ≡ false
 apart ks js n o e = not-true (member n js) (every-member (λ k. not (member k js)) n ks e (in-keys ks n o))
 
-module _ (row : Row) (n : ℕ) where
-  pub times-named : OneOf (0x05 ∷ 0x1E ∷ []) n → (row .named ⇒ 1 else 0) ≡ timesBy row n
+module _ (row : Row) (n : ℕ) {b : Bool} (q : b ≡ member n (needed row)) where
+  pub times-required : b ≡ true → 1 ≡ timesBy row n
   unfolding timesBy
-  times-named o = sym (stop _ _ _ (in-keys (0x05 ∷ 0x1E ∷ []) n o))
+  times-required e = sym (stop _ _ _ (sym q ∙ e))
 
-  pub times-once : OneOf (0x3C ∷ 0x47 ∷ []) n → (row .opening ⇒ 1 else 0) ≡ timesBy row n
-  unfolding timesBy every member some-of
-  times-once o =
-      let ks : List ℕ = 0x3C ∷ 0x47 ∷ [] in
-      sym (skip _ _ _ (apart ks (0x05 ∷ 0x1E ∷ []) n o refl) ∙ stop _ _ _ (in-keys ks n o))
+  module _ (e : b ≡ false) where
+    beside : member n (needed row) ≡ false
+    beside = sym q ∙ e
 
-  pub times-twice : OneOf (0x04 ∷ 0x0D ∷ 0x3E ∷ []) n → (row .opening ⇒ 2 else 0) ≡ timesBy row n
-  unfolding timesBy every member some-of
-  times-twice o =
-      let ks : List ℕ = 0x04 ∷ 0x0D ∷ 0x3E ∷ [] in
-      sym (skip _ _ _ (apart ks (0x05 ∷ 0x1E ∷ []) n o refl) ∙ skip _ _ _ (apart ks (0x3C ∷ 0x47 ∷ []) n o refl) ∙ stop _ _ _ (in-keys ks n o))
+    pub times-named : OneOf (0x05 ∷ 0x1E ∷ []) n → (row .named ⇒ 1 else 0) ≡ timesBy row n
+    unfolding timesBy
+    times-named o = sym (skip _ _ _ beside ∙ stop _ _ _ (in-keys (0x05 ∷ 0x1E ∷ []) n o))
 
-  pub times-required :
-      (b : Bool) (k : ℕ) →
-      ((Unit {0} × (OneOf (0x05 ∷ 0x1E ∷ []) n → ⊥)) × (OneOf (0x3C ∷ 0x47 ∷ []) n → ⊥)) × (OneOf (0x04 ∷ 0x0D ∷ 0x3E ∷ []) n → ⊥) →
-      b ≡ member n (needed row) → k ≡ (b ⇒ 1 else 0) → k ≡ timesBy row n
-  unfolding timesBy
-  times-required b k w e f =
-      f ∙ ap (λ (x : Bool). x ⇒ 1 else 0) e
-      ∙ sym
-      (skip _ _ _ (out-keys (0x05 ∷ 0x1E ∷ []) n (w .0 .0 .1)) ∙ skip _ _ _ (out-keys (0x3C ∷ 0x47 ∷ []) n (w .0 .1))
-      ∙ skip _ _ _ (out-keys (0x04 ∷ 0x0D ∷ 0x3E ∷ []) n (w .1)))
+    pub times-once : OneOf (0x3C ∷ 0x47 ∷ []) n → (row .opening ⇒ 1 else 0) ≡ timesBy row n
+    unfolding timesBy every member some-of
+    times-once o =
+        let ks : List ℕ = 0x3C ∷ 0x47 ∷ [] in
+        sym (skip _ _ _ beside ∙ skip _ _ _ (apart ks (0x05 ∷ 0x1E ∷ []) n o refl) ∙ stop _ _ _ (in-keys ks n o))
+
+    pub times-twice : OneOf (0x04 ∷ 0x0D ∷ 0x3E ∷ []) n → (row .opening ⇒ 2 else 0) ≡ timesBy row n
+    unfolding timesBy every member some-of
+    times-twice o =
+        let ks : List ℕ = 0x04 ∷ 0x0D ∷ 0x3E ∷ [] in
+        sym
+        (skip _ _ _ beside ∙ skip _ _ _ (apart ks (0x05 ∷ 0x1E ∷ []) n o refl) ∙ skip _ _ _ (apart ks (0x3C ∷ 0x47 ∷ []) n o refl)
+        ∙ stop _ _ _ (in-keys ks n o))
+
+    pub times-other :
+        ((Unit {0} × (OneOf (0x05 ∷ 0x1E ∷ []) n → ⊥)) × (OneOf (0x3C ∷ 0x47 ∷ []) n → ⊥)) × (OneOf (0x04 ∷ 0x0D ∷ 0x3E ∷ []) n → ⊥) → 0 ≡ timesBy row n
+    unfolding timesBy
+    times-other w =
+        sym
+        (skip _ _ _ beside ∙ skip _ _ _ (out-keys (0x05 ∷ 0x1E ∷ []) n (w .0 .0 .1)) ∙ skip _ _ _ (out-keys (0x3C ∷ 0x47 ∷ []) n (w .0 .1))
+        ∙ skip _ _ _ (out-keys (0x04 ∷ 0x0D ∷ 0x3E ∷ []) n (w .1)))
 
 -- two tests that come out the same
 abbrev same : Bool → Bool → Bool
@@ -221,8 +187,9 @@ tests p t =
     same (p .row .opening) (eqb t 0x40) ∷
     (p .row .opening ⇒ eqb (p .row .further) 0x39 else true) ∷
     same (p .modem) (toModem t) ∷
-    alike (p .row) r ∷
-    every has-slot (needed (p .row)) ∷
+    row-all (among (p .row) r) r ∷
+    every (agrees (p .row) r) (needed (p .row)) ∷
+    every (agrees (p .row) r) others ∷
     every (λ n. member n (r .required)) (needed (p .row)) ∷
     every (λ n. member n (needed (p .row))) (r .required) ∷
     []
@@ -247,9 +214,9 @@ plan-right p d k q place e =
       place = place;
       row =
           record {
-            times-are = times-alike (p .row) (rowAmong t table) (slotted-row t) (y .1 .0) (y .0);
-            required = y .1 .1 .0;
-            looked-for = y .1 .1 .1 .0;
+            times-are = times-alike (p .row) (rowAmong t table) (y .0) (y .1 .0) (y .1 .1 .0);
+            required = y .1 .1 .1 .0;
+            looked-for = y .1 .1 .1 .1 .0;
           };
     }
 

@@ -1,5 +1,5 @@
 -- What a reading hands on: an error with its details, or what is asked, with places in the bytes of the objects.
-use Prim.Native.Nat.{ℕ, _+_, _≤_}
+use Prim.Native.Nat.{ℕ, _+_, _-_, _*_, _≤_}
 use mathlib.Core.Path.{_≡_}
 use mathlib.Core.Bool.{Bool, true, false, not, _&&_}
 use mathlib.Core.List.{List, []}
@@ -10,7 +10,7 @@ use Rattle.rules.specs.declared.Details.{Details}
 use Rattle.rules.specs.Checks.{_⇒_else_, isEmpty}
 use Rattle.rules.specs.Frames.{framed, contents, walk}
 use Rattle.rules.specs.Profile.{allowsType}
-use Rattle.rules.specs.Table.{known, rowOf, Sifted, sift, present, valueOf, bearerFits}
+use Rattle.rules.specs.Table.{known, rowOf, Sifted, sift, present, valueOf, complete, bearerFits}
 use Rattle.rules.specs.Reading.{Reading, wrong, asked, Command, Body, Transport, moreTime, eventList, openChannel, closeChannel, receiveData, sendData, channelStatus, other, bearerIn, detailsIn, commandIn, startsWithDetails, isFault, addressed, readObjects}
 use Rattle.rules.specs.Own.{protocolOf}
 use Rattle.octets.specs.Parts.{part}
@@ -19,14 +19,12 @@ use Rattle.command.specs.declared.Framed.{Framed}
 use Rattle.command.specs.declared.Framed.the-variants.{At, Not}
 use Rattle.command.specs.declared.Handler.{Handler}
 use Rattle.command.specs.declared.Handler.the-variants.{MoreTime, EventList, Open, Close, Receive, Send, Status}
-use Rattle.command.specs.declared.Met.{Met}
 use Rattle.command.specs.declared.Plan.{Plan}
 use Rattle.command.specs.declared.Read.{Read}
 use Rattle.command.specs.declared.Read.the-variants.{Wrong, Asked}
 use Rattle.command.specs.declared.Request.{Request}
 use Rattle.command.specs.declared.Row.{Row}
 use Rattle.command.specs.declared.Sorted.{Sorted}
-use Rattle.command.specs.declared.Terms.{Terms}
 use Rattle.command.specs.Plans.{handlerKind, ownNumber, PlanOf}
 use Rattle.command.specs.Surveys.{surveyOf}
 
@@ -70,10 +68,6 @@ protocolIn (receiveData n) = 0x02
 protocolIn (sendData s) = 0x02
 protocolIn channelStatus = 0x02
 protocolIn (other t) = 0x02
-
-pub record OpensWith (t : Terms) (s : List ℕ) : Type 0 where
-  pub size : t .size ≡ sizeOf (theCommand s .body)
-  pub protocol : t .protocol ≡ protocolIn (theCommand s .body)
 
 -- the own value of a request stands in the bytes, at its place
 abbrev pub own : Request → List ℕ → List ℕ
@@ -135,29 +129,23 @@ pub record Typed (p s : List ℕ) : Type 0 where
   pub kind : known (theDetails s .kind) ≡ true
   pub allowed : allowsType p (theDetails s) ≡ true
 
--- what was met of the objects of a number: whether any, the value of the first, and its place
-pub record MetIs (m : Met) (s : List ℕ) (number : ℕ) : Type 0 where
-  pub there : eqb (m .count) 0 ≡ not (present number (walk s .objects))
-  pub value : valueOf number (walk s .objects) ≡ part (m .start) (m .start + m .len) s
-  pub within : m .start + m .len ≤ length s
-  pub place : present number (walk s .objects) ≡ true → m .start ≡ placeOf number s
+-- the value of the first object of a number starts there, behind its length; 0 where none stands
+pub record StandsAt (at : ℕ) (s : List ℕ) (number : ℕ) : Type 0 where
+  pub there : eqb at 0 ≡ not (present number (walk s .objects))
+  pub value : valueOf number (walk s .objects) ≡ part at (at + length (valueOf number (walk s .objects))) s
+  pub within : at + length (valueOf number (walk s .objects)) ≤ length s
+  pub last : present number (walk s .objects) ≡ true → getD s (at - 1) 0 ≡ length (valueOf number (walk s .objects))
+  pub place : present number (walk s .objects) ≡ true → at ≡ placeOf number s
 
--- the objects are sorted: surveyed, walked to the end or to a fault, and those that a row looks for met
+-- the objects are sorted: surveyed, walked to the end or to a fault, and those that a row looks for found
 pub record Sorts (v : Sorted) (s : List ℕ) (row : Row) : Type 0 where
   pub survey : v .survey ≡ surveyOf (theObjects s)
   pub whole : v .whole ≡ not (isFault (walk s .ending))
-  pub devices : MetIs (v .devices) s 0x02
-  pub own : MetIs (v .own) s (row .own)
-  pub further : MetIs (v .further) s (row .further)
-  pub transport : MetIs (v .transport) s 0x3C
-
--- the required objects besides 01 were met
-unfoldable pub completeBy : Sorted → Bool
-completeBy v =
-    eqb (v .devices .count) 0 ⇒ false else
-    eqb (v .own .count) 0 ⇒ false else
-    eqb (v .further .count) 0 ⇒ false else
-    true
+  pub complete : v .complete ≡ complete (rowOf (theDetails s)) (theObjects s .counting)
+  pub devices : StandsAt (v .devices) s 0x02
+  pub own : StandsAt (v .own) s (row .own)
+  pub further : StandsAt (v .further) s (row .further)
+  pub transport : StandsAt (v .transport) s 0x3C
 
 -- a command whose details, plan and objects are known
 pub record Begun (s : List ℕ) (d : Details) (plan : Plan) (v : Sorted) : Type 0 where
@@ -170,8 +158,18 @@ pub record Begun (s : List ℕ) (d : Details) (plan : Plan) (v : Sorted) : Type 
 pub record Fitted (s : List ℕ) (d : Details) (plan : Plan) (v : Sorted) : Type 0 where
   pub begun : Begun s d plan v
   pub unflagged : v .survey .flagged ≡ false
-  pub complete : completeBy v ≡ true
+  pub complete : v .complete ≡ true
   pub fit : v .survey .misfit ≡ false
+
+-- the size at a place, and the protocol at one, of an OPEN CHANNEL; 0 and TCP of another type
+unfoldable pub sizeBy : List ℕ → Bool → ℕ → ℕ
+sizeBy s opening at = not opening ⇒ 0 else 256 * getD s at 0 + getD s (at + 1) 0
+
+unfoldable pub protocolBy : List ℕ → Bool → ℕ → ℕ
+protocolBy s opening at =
+    not opening ⇒ 0x02 else
+    eqb at 0 ⇒ 0x02 else
+    getD s at 0
 
 -- step 8, by whether the command goes to the modem, and two bytes
 abbrev pub addressedBy : Bool → ℕ → ℕ → Bool

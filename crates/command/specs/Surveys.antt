@@ -1,13 +1,12 @@
--- What a walk over a command's objects keeps of them: a survey, and what was met of each number that a row has.
-use Prim.Native.Nat.{ℕ, suc, _+_}
-use mathlib.Core.Bool.{Bool, true, not, _||_}
-use mathlib.Core.List.{List, [], _∷_}
+-- What a walk over a command's objects keeps of them: a survey, and where the first of each number that a row may have stands.
+use Prim.Native.Nat.{ℕ}
+use mathlib.Core.Bool.{Bool, true, false, not, _||_}
+use mathlib.Core.List.{List}
 use lib.ListN.{getD}
-use lib.Dec.{eqb}
+use lib.Dec.{ltb, eqb}
 use Rattle.rules.specs.Checks.{_⇒_else_, isEmpty, some-of}
 use Rattle.rules.specs.Frames.{Object}
 use Rattle.rules.specs.Table.{Sifted, measured}
-use Rattle.command.specs.declared.Met.{Met}
 use Rattle.command.specs.declared.Row.{Row}
 use Rattle.command.specs.declared.Sorted.{Sorted}
 use Rattle.command.specs.declared.Survey.{Survey}
@@ -27,38 +26,37 @@ noted v counts fit flag =
     counts ⇒ record { flagged = v .flagged; ignored = v .ignored; misfit = v .misfit || not fit } else
     record { flagged = v .flagged || flag; ignored = true; misfit = v .misfit }
 
--- the numbers that a row may have, in the order of their slots
-unfoldable pub slotted : List ℕ
-slotted = 0x01 ∷ 0x02 ∷ 0x04 ∷ 0x05 ∷ 0x0D ∷ 0x19 ∷ 0x1E ∷ 0x35 ∷ 0x36 ∷ 0x37 ∷ 0x39 ∷ 0x3C ∷ 0x3E ∷ 0x47 ∷ []
-
--- where a number stands in a list; behind it where it does not
-unfoldable pub indexIn : ℕ → List ℕ → ℕ
-indexIn n [] = 0
-indexIn n (x ∷ xs) = let k = indexIn n xs in eqb n x ⇒ 0 else suc k
+-- a slot for each number that a row may have, and 0 for all that are higher
+abbrev pub slots : ℕ
+slots = 72
 
 unfoldable pub slotOf : ℕ → ℕ
-slotOf n = indexIn n slotted
+slotOf n = ltb n slots ⇒ n else 0
 
--- what was met in the slot of a number
-abbrev pub unmet : Met
-unmet = record { count = 0; start = 0; len = 0 }
+-- what is kept of the first object in a slot
+unfoldable pub firstOf : ℕ → ℕ → ℕ → ℕ
+firstOf seen there now = eqb seen 0 ⇒ now else there
 
-abbrev pub metOf : List Met → ℕ → Met
-metOf slots n = getD slots (slotOf n) unmet
+-- three values stand somewhere
+unfoldable pub allStand : ℕ → ℕ → ℕ → Bool
+allStand a b c =
+    eqb a 0 ⇒ false else
+    eqb b 0 ⇒ false else
+    eqb c 0 ⇒ false else
+    true
 
--- one object more: the first keeps its place
-unfoldable pub metAgain : Met → ℕ → ℕ → Met
-metAgain m start n =
-    eqb (m .count) 0 ⇒ record { count = 1; start = start; len = n } else
-    record { count = m .count + 1; start = m .start; len = m .len }
-
-abbrev pub sortedBy : List Met → Row → Survey → Bool → Sorted
-sortedBy slots row survey whole =
+-- what was found, where the first values start there
+abbrev pub sortedBy : List ℕ → Row → Survey → Bool → Sorted
+sortedBy starts row survey whole =
+    let devices = getD starts (slotOf 0x02) 0 in
+    let own = getD starts (slotOf (row .own)) 0 in
+    let further = getD starts (slotOf (row .further)) 0 in
     record {
       survey = survey;
       whole = whole;
-      devices = metOf slots 0x02;
-      own = metOf slots (row .own);
-      further = metOf slots (row .further);
-      transport = metOf slots 0x3C;
+      complete = allStand devices own further;
+      devices = devices;
+      own = own;
+      further = further;
+      transport = getD starts (slotOf 0x3C) 0;
     }

@@ -8,18 +8,17 @@ use rules::Details;
 use rules::DeviceIdentity;
 use rules::Ending;
 ghost use mathlib.Core.Path.{_≡_};
-ghost use mathlib.Core.Bool.{_&&_, false};
+ghost use mathlib.Core.Bool.{true, false};
 ghost use mathlib.Core.List.{List};
-ghost use Prim.Native.Nat.{ℕ, _+_, _-_, _*_, _^_, _≤_, _<_};
-ghost use lib.ListN.{length, getD};
-ghost use lib.Dec.{leb};
+ghost use Prim.Native.Nat.{ℕ, _+_, _-_, _^_, _≤_, _<_};
+ghost use lib.ListN.{length};
 ghost use Rattle.rules.specs.Checks.{_⇒_else_, member};
 ghost use Rattle.rules.specs.Profile.{bit};
 ghost use Rattle.rules.specs.Table.{known, bearerFits, lengthFits};
 ghost use Rattle.octets.specs.Parts.{part};
 ghost use Rattle.command.specs.Plans.{profileSize, needed, timesBy, RowFor, PlanOf, Plans};
-ghost use Rattle.command.specs.Surveys.{slotOf, metAgain, noted, sortedBy};
-ghost use Rattle.command.specs.Requests.{Frames, detailsAt, theDetails, completeBy, addressedBy, Headed, Detailed, Begun, Typed, Sorts, Fitted, OpensWith, Reads};
+ghost use Rattle.command.specs.Surveys.{slots, slotOf, firstOf, noted, allStand, sortedBy};
+ghost use Rattle.command.specs.Requests.{Frames, detailsAt, theDetails, addressedBy, sizeBy, protocolBy, Headed, Detailed, Begun, Typed, Sorts, Fitted, Reads};
 
 // The objects, by number.
 const DETAILS: u16 = 0x01;
@@ -49,6 +48,9 @@ const TRANSPORT: u16 = 0x3C;
 const ADDRESS: u16 = 0x3E;
 
 const NETWORK: u16 = 0x47;
+
+// Every object that a row may have is below this number.
+const SLOTS: u16 = 72;
 
 // The protocol of a channel whose transport level does not stand.
 const TCP: u8 = 0x02;
@@ -270,35 +272,25 @@ fn required(row: Row, number: u16) -> bool
 fn times(row: Row, number: u16) -> u8
     ensures { λ r. ⌜ r ≡ timesBy row number ⌝ }
 {
+    if required(row, number) {
+        return 1;
+    }
     match number {
         ALPHA | ICON => where_allowed(row.named, 1),
         TRANSPORT | NETWORK => where_allowed(row.opening, 1),
         DURATION | TEXT | ADDRESS => where_allowed(row.opening, 2),
-        _ => where_allowed(required(row, number), 1),
+        _ => 0,
     }
 }
 
-// The slot of an object number: one for each that a row has, and the last for all others.
+// The slot of an object number: its own for each that a row may have, and 0 for all that are higher.
 fn slot(number: u16) -> usize
-    ensures { λ r. ⌜ (r ≡ slotOf number) × (r < 15) ⌝ }
+    ensures { λ r. ⌜ (r ≡ slotOf number) × (r < slots) ⌝ }
 {
-    match number {
-        DETAILS => 0,
-        DEVICES => 1,
-        DURATION => 2,
-        ALPHA => 3,
-        TEXT => 4,
-        EVENTS => 5,
-        ICON => 6,
-        BEARER => 7,
-        DATA => 8,
-        COUNT => 9,
-        SIZE => 10,
-        TRANSPORT => 11,
-        ADDRESS => 12,
-        NETWORK => 13,
-        _ => 14,
+    if number < SLOTS {
+        return number as usize;
     }
+    0
 }
 
 // Whether a bearer, object 35, has the length of its type.
@@ -358,59 +350,59 @@ impl Survey {
     }
 }
 
-// What was met of the objects of one slot: how many, where the value of the first starts, and how long it is.
-struct Met {
-    count: u8,
-    start: u16,
-    len: u16,
-}
-
-impl Met {
-    // One object more.
-    fn again(self, start: u16, len: u16) -> Met
-        requires { ⌜ self .count < 255 ⌝ }
-        ensures { λ r. ⌜ r ≡ metAgain self start len ⌝ }
-    {
-        if self.count == 0 {
-            return Met {
-                count: 1,
-                start,
-                len,
-            };
-        }
-        Met {
-            count: self.count + 1,
-            start: self.start,
-            len: self.len,
-        }
+// What is kept of the first object in a slot: what is there once one stood, or what is now.
+fn first_of(seen: u8, there: u16, now: u16) -> u16
+    ensures { λ r. ⌜ r ≡ firstOf seen there now ⌝ }
+{
+    if seen == 0 {
+        return now;
     }
+    there
 }
 
-// What a walk over a command's objects found: the survey, whether it came to the end, and what was met of 02, of the two objects that the type requires besides, and of 3C.
+// What a walk over a command's objects found: the survey, whether it came to the end, whether every required object is there, and where the values of 02, of the type's own object, of its further one and of 3C start, 0 where none stands.
 struct Sorted {
     survey: Survey,
     whole: bool,
-    devices: Met,
-    own: Met,
-    further: Met,
-    transport: Met,
+    complete: bool,
+    devices: u16,
+    own: u16,
+    further: u16,
+    transport: u16,
 }
 
-// What was found, from what was met in each slot.
-fn gather(slots: [Met; 15], row: Row, survey: Survey, whole: bool) -> Sorted
-    ensures { λ r. ⌜ r ≡ sortedBy slots row survey whole ⌝ }
+// Whether three values stand somewhere.
+fn all_stand(a: u16, b: u16, c: u16) -> bool
+    ensures { λ r. ⌜ r ≡ allStand a b c ⌝ }
 {
-    let devices = slots[slot(DEVICES)];
-    let own = slots[slot(row.own)];
-    let further = slots[slot(row.further)];
-    let transport = slots[slot(TRANSPORT)];
+    if a == 0 {
+        return false;
+    }
+    if b == 0 {
+        return false;
+    }
+    if c == 0 {
+        return false;
+    }
+    true
+}
+
+// What was found, from where the first value of each slot starts.
+fn gather(starts: &[u16; 72], row: Row, survey: Survey, whole: bool) -> Sorted
+    requires { ⌜ length (now starts) ≡ slots ⌝ }
+    ensures { λ r. ⌜ r ≡ sortedBy (now (starts .entry)) row survey whole ⌝ }
+{
+    let devices = starts[slot(DEVICES)];
+    let own = starts[slot(row.own)];
+    let further = starts[slot(row.further)];
     Sorted {
         survey,
         whole,
+        complete: all_stand(devices, own, further),
         devices,
         own,
         further,
-        transport,
+        transport: starts[slot(TRANSPORT)],
     }
 }
 
@@ -419,39 +411,35 @@ fn go_through(s: &[u8], row: Row, first: usize) -> Sorted
     requires { ⌜ (length (now s) ≤ 256) × Headed (now s) first × RowFor row (theDetails (now s)) ⌝ }
     ensures { λ r. ⌜ Sorts r (now (s .entry)) row ⌝ }
 {
-    let mut slots = [Met {
-        count: 0,
-        start: 0,
-        len: 0,
-    }; 15];
-    slots[0] = Met {
-        count: 1,
-        start: first as u16,
-        len: 3,
-    };
+    let mut counts = [0u8; 72];
+    let mut starts = [0u16; 72];
+    counts[1] = 1;
+    starts[1] = first as u16;
     let mut survey = Survey {
         flagged: false,
         ignored: false,
         misfit: false,
     };
     let mut c = Cursor { at: first + 3 };
-    loop {
+    let whole = loop {
         let at = c.at;
         if s.len() <= at {
-            break gather(slots, row, survey, true);
+            break true;
         }
         match c.object(s) {
             Found::Object(number, flag, start, len, next) => {
                 let k = slot(number);
-                let met = slots[k];
-                slots[k] = met.again(start as u16, len as u16);
-                let counts = met.count < times(row, number);
-                survey = survey.note(counts, fits(number, s, start, len), flag);
+                let seen = counts[k];
+                counts[k] = seen + 1;
+                starts[k] = first_of(seen, starts[k], start as u16);
+                let counted = seen < times(row, number);
+                survey = survey.note(counted, fits(number, s, start, len), flag);
                 c = next;
             }
-            Found::Fault(_) => break gather(slots, row, survey, false),
+            Found::Fault(_) => break false,
         }
-    }
+    };
+    gather(&starts, row, survey, whole)
 }
 
 // Where a command's objects start, or that its outer frame is wrong.
@@ -500,36 +488,7 @@ pub enum Read {
     Asked(Request),
 }
 
-// Whether every required object is there; 01 is, since it came first.
-fn complete(v: Sorted) -> bool
-    ensures { λ r. ⌜ r ≡ completeBy v ⌝ }
-{
-    let devices = v.devices;
-    let own = v.own;
-    let further = v.further;
-    if devices.count == 0 {
-        return false;
-    }
-    if own.count == 0 {
-        return false;
-    }
-    if further.count == 0 {
-        return false;
-    }
-    true
-}
-
-// Whether a device is a channel, 21 to 27.
-fn is_channel(to: u8) -> bool
-    ensures { λ r. ⌜ r ≡ leb 0x21 to && leb to 0x27 ⌝ }
-{
-    if to < 0x21 {
-        return false;
-    }
-    to <= 0x27
-}
-
-// Step 8: from the card, to the modem or to a channel.
+// Step 8: from the card, 81, to the modem, 82, or to a channel, 21 to 27.
 fn devices_fit(modem: bool, from: u8, to: u8) -> bool
     ensures { λ r. ⌜ r ≡ addressedBy modem from to ⌝ }
 {
@@ -539,49 +498,35 @@ fn devices_fit(modem: bool, from: u8, to: u8) -> bool
     if modem {
         return to == 0x82;
     }
-    is_channel(to)
+    if to < 0x21 {
+        return false;
+    }
+    to <= 0x27
 }
 
-// Two bytes, high byte first.
-fn pair_at(s: &[u8], at: usize) -> u16
-    requires { ⌜ at + 2 ≤ length (now s) ⌝ }
-    ensures { λ r. ⌜ r ≡ 256 * getD (now (s .entry)) at 0 + getD (now (s .entry)) (at + 1) 0 ⌝ }
+// The size that OPEN CHANNEL asks for, high byte first; 0 for another type.
+fn size_at(s: &[u8], opening: bool, at: usize) -> u16
+    requires { ⌜ (opening ≡ true → at + 2 ≤ length (now s)) ⌝ }
+    ensures { λ r. ⌜ r ≡ sizeBy (now (s .entry)) opening at ⌝ }
 {
+    if !opening {
+        return 0;
+    }
     256 * s[at] as u16 + s[at + 1] as u16
 }
 
-// What OPEN CHANNEL asks for: a size and a protocol.
-struct Terms {
-    size: u16,
-    protocol: u8,
-}
-
-// The terms of a command whose objects are all there and have their lengths; 0 and TCP where it is no OPEN CHANNEL.
-fn terms_of(s: &[u8], d: Details, plan: Plan, v: Sorted) -> Terms
-    requires { ⌜ Fitted (now s) d plan v ⌝ }
-    ensures { λ r. ⌜ OpensWith r (now (s .entry)) ⌝ }
+// The protocol that OPEN CHANNEL asks for, the first byte of 3C; TCP where none stands, and for another type.
+fn protocol_at(s: &[u8], opening: bool, at: usize) -> u8
+    requires { ⌜ (opening ≡ true → 0 < at → at < length (now s)) ⌝ }
+    ensures { λ r. ⌜ r ≡ protocolBy (now (s .entry)) opening at ⌝ }
 {
-    let row = plan.row;
-    if !row.opening {
-        return Terms {
-            size: 0,
-            protocol: TCP,
-        };
+    if !opening {
+        return TCP;
     }
-    let further = v.further;
-    let size = pair_at(s, further.start as usize);
-    let transport = v.transport;
-    if transport.count == 0 {
-        return Terms {
-            size,
-            protocol: TCP,
-        };
+    if at == 0 {
+        return TCP;
     }
-    let place = transport.start as usize;
-    Terms {
-        size,
-        protocol: s[place],
-    }
+    s[at]
 }
 
 // Step 8 once the objects are there and have their lengths, and what is asked.
@@ -589,26 +534,27 @@ fn settle(s: &[u8], d: Details, plan: Plan, v: Sorted) -> Read
     requires { ⌜ Fitted (now s) d plan v ⌝ }
     ensures { λ r. ⌜ ((p : List ℕ) → Typed p (now (s .entry)) → Reads r p (now (s .entry))) ⌝ }
 {
-    let devices = v.devices;
-    let at = devices.start as usize;
+    let at = v.devices as usize;
     let from = s[at];
     let to = s[at + 1];
     if !devices_fit(plan.modem, from, to) {
         return Read::Wrong(d, 0x32);
     }
-    let terms = terms_of(s, d, plan, v);
     let handler = plan.handler;
+    let row = plan.row;
     let survey = v.survey;
-    let own = v.own;
+    let start = v.own as usize;
+    // The last byte of a length, which stands before the value, is how long it is.
+    let len = s[start - 1];
     Read::Asked(Request {
         details: d,
         handler,
         destination: DeviceIdentity(to),
         ignored: survey.ignored,
-        start: own.start as usize,
-        len: own.len as usize,
-        size: terms.size,
-        protocol: terms.protocol,
+        start,
+        len: len as usize,
+        size: size_at(s, row.opening, v.further as usize),
+        protocol: protocol_at(s, row.opening, v.transport as usize),
     })
 }
 
@@ -621,7 +567,7 @@ fn read_known(s: &[u8], d: Details, plan: Plan, v: Sorted) -> Read
     if survey.flagged {
         return Read::Wrong(d, 0x32);
     }
-    if !complete(v) {
+    if !v.complete {
         return Read::Wrong(d, 0x36);
     }
     if survey.misfit {

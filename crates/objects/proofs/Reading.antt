@@ -54,6 +54,9 @@ module _ (s : List ℕ) (at : ℕ) where
       tag-read n =
           record { is = by-byte ∙ skip _ _ _ (λ i. ne-eqb (t % 0x80) 0 n₀ i || ne-eqb (t % 0x80) 0x7F n i); behind = omega arith }
 
+last-byte : (s : List ℕ) (at : ℕ) → getD s (at + 1 - 1) 0 ≡ getD s at 0
+last-byte s at = let e : at + 1 - 1 ≡ at = omega arith in ap (λ (k : ℕ). getD s k 0) e
+
 -- the length at a place
 module _ (s : List ℕ) (at : ℕ) where
   pub length-none : length s ≤ at → lengthAt (drop at s) ≡ noLength
@@ -67,7 +70,7 @@ module _ (s : List ℕ) (at : ℕ) where
     pub length-short : getD s at 0 < 0x80 → Length s at (getD s at 0) (at + 1)
     unfolding lengthAt
     length-short b =
-        record { is = by-first ∙ stop _ _ _ (lt-ltb (getD s at 0) 0x80 b); within = omega arith; behind = omega arith }
+        record { is = by-first ∙ stop _ _ _ (lt-ltb (getD s at 0) 0x80 b); within = omega arith; behind = omega arith; last = last-byte s at }
 
     pub length-other : 0x80 ≤ getD s at 0 → (getD s at 0 ≡ 0x81 → ⊥) → lengthAt (drop at s) ≡ noLength
     unfolding lengthAt
@@ -95,6 +98,7 @@ module _ (s : List ℕ) (at : ℕ) where
           is = by-long b e ∙ ap longLength (cons-at s (at + 1) n) ∙ stop _ _ _ (le-leb 0x80 (getD s (at + 1) 0) c);
           within = omega arith;
           behind = omega arith;
+          last = last-byte s (at + 1);
         }
 
 -- what the readers told, by the case that it is
@@ -155,4 +159,5 @@ module _ (s : List ℕ) (at : ℕ) where
             ends = refl;
             within = omega (arith, l .within);
             behind = omega (arith, l .behind, t .behind);
+            last = l .last;
           }

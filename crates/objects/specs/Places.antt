@@ -3,7 +3,7 @@ use Prim.Native.Nat.{ℕ, zero, suc, _+_, _-_, _≤_, _<_}
 use mathlib.Core.Path.{_≡_}
 use mathlib.Core.Bool.{Bool}
 use mathlib.Core.List.{List}
-use lib.ListN.{length, drop}
+use lib.ListN.{length, drop, getD}
 use lib.Dec.{eqb}
 use Rattle.rules.specs.Checks.{_⇒_else_}
 use Rattle.rules.specs.Frames as frames
@@ -25,11 +25,12 @@ abbrev pub Tags : Tagged → List ℕ → ℕ → Type 0
 Tags (tagged.As number flag next) s at = Tag s at number flag next
 Tags tagged.Not s at = tagAt (drop at s) ≡ noTag
 
--- a length of n at `at`; what it counts starts at start
+-- a length of n at `at`; what it counts starts at start, and its last byte is n in either form
 pub record Length (s : List ℕ) (at n start : ℕ) : Type 0 where
   pub is : lengthAt (drop at s) ≡ len n (drop start s)
   pub within : start ≤ length s
   pub behind : at < start
+  pub last : getD s (start - 1) 0 ≡ n
 
 abbrev pub Measures : Sized → List ℕ → ℕ → Type 0
 Measures (By n start) s at = Length s at n start
@@ -39,12 +40,13 @@ Measures Not s at = lengthAt (drop at s) ≡ noLength
 abbrev pub objectOf : List ℕ → ℕ → Bool → ℕ → ℕ → frames.Object
 objectOf s number flag start n = record { number = number; flag = flag; value = part start (start + n) s }
 
--- it stands at `at`, and next is the place behind it
+-- it stands at `at`, its length before its value, and next is the place behind it
 pub record Stands (s : List ℕ) (at number : ℕ) (flag : Bool) (start n next : ℕ) : Type 0 where
   pub is : objectAt (drop at s) ≡ object (objectOf s number flag start n) (drop next s)
   pub ends : next ≡ start + n
   pub within : next ≤ length s
   pub behind : at + 2 ≤ start
+  pub last : getD s (start - 1) 0 ≡ n
 
 abbrev pub Meets : Found → List ℕ → ℕ → Type 0
 Meets (Object number flag start n next) s at = Stands s at number flag start n (next .at)

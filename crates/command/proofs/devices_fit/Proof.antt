@@ -1,7 +1,5 @@
 -- `command::devices_fit` meets its contract.
 -- Assumes nothing.
-use mathlib.Core.Path.{_∙_}
-use borrow.Author.Needs.{needs}
 use Rattle.rules.proofs.Laws.{checks}
 use Rattle.command.proofs.devices_fit.Statement.{statement}
 use Rattle.command.proofs.devices_fit.Tie as tie
@@ -12,5 +10,5 @@ devices-fit-spec =
     (tie.spec
     (λ c. search checks)
     (λ c. search checks)
-    (λ c κs. search needs)
+    (λ c. search checks)
     (λ c. search checks))

@@ -1,6 +1,7 @@
--- `command::gather` meets its contract: what was met in the slot of each number.
+-- `command::gather` meets its contract: what stands in the slot of each number.
 -- Assumes nothing.
 use borrow.Author.Needs.{needs}
+use Rattle.command.proofs.Sorting.{gathered}
 use Rattle.command.proofs.gather.Statement.{statement}
 use Rattle.command.proofs.gather.Tie as tie
 
@@ -18,6 +19,7 @@ gather-spec =
     (λ c. search needs)
     (λ c. search needs)
     (λ c κs. search needs)
+    (λ c κs. search needs)
     (λ c. search needs)
     (λ c. search needs)
-    (λ c. cc))
+    (λ c. search gathered))

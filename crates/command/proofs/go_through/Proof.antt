@@ -1,6 +1,7 @@
 -- `command::go_through` meets its contract: at every turn the objects before here are sorted.
 -- Assumes nothing.
 use Prim.Native.Nat.{_-_}
+use mathlib.Core.Logic.{⊎-elim}
 use native.Mathlib.Omega.{arith}
 use lib.ListN.{length}
 use borrow.Author.Needs.{needs}
@@ -11,36 +12,28 @@ use Rattle.command.proofs.go_through.Statement.{statement}
 use Rattle.command.proofs.go_through.Tie as tie
 
 abbrev Inv-loop : tie.InvT-loop
-Inv-loop s row first slots₀ survey₀ c₀ slots survey c = Sorting s slots survey (c .at)
+Inv-loop s row first counts₀ starts₀ survey₀ c₀ counts starts survey c = Sorting s counts starts survey (c .at)
 
 abbrev μ-loop : tie.MeasureT-loop
-μ-loop s row first slots₀ survey₀ c₀ slots survey c = length s - c .at
+μ-loop s row first counts₀ starts₀ survey₀ c₀ counts starts survey c = length s - c .at
 
-cast-first : tie.Need-cast-t17 Inv-loop μ-loop
-cast-first c = omega (arith, c .before .pre .0, c .before .pre .1 .stands .within)
+cast-first : tie.Need-cast-starts Inv-loop μ-loop
+cast-first c = let z : tie.Start Inv-loop μ-loop = search in omega (arith, z .pre .0, z .pre .1 .stands .within)
 
-cast-start : tie.Need-cast-again Inv-loop μ-loop
+add-counts : tie.Need-add-counts Inv-loop μ-loop
+add-counts c =
+    let k : tie.After-slot Inv-loop μ-loop = search in
+    let l : tie.At-loop Inv-loop μ-loop = search in
+    let z : tie.Start Inv-loop μ-loop = search in
+    omega (arith, z .pre .0, l .loop .inv .few (k .slot .result) (k .slot .ensures .1), l .loop .inv .ends .within)
+
+cast-start : tie.Need-cast-first-of Inv-loop μ-loop
 cast-start c =
     let n : tie.After-number Inv-loop μ-loop = search in
     let o : tie.After-object Inv-loop μ-loop = search in
     let z : tie.Start Inv-loop μ-loop = search in
     let st = object-told (n .number .given .1) (o .object .ensures) in
     omega (arith, z .pre .0, st .ends, st .within)
-
-cast-len : tie.Need-cast-again-2 Inv-loop μ-loop
-cast-len c =
-    let n : tie.After-number Inv-loop μ-loop = search in
-    let o : tie.After-object Inv-loop μ-loop = search in
-    let z : tie.Start Inv-loop μ-loop = search in
-    let st = object-told (n .number .given .1) (o .object .ensures) in
-    omega (arith, z .pre .0, st .ends, st .within)
-
-again-requires : tie.Need-again-requires Inv-loop μ-loop
-again-requires c κs =
-    let k : tie.After-slot Inv-loop μ-loop = search in
-    let l : tie.At-loop Inv-loop μ-loop = search in
-    let z : tie.Start Inv-loop μ-loop = search in
-    omega (arith, z .pre .0, l .loop .inv .few (k .slot .result) (k .slot .ensures .1), l .loop .inv .ends .within)
 
 fits-requires : tie.Need-fits-requires Inv-loop μ-loop
 fits-requires c κs =
@@ -59,28 +52,23 @@ loop-again : tie.Need-loop-again Inv-loop μ-loop
 loop-again c =
     let f : tie.After-fits2 Inv-loop μ-loop = search in
     let t : tie.After-times Inv-loop μ-loop = search in
-    let a : tie.After-again Inv-loop μ-loop = search in
+    let a : tie.After-first-of Inv-loop μ-loop = search in
     let k : tie.After-slot Inv-loop μ-loop = search in
     let n : tie.After-number Inv-loop μ-loop = search in
     let o : tie.After-object Inv-loop μ-loop = search in
     let l : tie.At-loop Inv-loop μ-loop = search in
     let z : tie.Start Inv-loop μ-loop = search in
-    sorting-on (l .loop .inv) (object-told (n .number .given .1) (o .object .ensures)) (z .pre .2) _ _ _ _ _ (k .slot .ensures .0) (a .again .ensures)
-    (t .times .ensures) (f .fits2 .ensures) (c .note .ensures)
+    sorting-on (l .loop .inv) (object-told (n .number .given .1) (o .object .ensures)) (z .pre .2) _ _ _ _ _ (k .slot .ensures .0) (a .first-of .ensures) (t .times .ensures) (f .fits2 .ensures) (c .note .ensures)
 
-ended : tie.Need-returns Inv-loop μ-loop
-ended c =
+returns : tie.Need-returns Inv-loop μ-loop
+returns c =
+    let j : tie.Joined1 Inv-loop μ-loop = search in
     let l : tie.At-loop Inv-loop μ-loop = search in
     let z : tie.Start Inv-loop μ-loop = search in
-    sorted-end (l .loop .inv) (z .pre .2) (c .gather .ensures) (c .before .if1 .taken)
-
-stopped : tie.Need-returns-2 Inv-loop μ-loop
-stopped c =
-    let o : tie.After-object Inv-loop μ-loop = search in
-    let e : tie.Else1 Inv-loop μ-loop = search in
-    let l : tie.At-loop Inv-loop μ-loop = search in
-    let z : tie.Start Inv-loop μ-loop = search in
-    sorted-fault (l .loop .inv) (z .pre .2) (c .gather2 .ensures) _ (e .if1 .left) (object-missed _ _ (c .before .enum-told .given .1) (o .object .ensures))
+    ⊎-elim (λ w. sorted-end (l .loop .inv) (z .pre .1) (z .pre .2) (c .gather .ensures) (w .1) (w .0 .taken))
+    (λ w.
+    sorted-fault (l .loop .inv) (z .pre .1) (z .pre .2) (c .gather .ensures) (w .4) _ (w .0 .left)
+    (object-missed _ _ (w .3 .given .1) (w .1 .ensures))) (j .if1 .came)
 
 pub go-through-spec : {M : Type 1} → statement M
 go-through-spec =
@@ -88,19 +76,21 @@ go-through-spec =
     (tie.spec
     Inv-loop
     μ-loop
+    (λ c. search needs)
     cast-first
     (λ c. search needs)
     (λ c. search needs)
-    (λ c. sorting-start (c .before .pre .1) (c .before .pre .2))
-    (λ c κs. tt)
+    (λ c. let z : tie.Start Inv-loop μ-loop = search in sorting-start (z .pre .1) (z .pre .2))
     (λ c κs. tt)
     (λ c. search needs)
     (λ c κs. tt)
+    (λ c. search needs)
+    add-counts
+    (λ c. search needs)
     (λ c. search needs)
     (λ c. search needs)
     cast-start
-    cast-len
-    again-requires
+    (λ c κs. tt)
     (λ c. search needs)
     (λ c. search needs)
     (λ c κs. tt)
@@ -109,6 +99,5 @@ go-through-spec =
     loop-less
     loop-again
     (λ c. search needs)
-    (λ c κs. tt)
-    ended
-    stopped)
+    (λ c κs. search needs)
+    returns)

@@ -7,13 +7,12 @@ use Rattle.rules.specs.Table.{table, rowAmong, times, known}
 use Rattle.rules.specs.Profile.{allowsType}
 use Rattle.rules.specs.Reading.{toModem}
 use Rattle.command.specs.Plans.{timesBy}
-use Rattle.command.specs.Surveys.{slotted}
 use Rattle.command.proofs.Tables.{rightly, plan-right, place-at, unknown-below, unknown-above}
 use Rattle.command.proofs.plan_of.Statement.{statement}
 use Rattle.command.proofs.plan_of.Tie as tie
 
 pub plan-of-spec : {M : Type 1} → statement M
-unfolding allowsType rightly known table rowAmong times timesBy slotted every member some-of toModem _⇒_else_
+unfolding allowsType rightly known table rowAmong times timesBy every member some-of toModem _⇒_else_
 plan-of-spec =
     tie.close
     (tie.spec

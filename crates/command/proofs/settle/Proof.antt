@@ -1,41 +1,49 @@
 -- `command::settle` meets its contract: step 8, and what is asked.
 -- Assumes nothing.
+use Prim.Native.Nat.{_-_}
 use native.Mathlib.Omega.{arith}
 use borrow.Author.Needs.{needs}
-use Rattle.command.proofs.Settling.{devices-within, settle-wrong, settle-asked}
+use Rattle.command.proofs.Settling.{devices-within, own-behind, own-within, settle-wrong, size-within, transport-within, settle-asked}
 use Rattle.command.proofs.settle.Statement.{statement}
 use Rattle.command.proofs.settle.Tie as tie
 
-from : tie.Need-shared-slice-read-from
-from c = let s : tie.Start = search in omega (arith, devices-within (s .pre))
-
-to : tie.Need-shared-slice-read-to
-to c = let s : tie.Start = search in omega (arith, devices-within (s .pre))
-
 misaddressed : tie.Need-returns
-misaddressed c =
+misaddressed c = let s : tie.Start = search in settle-wrong (s .pre) (c .before .devices-fit .ensures) (c .if1 .taken)
+
+length-place : tie.Need-shared-slice-read-len
+length-place c = let s : tie.Start = search in omega (arith, own-behind (s .pre), own-within (s .pre))
+
+length-byte : tie.Need-cast-t15
+length-byte c =
     let s : tie.Start = search in
-    settle-wrong (s .pre) (c .before .devices-fit .ensures) (c .if1 .taken)
+    let k : tie.After-shared-slice-known4 = search in
+    omega (arith, k .shared-slice-known4 .given (s .args .v .own - 1))
 
 settled : tie.Need-returns-2
 settled c =
-    let t : tie.After-terms-of = search in
+    let p : tie.After-protocol-at = search in
+    let z : tie.After-size-at = search in
     let e : tie.Else1 = search in
     let f : tie.After-devices-fit = search in
     let s : tie.Start = search in
-    settle-asked (s .pre) _ (t .terms-of .ensures) (f .devices-fit .ensures) (e .if1 .left)
+    settle-asked (s .pre) _ _ (z .size-at .ensures) (p .protocol-at .ensures) (f .devices-fit .ensures) (e .if1 .left)
 
 pub settle-spec : {M : Type 1} → statement M
 settle-spec =
     tie.close
     (tie.spec
     (λ c. search needs)
-    from
+    (λ c. let s : tie.Start = search in omega (arith, devices-within (s .pre)))
     (λ c. search needs)
-    to
+    (λ c. let s : tie.Start = search in omega (arith, devices-within (s .pre)))
     (λ c κs. search needs)
     misaddressed
-    (λ c κs. search needs)
     (λ c. search needs)
+    (λ c. let s : tie.Start = search in own-behind (s .pre))
+    length-place
+    length-byte
     (λ c. search needs)
+    (λ c κs. let s : tie.Start = search in size-within (s .pre))
+    (λ c. search needs)
+    (λ c κs. let s : tie.Start = search in λ o h. transport-within (s .pre) o (omega arith))
     settled)
