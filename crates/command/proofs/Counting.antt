@@ -7,7 +7,7 @@ use mathlib.Core.List.{List, [], _∷_}
 use native.Mathlib.Omega.{arith}
 use lib.Dec.{ltb, eqb}
 use borrow.Author.Tests.{lt-ltb, eqb-true}
-use Rattle.rules.specs.Checks.{_⇒_else_, occurrences, member, some-of}
+use Rattle.rules.specs.Checks.{occurrences, member, some-of}
 use Rattle.rules.specs.Frames.{Object}
 use Rattle.rules.specs.Table.{Row, Sifted, sift, times, present, valueOf}
 use Rattle.rules.proofs.Laws.{branch, stop, skip}

@@ -1,6 +1,6 @@
 -- The outer frame, case by case.
 -- Assumes nothing.
-use Prim.Native.Nat.{ℕ, suc, _-_, _≤_}
+use Prim.Native.Nat.{ℕ, suc, _-_}
 use mathlib.Core.Path.{_≡_, refl, sym, ap, _∙_}
 use mathlib.Core.Bool.{Bool, true, false, _&&_}
 use mathlib.Core.List.{List, [], _∷_}
@@ -8,7 +8,7 @@ use native.Mathlib.Omega.{arith}
 use lib.ListN.{length, drop, getD, length-drop}
 use lib.Dec.{eqb}
 use borrow.Author.Tests.{eq-eqb, ne-eqb}
-use Rattle.rules.specs.Frames.{LengthRead, len, noLength, lengthAt, fills, following, framed, contents}
+use Rattle.rules.specs.Frames.{LengthRead, noLength, lengthAt, fills, following, framed, contents}
 use Rattle.objects.specs.Places.{Length}
 use Rattle.command.specs.Requests.{FramedAt}
 

@@ -1,23 +1,22 @@
 -- A command whose type has a plan: steps 6 to 8, and the needed objects behind step 7.
 -- Assumes nothing.
-use Prim.Native.Nat.{ℕ, _+_}
-use mathlib.Core.Path.{_≡_, sym, ap, subst, _∙_}
-use mathlib.Core.Bool.{Bool, true, false, not}
+use Prim.Native.Nat.{ℕ}
+use mathlib.Core.Path.{_≡_, sym, ap, _∙_}
+use mathlib.Core.Bool.{true, false, not}
 use mathlib.Core.List.{List}
 use lib.ListN.{length}
 use borrow.Author.Tests.{not-true, not-false}
 use Rattle.rules.specs.declared.Details.{Details}
-use Rattle.rules.specs.Checks.{every, some-of, member}
+use Rattle.rules.specs.Checks.{some-of, member}
 use Rattle.rules.specs.Frames.{Object, walk}
 use Rattle.rules.specs.Table.{rowOf, present, valueOf, complete, lengthFits, measured}
 use Rattle.rules.specs.Reading.{Reading, wrong, asked, addressed, readObjects}
 use Rattle.rules.proofs.Readings.{value-fits}
-use Rattle.octets.specs.Parts.{part}
 use Rattle.command.specs.declared.Plan.{Plan}
 use Rattle.command.specs.declared.Sorted.{Sorted}
 use Rattle.command.specs.declared.Survey.{Survey}
 use Rattle.command.specs.Plans.{needed}
-use Rattle.command.specs.Requests.{theDetails, theObjects, theCommand, Typed, StandsAt, Begun, Fitted}
+use Rattle.command.specs.Requests.{theDetails, theObjects, theCommand, Typed, Begun, Fitted}
 use Rattle.command.proofs.Keys.{every-member}
 use Rattle.command.proofs.Needed.{needed-required, needed-alike}
 use Rattle.command.proofs.Steps.{read-flagged, read-incomplete, read-misfit, read-misaddressed, read-asked}

@@ -5,7 +5,7 @@ use mathlib.Core.Path.{_≡_, refl, sym, ap, _∙_}
 use mathlib.Core.Bool.{Bool, true, false, not, _&&_}
 use mathlib.Core.List.{List}
 use Rattle.rules.specs.Checks.{_⇒_else_, every, some-of, member}
-use Rattle.rules.specs.Frames.{Object, Walk, walk}
+use Rattle.rules.specs.Frames.{Walk, walk}
 use Rattle.rules.specs.Table.{rowOf, present, complete}
 use Rattle.objects.proofs.Walking.{here-object}
 use Rattle.command.specs.declared.Row.{Row}

@@ -10,7 +10,7 @@ use lib.Dec.{eqb}
 use borrow.Author.Tests.{eq-eqb, ne-eqb, not-true, not-false}
 use Rattle.rules.specs.declared.Details.{Details}
 use Rattle.rules.specs.declared.Ending.{Ending}
-use Rattle.rules.specs.Checks.{_⇒_else_, isEmpty}
+use Rattle.rules.specs.Checks.{isEmpty}
 use Rattle.rules.specs.Frames.{Object, objectAt, faulty, Walk, walk}
 use Rattle.rules.specs.Table.{known, valueOf}
 use Rattle.rules.specs.Profile.{bit, allowsType}
@@ -23,7 +23,7 @@ use Rattle.objects.proofs.Walking.{here-object}
 use Rattle.command.specs.declared.Plan.{Plan}
 use Rattle.command.specs.declared.Sorted.{Sorted}
 use Rattle.command.specs.Plans.{RowFor, PlanOf}
-use Rattle.command.specs.Requests.{theDetails, detailsAt, Began, Detailed, Headed, Typed, Sorts, Begun}
+use Rattle.command.specs.Requests.{theDetails, detailsAt, Detailed, Headed, Typed, Sorts, Begun}
 use Rattle.command.proofs.Lengths.{empty, filled, part-size, part-first, part-at}
 use Rattle.command.proofs.Steps.{read-none, read-faulty, read-stranger, read-cut, read-unknown, read-forbidden}
 

@@ -1,17 +1,12 @@
 -- Each contract of the reading settles its outcome.
 -- Assumes nothing.
-use mathlib.Core.Path.{refl, sym, _∙_}
+use mathlib.Core.Path.{refl}
 use Rattle.outcomes.specs.Determined.{Determined}
 use Rattle.command.proofs.Alike.{framed-alike, read-alike}
-use Rattle.command.proofs.allowed.Kinds as allowed-kinds
-use Rattle.command.proofs.allowed.Reads as allowed-reads
 use Rattle.command.proofs.frame_start.Kinds as frame-start-kinds
 use Rattle.command.proofs.frame_start.Reads as frame-start-reads
 use Rattle.command.proofs.read_objects.Kinds as read-objects-kinds
 use Rattle.command.proofs.read_objects.Reads as read-objects-reads
-
-pub allowed-settled : Determined 1 allowed-kinds.ps allowed-kinds.r allowed-reads.Pre allowed-reads.Post
-allowed-settled κs a _ x y v w p q = (p ∙ sym q, refl)
 
 pub frame-start-settled : Determined 1 frame-start-kinds.ps frame-start-kinds.r frame-start-reads.Pre frame-start-reads.Post
 frame-start-settled κs a _ x y v w p q = (framed-alike x y _ p q, refl)

@@ -1,6 +1,6 @@
 -- One object more: what it does to the sifted objects and their survey, to how often a number stands, and to the value of its first object.
 -- Assumes nothing.
-use Prim.Native.Nat.{ℕ, suc, _+_, _≤_}
+use Prim.Native.Nat.{ℕ, suc, _+_}
 use mathlib.Core.Path.{_≡_, refl, sym, ap, _∙_}
 use mathlib.Core.Bool.{Bool, true, false, not, _&&_, _||_}
 use mathlib.Core.List.{List, [], _∷_, _++_, map}
@@ -10,7 +10,7 @@ use borrow.Author.Tests.{ne-eqb}
 use Rattle.rules.specs.Checks.{_⇒_else_, isEmpty, every, some-of, occurrences, member}
 use Rattle.rules.specs.Frames.{Object}
 use Rattle.rules.specs.Table.{Row, Sifted, sift, times, present, valueOf, lengthFits, measured}
-use Rattle.rules.proofs.Laws.{stop, skip}
+use Rattle.rules.proofs.Laws.{skip}
 use Rattle.command.specs.Surveys.{surveyOf, noted}
 
 abbrev pub numbers : List Object → List ℕ

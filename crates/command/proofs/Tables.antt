@@ -2,27 +2,26 @@
 -- Assumes nothing.
 use Prim.Native.Nat.{ℕ, zero, suc, _+_, _-_, _≤_, _<_}
 use mathlib.Core.Path.{_≡_, refl, sym, ap, subst, _∙_}
-use mathlib.Core.Bool.{Bool, true, false, not, _&&_, _||_, true≢false, false≢true}
+use mathlib.Core.Bool.{Bool, true, false, not, _&&_, _||_, true≢false}
 use mathlib.Core.List.{List, [], _∷_, map}
 use native.Mathlib.Omega.{arith}
-use native.Mathlib.Nat.{le-of-suc-le-suc}
 use types.Run.{OneOf}
-use lib.ListN.{length, getD}
+use lib.ListN.{getD}
 use lib.Dec.{ltb, leb, eqb}
 use borrow.Author.Tests.{ltb-true, leb-true, le-leb, lt-leb, eqb-true, eq-eqb, ne-eqb, not-true}
 use Rattle.rules.specs.declared.Details.{Details}
 use Rattle.rules.specs.Checks.{_⇒_else_, every, some-of, member}
-use Rattle.rules.specs.Profile.{bit, allowsType}
+use Rattle.rules.specs.Profile.{profileSize, bit, allowsType}
 use Rattle.rules.specs.Table as rules
 use Rattle.rules.specs.Table.{table, rowAmong, rowOf, times, known}
 use Rattle.rules.specs.Reading.{toModem}
-use Rattle.rules.proofs.Laws.{branch, stop, skip, both-left, both-right, or-right, either-left, either-right}
-use Rattle.command.specs.declared.Place.{Place}
+use Rattle.rules.proofs.Laws.{branch, stop, skip, both-left, both-right, or-right, either-left}
+use Rattle.profile.specs.declared.Place.{Place}
 use Rattle.command.specs.declared.Plan.{Plan}
 use Rattle.command.specs.declared.Row.{Row}
-use Rattle.command.specs.Plans.{profileSize, handlerKind, ownNumber, needed, timesBy, RowFor, PlaceFor, PlanOf}
+use Rattle.command.specs.Plans.{handlerKind, ownNumber, needed, timesBy, PlaceFor, PlanOf}
 use Rattle.command.specs.Surveys.{slots, slotOf}
-use Rattle.command.proofs.Keys.{in-keys, out-keys, Outside, outside, every-member, no-member, All, all-true}
+use Rattle.command.proofs.Keys.{in-keys, out-keys, Outside, outside, every-member, no-member, all-true}
 
 -- the slot of a number that a row may have is its own
 abbrev pub has-slot : ℕ → Bool

@@ -6,20 +6,16 @@ use mathlib.Core.List.{List, [], _∷_}
 use lib.Dec.{eqb}
 use Rattle.rules.specs.declared.Details.{Details}
 use Rattle.rules.specs.Checks.{_⇒_else_, every, member}
-use Rattle.rules.specs.Profile.{bit, allowsType}
+use Rattle.rules.specs.Profile.{profileSize, bit, allowsType}
 use Rattle.rules.specs.Table.{known, rowOf, times}
 use Rattle.rules.specs.Reading.{toModem}
 use Rattle.command.specs.declared.Handler.{Handler}
 use Rattle.command.specs.declared.Handler.the-variants.{MoreTime, EventList, Open, Close, Receive, Send, Status}
-use Rattle.command.specs.declared.Place.{Place}
+use Rattle.profile.specs.declared.Place.{Place}
 use Rattle.command.specs.declared.Row.{Row}
 use Rattle.command.specs.declared.Plan.{Plan}
 use Rattle.command.specs.declared.Planned.{Planned}
 use Rattle.command.specs.declared.Planned.the-variants.{Of, Unknown}
-
--- every place of the profile lies in this many bytes
-abbrev pub profileSize : ℕ
-profileSize = 13
 
 -- the type of a handler
 abbrev pub handlerKind : Handler → ℕ

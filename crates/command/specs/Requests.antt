@@ -11,7 +11,7 @@ use Rattle.rules.specs.Checks.{_⇒_else_, isEmpty}
 use Rattle.rules.specs.Frames.{framed, contents, walk}
 use Rattle.rules.specs.Profile.{allowsType}
 use Rattle.rules.specs.Table.{known, rowOf, Sifted, sift, present, valueOf, complete, bearerFits}
-use Rattle.rules.specs.Reading.{Reading, wrong, asked, Command, Body, Transport, moreTime, eventList, openChannel, closeChannel, receiveData, sendData, channelStatus, other, bearerIn, detailsIn, commandIn, startsWithDetails, isFault, addressed, readObjects}
+use Rattle.rules.specs.Reading.{wrong, asked, Command, Body, Transport, moreTime, eventList, openChannel, closeChannel, receiveData, sendData, channelStatus, other, bearerIn, detailsIn, commandIn, startsWithDetails, isFault, addressed, readObjects}
 use Rattle.rules.specs.Own.{protocolOf}
 use Rattle.octets.specs.Parts.{part}
 use Rattle.objects.specs.Places.{Stands, placeOf}

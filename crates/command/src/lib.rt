@@ -4,19 +4,21 @@ use objects::Found;
 use objects::Sized;
 use objects::length_at;
 use objects::walk;
+use profile::Place;
+use profile::allowed;
 use rules::Details;
 use rules::DeviceIdentity;
 use rules::Ending;
 ghost use mathlib.Core.Path.{_≡_};
 ghost use mathlib.Core.Bool.{true, false};
 ghost use mathlib.Core.List.{List};
-ghost use Prim.Native.Nat.{ℕ, _+_, _-_, _^_, _≤_, _<_};
+ghost use Prim.Native.Nat.{ℕ, _+_, _-_, _≤_, _<_};
 ghost use lib.ListN.{length};
 ghost use Rattle.rules.specs.Checks.{_⇒_else_, member};
-ghost use Rattle.rules.specs.Profile.{bit};
+ghost use Rattle.rules.specs.Profile.{profileSize};
 ghost use Rattle.rules.specs.Table.{known, bearerFits, lengthFits};
 ghost use Rattle.octets.specs.Parts.{part};
-ghost use Rattle.command.specs.Plans.{profileSize, needed, timesBy, RowFor, PlanOf, Plans};
+ghost use Rattle.command.specs.Plans.{needed, timesBy, RowFor, PlanOf, Plans};
 ghost use Rattle.command.specs.Surveys.{slots, slotOf, firstOf, noted, allStand, sortedBy};
 ghost use Rattle.command.specs.Requests.{Frames, detailsAt, theDetails, addressedBy, sizeBy, protocolBy, Headed, Detailed, Begun, Typed, Sorts, Fitted, Reads};
 
@@ -64,12 +66,6 @@ pub enum Handler {
     Receive,
     Send,
     Status,
-}
-
-// A bit of the profile; bytes and bits are numbered from 1.
-pub struct Place {
-    pub byte: usize,
-    pub bit: u8,
 }
 
 // The objects of a type: the two that it requires besides 01 and 02, which is 02 again where there is none, whether 05 and 1E may stand, and whether those of OPEN CHANNEL may.
@@ -209,34 +205,6 @@ fn plan_of(d: Details) -> Planned
         0x40..=0x44 => Planned::Of(channel_plan(d)),
         _ => Planned::Unknown,
     }
-}
-
-// The weight of a bit in its byte.
-fn weight(bit: u8) -> u16
-    requires { ⌜ (1 ≤ bit) × (bit ≤ 8) ⌝ }
-    ensures { λ r. ⌜ r ≡ 2 ^ (bit - 1) ⌝ }
-{
-    match bit {
-        1 => 1,
-        2 => 2,
-        3 => 4,
-        4 => 8,
-        5 => 16,
-        6 => 32,
-        7 => 64,
-        _ => 128,
-    }
-}
-
-// Whether the profile has the bit of a place set.
-pub fn allowed(profile: &[u16], place: Place) -> bool
-    requires { ⌜ ((1 ≤ place .byte) × (place .byte ≤ profileSize)) × ((1 ≤ place .bit) × (place .bit ≤ 8)) ⌝ }
-    requires { ⌜ profileSize ≤ length (now profile) ⌝ }
-    ensures { λ r. ⌜ r ≡ bit (now (profile .entry)) (place .byte) (place .bit) ⌝ }
-{
-    let at = place.byte - 1;
-    let b = profile[at];
-    b / weight(place.bit) % 2 == 1
 }
 
 // So many where objects may stand, and none where not.

@@ -1,7 +1,6 @@
 -- `command::channel_place` meets its contract: the rule of the table.
 -- Assumes nothing.
 use borrow.Author.Needs.{needs}
-use native.Mathlib.Omega.{arith}
 use Rattle.command.proofs.Tables.{places-rule}
 use Rattle.command.proofs.channel_place.Statement.{statement}
 use Rattle.command.proofs.channel_place.Tie as tie

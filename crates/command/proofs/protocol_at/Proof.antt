@@ -1,8 +1,7 @@
 -- `command::protocol_at` meets its contract.
 -- Assumes nothing.
 use native.Mathlib.Omega.{arith}
-use borrow.Author.Tests.{not-true, not-false}
-use borrow.Author.Needs.{needs}
+use borrow.Author.Tests.{not-false}
 use Rattle.rules.proofs.Laws.{checks}
 use Rattle.command.specs.Requests.{protocolBy}
 use Rattle.command.proofs.protocol_at.Statement.{statement}

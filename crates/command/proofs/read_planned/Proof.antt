@@ -1,6 +1,5 @@
 -- `command::read_planned` meets its contract: step 4, and step 5 for a type that has a plan.
 -- Assumes nothing.
-use borrow.Author.Needs.{needs}
 use Rattle.command.proofs.Opening.{row-is, planned-cut, begun, forbidden-read, typed}
 use Rattle.command.proofs.read_planned.Statement.{statement}
 use Rattle.command.proofs.read_planned.Tie as tie

@@ -5,7 +5,6 @@ use native.Mathlib.Omega.{arith}
 use lib.ListN.{length}
 use denote.Ref.{now}
 use borrow.Author.Tests.{not-false}
-use borrow.Author.Needs.{needs}
 use Rattle.rules.proofs.Laws.{checks}
 use Rattle.command.specs.Requests.{sizeBy}
 use Rattle.command.proofs.size_at.Statement.{statement}
