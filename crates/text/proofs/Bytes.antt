@@ -2,13 +2,14 @@
 -- Assumes nothing.
 use Prim.Native.Nat.{ℕ, zero, suc, _+_, _-_, _*_, _≤_, _<_}
 use mathlib.Core.Path.{_≡_, refl, sym, ap, _∙_}
-use mathlib.Core.Bool.{Bool, true, false, _&&_, false≢true}
+use mathlib.Core.Bool.{Bool, true, false, not, _&&_, false≢true}
 use mathlib.Core.List.{List, [], _∷_}
 use mathlib.Core.Option.{Option, none, some}
 use native.Mathlib.Omega.{arith}
 use native.Mathlib.Numerals.{add-one}
 use lib.ListN.{length, drop, getD, drop-of-length-le}
 use lib.Seq.{drop-cons}
+use borrow.Author.Tests.{not-true, not-false}
 use Rattle.rules.specs.Lines.{isDigit, digitValue, with-byte, bytesOf}
 use Rattle.text.specs.Frames.{readable, frameBytes}
 use Rattle.rules.proofs.Laws.{both-left, both-right}
@@ -50,14 +51,17 @@ module _ (l : List ℕ) (i : ℕ) (p : Pairs l i) where
     unfolding bytesOf
     by-pair = p .same ∙ ap (λ (r : List ℕ). readable (bytesOf r)) (two-at l i (omega arith)) ∙ readable-pair _ _ (bytesOf (drop (i + 2) l))
 
-    pub no-first : isDigit (getD l i 0) ≡ false → false ≡ readable (bytesOf l)
-    no-first e = sym (by-pair ∙ rw e)
+    -- by what the code found of the two
+    module _ (a : Bool) (u : a ≡ isDigit (getD l i 0)) where
+      pub no-first : not a ≡ true → false ≡ readable (bytesOf l)
+      no-first f = sym (by-pair ∙ rw (sym u ∙ not-true a f))
 
-    pub no-second : isDigit (getD l i 0) ≡ true → isDigit (getD l (i + 1) 0) ≡ false → false ≡ readable (bytesOf l)
-    no-second d e = sym (by-pair ∙ rw (d, e))
+      module _ (f : not a ≡ false) (b : Bool) (v : b ≡ isDigit (getD l (i + 1) 0)) where
+        pub no-second : not b ≡ true → false ≡ readable (bytesOf l)
+        no-second g = sym (by-pair ∙ rw (sym u ∙ not-false a f, sym v ∙ not-true b g))
 
-    pub pairs-more : isDigit (getD l i 0) ≡ true → isDigit (getD l (i + 1) 0) ≡ true → Pairs l (i + 2)
-    pairs-more d e = record { within = omega arith; same = by-pair ∙ rw (d, e) }
+        pub pairs-more : not b ≡ false → Pairs l (i + 2)
+        pairs-more g = record { within = omega arith; same = by-pair ∙ rw (sym u ∙ not-false a f, sym v ∙ not-false b g) }
 
 -- the parts of a byte that was read
 read-pair :

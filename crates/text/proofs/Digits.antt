@@ -47,6 +47,13 @@ no-digit c f g h = sym (refuted (isDigit c) (λ e. ⊎-elim (⊎-elim (λ p. gap
     refuted true k = absurd (k refl)
     refuted false k = refl
 
+-- the least digit, and the least small one
+pub digit-low : (c : ℕ) → isDigit c ≡ true → 48 ≤ c
+digit-low c e = ⊎-elim (⊎-elim (λ p. p .0) (λ p. omega arith)) (λ p. omega arith) (digit-ranges c e)
+
+pub digit-high : (c : ℕ) → isDigit c ≡ true → 70 < c → 87 ≤ c
+digit-high c e h = ⊎-elim (⊎-elim (λ p. omega arith) (λ p. omega arith)) (λ p. omega arith) (digit-ranges c e)
+
 -- a digit stands for a number below 16
 pub digit-small : (c : ℕ) → isDigit c ≡ true → digitValue c ≤ 15
 unfolding digitValue

@@ -12,8 +12,9 @@ use Rattle.rules.specs.Words.{numberOf}
 use Rattle.rules.specs.Command.{wrote, refused}
 use Rattle.rules.specs.Lines.{digitOf, hex, printed}
 use Rattle.session.specs.declared.Ended.{Ended}
-use Rattle.session.specs.declared.Ended.the-variants.{Wrote}
-use Rattle.text.specs.Prints.{lineOf, countOf}
+use Rattle.session.specs.declared.Ended.the-variants.{Wrote, Refused}
+use Rattle.text.specs.Sizes.{shortLine}
+use Rattle.text.specs.Prints.{lineOf, countOf, outcomeOf}
 use Rattle.text.proofs.Stores.{store-after}
 use Rattle.octets.specs.Parts.{pasted}
 use Rattle.octets.proofs.Copies.{Copied, copied-none, copied-more, copied-all}
@@ -63,14 +64,10 @@ unfolding printed
 written-line [] n = absurd (n refl)
 written-line (b ∷ s) n = refl
 
-pub nothing-line : (s : List ℕ) → length s ≡ 0 → 45 ∷ 45 ∷ 10 ∷ [] ≡ lineOf (wrote s)
+no-line : (s : List ℕ) → length s ≡ 0 → 45 ∷ 45 ∷ 10 ∷ [] ≡ lineOf (wrote s)
 unfolding printed
-nothing-line [] e = refl
-nothing-line (b ∷ s) e = absurd (let z : length (b ∷ s) ≡ 0 = e in omega arith)
-
-pub refused-line : (r : Refusal) (n : ℕ) → n ≡ numberOf r → 82 ∷ (n + 48) ∷ 10 ∷ [] ≡ lineOf (refused r)
-unfolding printed
-refused-line r n e = ap (λ (k : ℕ). 82 ∷ (k + 48) ∷ 10 ∷ []) e
+no-line [] e = refl
+no-line (b ∷ s) e = absurd (let z : length (b ∷ s) ≡ 0 = e in omega arith)
 
 pub number-small : (r : Refusal) → numberOf r ≤ 9
 number-small ShortBuffer = omega arith
@@ -83,23 +80,44 @@ number-small UnfitRecord = omega arith
 number-small NoResponse = omega arith
 number-small Unreadable = omega arith
 
--- what was printed, by another name
-pub line-as :
-    (t u before after : List ℕ) (at r : ℕ) → t ≡ u → after ≡ pasted before at t → r ≡ at + length t → (after ≡ pasted before at u) × (r ≡ at + length u)
-line-as t u before after at r e p q = subst (λ (s : List ℕ). (after ≡ pasted before at s) × (r ≡ at + length s)) e (p, q)
+-- a line that was printed: it stands in the output, and its end is told
+abbrev Line : List ℕ → List ℕ → ℕ → List ℕ → ℕ → Type 0
+Line l before at after r = (after ≡ pasted before at l) × (r ≡ at + length l)
+
+line-as : (t u before : List ℕ) (at : ℕ) (after : List ℕ) (r : ℕ) → t ≡ u → Line t before at after r → Line u before at after r
+line-as t u before at after r e w = subst (λ (l : List ℕ). Line l before at after r) e w
+
+module _ (before : List ℕ) (at : ℕ) (after : List ℕ) where
+  pub nothing-line : (s : List ℕ) → length s ≡ 0 → after ≡ pasted before at (45 ∷ 45 ∷ 10 ∷ []) → Line (lineOf (wrote s)) before at after (at + shortLine)
+  nothing-line s e w = line-as _ _ before at after _ (no-line s e) (w, refl)
+
+  pub refused-line :
+      (r : Refusal) (n : ℕ) → n ≡ numberOf r → after ≡ pasted before at (82 ∷ (n + 48) ∷ 10 ∷ []) → Line (lineOf (refused r)) before at after (at + shortLine)
+  unfolding printed
+  refused-line r n e w = line-as _ _ before at after _ (ap (λ (k : ℕ). 82 ∷ (k + 48) ∷ 10 ∷ []) e) (w, refl)
+
+  -- the digits and the line feed
+  pub hexed-line :
+      (s : List ℕ) → (length s ≡ 0 → ⊥) → at + 2 * length s + shortLine ≤ length before → after ≡ pasted before at (hex s) →
+      Line (lineOf (wrote s)) before at (set after (at + 2 * length s) 10) (at + 2 * length s + 1)
+  hexed-line s n w e =
+      let z = hex-size s in
+      let l = length-append (hex s) (10 ∷ []) in
+      let one : length {A = ℕ} (10 ∷ []) ≡ 1 = refl in
+      line-as (hex s ++ 10 ∷ []) (lineOf (wrote s)) before at _ _ (sym (written-line s n))
+      (store-after before at (hex s) _ 10 after e (omega arith) (omega arith), omega arith)
+
+  -- by how the call ended
+  module _ (x : Ended) (s : List ℕ) (r : ℕ) where
+    pub written-printed : (k : ℕ) → x ≡ Wrote k → Line (lineOf (wrote (take k s))) before at after r → Line (lineOf (outcomeOf x s)) before at after r
+    unfolding outcomeOf
+    written-printed k e w = line-as _ _ before at after r (ap (λ (y : Ended). lineOf (outcomeOf y s)) (sym e)) w
+
+    pub refusal-printed : (f : Refusal) → x ≡ Refused f → Line (lineOf (refused f)) before at after r → Line (lineOf (outcomeOf x s)) before at after r
+    unfolding outcomeOf
+    refusal-printed f e w = line-as _ _ before at after r (ap (λ (y : Ended). lineOf (outcomeOf y s)) (sym e)) w
 
 -- the bytes that a call wrote are there
-pub front-size : (x : Ended) (k : ℕ) (s : List ℕ) → x ≡ Wrote k → countOf x ≤ length s → length (take k s) ≡ k
+pub front-size : (x : Ended) (k : ℕ) (s : List ℕ) → x ≡ Wrote k → countOf x ≤ length s → k ≡ length (take k s)
 unfolding countOf
-front-size x k s e h = let c = ap countOf e in length-take-le k s (omega arith)
-
--- the digits and the line feed
-pub hexed-line :
-    (before : List ℕ) (at : ℕ) (s after : List ℕ) → (length s ≡ 0 → ⊥) → at + 2 * length s + 3 ≤ length before → after ≡ pasted before at (hex s) →
-    (set after (at + 2 * length s) 10 ≡ pasted before at (lineOf (wrote s))) × (at + 2 * length s + 1 ≡ at + length (lineOf (wrote s)))
-hexed-line before at s after n w e =
-    let z = hex-size s in
-    let l = length-append (hex s) (10 ∷ []) in
-    let one : length {A = ℕ} (10 ∷ []) ≡ 1 = refl in
-    line-as (hex s ++ 10 ∷ []) (lineOf (wrote s)) before _ at _ (sym (written-line s n))
-    (store-after before at (hex s) _ 10 after e (omega arith) (omega arith)) (omega arith)
+front-size x k s e h = let c = ap countOf e in sym (length-take-le k s (omega arith))
