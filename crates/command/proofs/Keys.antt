@@ -1,6 +1,6 @@
 -- Numbers in lists: the keys of a match, and tests that every number of a list passes.
 -- Assumes nothing.
-use Prim.Native.Nat.{ℕ, zero, suc, _+_, _≤_}
+use Prim.Native.Nat.{ℕ, zero, suc, _+_, _≤_, _<_}
 use mathlib.Core.Path.{_≡_, refl, sym, ap, _∙_}
 use mathlib.Core.Logic.{inl, inr, ⊎-elim}
 use mathlib.Core.Bool.{Bool, true, false, _&&_, _||_, true≢false, false≢true}
@@ -8,18 +8,21 @@ use mathlib.Core.List.{List, [], _∷_}
 use native.Mathlib.Omega.{arith}
 use types.Run.{OneOf}
 use lib.Dec.{eqb}
-use borrow.Author.Tests.{eqb-false, eq-eqb, ne-eqb}
+use borrow.Author.Tests.{eqb-false, ne-eqb}
 use Rattle.rules.specs.Checks.{every, some-of, member}
-use Rattle.rules.proofs.Laws.{both-left, both-right, either, or-right, either-left, either-right, by-equal}
+use Rattle.rules.proofs.Laws.{both-left, both-right, either, either-left, either-right, by-equal}
 
--- a number that an arm's keys have, and one that they have not
-pub in-keys : (ks : List ℕ) (n : ℕ) → OneOf ks n → member n ks ≡ true
-unfolding member some-of
-in-keys [] n e = absurd e
-in-keys (k ∷ []) n e = ap (λ (b : Bool). b || false) (eq-eqb n k e)
-in-keys (k ∷ j ∷ ks) n e =
-    ⊎-elim (λ (q : n ≡ k). ap (λ (b : Bool). b || member n (j ∷ ks)) (eq-eqb n k q)) (λ q. or-right (eqb n k) (member n (j ∷ ks)) (in-keys (j ∷ ks) n q)) e
+-- what a definition says of each key of an arm it says of a number that is one of them
+abbrev Each : (ℕ → Type 0) → List ℕ → Type 0
+Each P [] = Unit {0}
+Each P (k ∷ ks) = P k × Each P ks
 
+pub arm : {A : Type 0} (f : ℕ → A) (a : A) (ks : List ℕ) (n : ℕ) → Each (λ k. a ≡ f k) ks → OneOf ks n → a ≡ f n
+arm f a [] n w o = absurd o
+arm f a (k ∷ []) n w o = w .0 ∙ ap f (sym o)
+arm f a (k ∷ j ∷ ks) n w o = ⊎-elim (λ (e : n ≡ k). w .0 ∙ ap f (sym e)) (λ q. arm f a (j ∷ ks) n (w .1) q) o
+
+-- a number that an arm's keys have not
 pub out-keys : (ks : List ℕ) (n : ℕ) → (OneOf ks n → ⊥) → member n ks ≡ false
 unfolding member some-of
 out-keys [] n h = refl
@@ -42,7 +45,7 @@ pub outside : (n : ℕ) (ks : List ℕ) → Outside n ks (Unit {0}) → member n
 outside n ks w = outside-all n ks (Unit {0}) w .1
 
 -- numbers one after the other, and one that stands behind them all
-abbrev run : ℕ → ℕ → List ℕ
+abbrev pub run : ℕ → ℕ → List ℕ
 run a zero = []
 run a (suc m) = a ∷ run (a + 1) m
 
@@ -53,6 +56,13 @@ past t a (suc m) h e =
     let n = eqb-false t a (either-left (eqb t a) (member t (run (a + 1) m)) e) in
     let k = past t (a + 1) m (omega arith) (either-right (eqb t a) (member t (run (a + 1) m)) e) in
     omega arith
+
+pub in-run : (t a m : ℕ) → a ≤ t → t < a + m → member t (run a m) ≡ true
+in-run t a m low high = by (member t (run a m)) refl
+  where
+    by : (b : Bool) → member t (run a m) ≡ b → member t (run a m) ≡ true
+    by true e = e
+    by false e = absurd (let h = past t a m low e in omega arith)
 
 pub behind : (t a m : ℕ) → a ≤ t → t ≤ a + m → Outside t (run a m) (Unit {0}) → t ≡ a + m
 behind t a m low high w = let h = past t a m low (outside t (run a m) w) in omega arith

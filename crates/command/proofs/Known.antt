@@ -2,19 +2,18 @@
 -- Assumes nothing.
 use Prim.Native.Nat.{ℕ}
 use mathlib.Core.Path.{_≡_, sym, ap, _∙_}
-use mathlib.Core.Bool.{true, false, not}
+use mathlib.Core.Bool.{true, false}
 use mathlib.Core.List.{List}
 use lib.ListN.{length}
 use borrow.Author.Tests.{not-true, not-false}
 use Rattle.rules.specs.declared.Details.{Details}
-use Rattle.rules.specs.Checks.{some-of, member}
+use Rattle.rules.specs.Checks.{member}
 use Rattle.rules.specs.Frames.{Object, walk}
 use Rattle.rules.specs.Table.{rowOf, present, valueOf, complete, lengthFits, measured}
 use Rattle.rules.specs.Reading.{Reading, wrong, asked, addressed, readObjects}
 use Rattle.rules.proofs.Readings.{value-fits}
 use Rattle.command.specs.declared.Plan.{Plan}
 use Rattle.command.specs.declared.Sorted.{Sorted}
-use Rattle.command.specs.declared.Survey.{Survey}
 use Rattle.command.specs.Plans.{needed}
 use Rattle.command.specs.Requests.{theDetails, theObjects, theCommand, Typed, Begun, Fitted}
 use Rattle.command.proofs.Keys.{every-member}
@@ -25,24 +24,18 @@ module _ {s : List ℕ} {d : Details} {plan : Plan} {v : Sorted} (b : Begun s d 
   told : {r : Reading} (e : ℕ) → r ≡ wrong (theDetails s) e → r ≡ wrong d e
   told e q = q ∙ ap (λ (x : Details). wrong x e) (b .details)
 
-  flagged-is : some-of (λ (x : Object). x .flag) (theObjects s .unexpected) ≡ v .survey .flagged
-  flagged-is = sym (ap (λ (x : Survey). x .flagged) (b .sorted .survey))
-
-  misfit-is : not (measured (theObjects s .counting)) ≡ v .survey .misfit
-  misfit-is = sym (ap (λ (x : Survey). x .misfit) (b .sorted .survey))
-
   -- step 6
-  pub known-flagged : v .survey .flagged ≡ true → (p : List ℕ) → Typed p s → readObjects p s ≡ wrong d 0x32
-  known-flagged e p t = told 0x32 (read-flagged p s t (flagged-is ∙ e))
+  pub known-flagged : v .flagged ≡ true → (p : List ℕ) → Typed p s → readObjects p s ≡ wrong d 0x32
+  known-flagged e p t = told 0x32 (read-flagged p s t (sym (b .sorted .flagged) ∙ e))
 
   -- step 7
-  pub known-incomplete : v .survey .flagged ≡ false → v .complete ≡ false → (p : List ℕ) → Typed p s → readObjects p s ≡ wrong d 0x36
-  known-incomplete f e p t = told 0x36 (read-incomplete p s t (flagged-is ∙ f) (sym (b .sorted .complete) ∙ e))
+  pub known-incomplete : v .flagged ≡ false → v .complete ≡ false → (p : List ℕ) → Typed p s → readObjects p s ≡ wrong d 0x36
+  known-incomplete f e p t = told 0x36 (read-incomplete p s t (sym (b .sorted .flagged) ∙ f) (sym (b .sorted .complete) ∙ e))
 
   pub known-misfit :
-      v .survey .flagged ≡ false → v .complete ≡ true → v .survey .misfit ≡ true → (p : List ℕ) → Typed p s → readObjects p s ≡ wrong d 0x32
+      v .flagged ≡ false → v .complete ≡ true → v .misfit ≡ true → (p : List ℕ) → Typed p s → readObjects p s ≡ wrong d 0x32
   known-misfit f c e p t =
-      told 0x32 (read-misfit p s t (flagged-is ∙ f) (sym (b .sorted .complete) ∙ c) (not-true (measured (theObjects s .counting)) (misfit-is ∙ e)))
+      told 0x32 (read-misfit p s t (sym (b .sorted .flagged) ∙ f) (sym (b .sorted .complete) ∙ c) (not-true (measured (theObjects s .counting)) (sym (b .sorted .misfit) ∙ e)))
 
 -- behind step 7
 module _ {s : List ℕ} {d : Details} {plan : Plan} {v : Sorted} (z : Fitted s d plan v) where
@@ -53,20 +46,20 @@ module _ {s : List ℕ} {d : Details} {plan : Plan} {v : Sorted} (z : Fitted s d
   whole = sym (z .begun .sorted .complete) ∙ z .complete
 
   pub fit : measured counts ≡ true
-  fit = not-false (measured counts) (misfit-is (z .begun) ∙ z .fit)
+  fit = not-false (measured counts) (sym (z .begun .sorted .misfit) ∙ z .fit)
 
   -- step 8
   pub known-misaddressed :
       addressed (theDetails s .kind) (theCommand s .source) (theCommand s .destination) ≡ false → (p : List ℕ) → Typed p s →
       readObjects p s ≡ wrong d 0x32
-  known-misaddressed e p t = told (z .begun) 0x32 (read-misaddressed p s t (flagged-is (z .begun) ∙ z .unflagged) whole fit e)
+  known-misaddressed e p t = told (z .begun) 0x32 (read-misaddressed p s t (sym (z .begun .sorted .flagged) ∙ z .unflagged) whole fit e)
 
   pub known-asked :
       addressed (theDetails s .kind) (theCommand s .source) (theCommand s .destination) ≡ true → (p : List ℕ) → Typed p s →
-      readObjects p s ≡ asked (theCommand s) (v .survey .ignored)
+      readObjects p s ≡ asked (theCommand s) (v .ignored)
   known-asked e p t =
-      read-asked p s t (flagged-is (z .begun) ∙ z .unflagged) whole fit e
-      ∙ ap (λ (x : Survey). asked (theCommand s) (x .ignored)) (sym (z .begun .sorted .survey))
+      read-asked p s t (sym (z .begun .sorted .flagged) ∙ z .unflagged) whole fit e
+      ∙ ap (asked (theCommand s)) (sym (z .begun .sorted .ignored))
 
   -- a needed object is there, with its value and its length
   module _ (n : ℕ) (e : member n (needed (plan .row)) ≡ true) where

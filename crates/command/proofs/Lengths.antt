@@ -2,8 +2,8 @@
 -- Assumes nothing.
 use Prim.Native.Nat.{ℕ, suc, _+_, _-_, _≤_}
 use mathlib.Core.Path.{_≡_, refl, sym, ap, _∙_}
-use mathlib.Core.Logic.{inl, inr, ⊎-elim}
-use mathlib.Core.Bool.{true, false}
+use mathlib.Core.Logic.{inl, inr}
+use mathlib.Core.Bool.{Bool, true, false}
 use mathlib.Core.List.{List, [], _∷_}
 use native.Mathlib.Omega.{arith}
 use types.Run.{OneOf}
@@ -15,6 +15,7 @@ use Rattle.rules.specs.Table.{bearerFits, lengthFits}
 use Rattle.rules.proofs.Laws.{stop, skip}
 use Rattle.octets.specs.Parts.{part}
 use Rattle.octets.proofs.Copies.{part-get, length-part}
+use Rattle.command.proofs.Keys.{arm}
 
 -- no bytes, or some
 pub empty : (l : List ℕ) → length l ≡ 0 → isEmpty l ≡ true
@@ -76,24 +77,24 @@ module _ (s : List ℕ) (start n : ℕ) (w : start + n ≤ length s) where
         ∙ skip _ _ _ (ne-eqb (getD v 0 0) 0x03 (λ e. o .1 (sym first ∙ e))))
 
   module _ (t : ℕ) where
-    at : (k : ℕ) → t ≡ k → lengthFits k v ≡ lengthFits t v
-    at k e = ap (λ (x : ℕ). lengthFits x v) (sym e)
+    abbrev fits : ℕ → Bool
+    fits k = lengthFits k v
 
     pub fits-three : OneOf (0x01 ∷ 0x3C ∷ []) t → eqb n 3 ≡ lengthFits t v
     unfolding lengthFits _⇒_else_
-    fits-three = ⊎-elim (λ e. size 3 ∙ at 0x01 e) (λ e. size 3 ∙ at 0x3C e)
+    fits-three = arm fits (eqb n 3) (0x01 ∷ 0x3C ∷ []) t (size 3, (size 3, tt))
 
     pub fits-two : OneOf (0x02 ∷ 0x04 ∷ 0x1E ∷ 0x39 ∷ []) t → eqb n 2 ≡ lengthFits t v
     unfolding lengthFits _⇒_else_
-    fits-two = ⊎-elim (λ e. size 2 ∙ at 0x02 e) (⊎-elim (λ e. size 2 ∙ at 0x04 e) (⊎-elim (λ e. size 2 ∙ at 0x1E e) (λ e. size 2 ∙ at 0x39 e)))
+    fits-two = arm fits (eqb n 2) (0x02 ∷ 0x04 ∷ 0x1E ∷ 0x39 ∷ []) t (size 2, (size 2, (size 2, (size 2, tt))))
 
     pub fits-one : t ≡ 0x37 → eqb n 1 ≡ lengthFits t v
     unfolding lengthFits _⇒_else_
-    fits-one e = size 1 ∙ at 0x37 e
+    fits-one = arm fits (eqb n 1) (0x37 ∷ []) t (size 1, tt)
 
     pub fits-bearer : t ≡ 0x35 → bearerFits v ≡ lengthFits t v
     unfolding lengthFits _⇒_else_
-    fits-bearer e = at 0x35 e
+    fits-bearer = arm fits (bearerFits v) (0x35 ∷ []) t (refl, tt)
 
     pub fits-any :
         (((Unit {0} × (OneOf (0x01 ∷ 0x3C ∷ []) t → ⊥)) × (OneOf (0x02 ∷ 0x04 ∷ 0x1E ∷ 0x39 ∷ []) t → ⊥)) × (t ≡ 0x37 → ⊥)) × (t ≡ 0x35 → ⊥) →

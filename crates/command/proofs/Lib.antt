@@ -1,14 +1,14 @@
-pub mod Keys
-pub mod Tables
-pub mod Lengths
-pub mod Sifting
-pub mod Counting
-pub mod Needed
-pub mod Sorting
-pub mod Framing
-pub mod Steps
-pub mod Known
-pub mod Settling
-pub mod Opening
-pub mod Alike
-pub mod Settled
+mod Keys
+mod Tables
+mod Lengths
+mod Sifting
+mod Counting
+mod Needed
+mod Sorting
+mod Framing
+mod Steps
+mod Known
+mod Settling
+mod Opening
+mod Alike
+mod Settled

@@ -24,7 +24,7 @@ use Rattle.command.specs.declared.Handler.the-variants.{MoreTime, EventL
 use Rattle.command.specs.declared.Plan.{Plan}
 use Rattle.command.specs.declared.Request.{Request}
 use Rattle.command.specs.declared.Sorted.{Sorted}
-use Rattle.command.specs.Plans.{handlerKind, ownNumber, needed, timesBy}
+use Rattle.command.specs.Plans.{handlerKind, ownNumber, needed, besidesBy, timesBy}
 use Rattle.command.specs.Requests.{theDetails, theObjects, theCommand, sizeOf, protocolIn, sizeBy, protocolBy, BodyIs, StandsAt, AskedFor, Typed, Fitted, addressedBy}
 use Rattle.command.proofs.Counting.{Alike, alike}
 use Rattle.command.proofs.Known.{known-misaddressed, known-asked, fit, needed-there, needed-value, needed-fits}
@@ -141,7 +141,7 @@ module _ {s : List ℕ} {d : Details} {plan : Plan} {v : Sorted} (z : Fitted s d
         sym (ap sizeOf open-body ∙ (λ i. 256 * high i + low i))
 
     transport-alike : Alike 0x3C counts all
-    unfolding timesBy member some-of
+    unfolding timesBy besidesBy member some-of
     transport-alike =
         let t = z .begun .planned .row .times-are 0x3C in
         let once : 1 ≤ timesBy (plan .row) 0x3C =
@@ -203,7 +203,7 @@ module _ {s : List ℕ} {d : Details} {plan : Plan} {v : Sorted} (z : Fitted s d
           details = d;
           handler = h;
           destination = record { 0 = getD s (v .devices + 1) 0 };
-          ignored = v .survey .ignored;
+          ignored = v .ignored;
           start = v .own;
           len = getD s (v .own - 1) 0;
           size = size;

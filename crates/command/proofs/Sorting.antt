@@ -21,7 +21,7 @@ use Rattle.objects.proofs.Walking.{here-end, here-fault, here-object, Ends, end
 use Rattle.command.specs.declared.Row.{Row}
 use Rattle.command.specs.declared.Sorted.{Sorted}
 use Rattle.command.specs.declared.Survey.{Survey}
-use Rattle.command.specs.Plans.{timesBy, needed, RowFor}
+use Rattle.command.specs.Plans.{needed, besidesBy, timesBy, RowFor}
 use Rattle.command.specs.Surveys.{surveyOf, noted, slots, slotOf, firstOf, allStand, sortedBy}
 use Rattle.command.specs.Requests.{theDetails, Headed, StandsAt, Sorts}
 use Rattle.command.proofs.Keys.{every-member}
@@ -158,12 +158,12 @@ sorting-none s =
         record { counted = refl; there = refl; value = refl; within = omega arith; last = λ q. absurd (true≢false q); place = p ∙ sym (stop _ _ _ refl) }
 
 -- a list of which one entry is another
-module _ (l : List ℕ) (k x : ℕ) (h : k < length l) where
-  set-there : (j : ℕ) → j ≡ k → x ≡ getD (set l k x) j 0
-  set-there j e = sym (ap (λ (i : ℕ). getD (set l k x) i 0) e ∙ getD-set-same l k x 0 h)
-
-  set-elsewhere : (j : ℕ) → (j ≡ k → ⊥) → getD l j 0 ≡ getD (set l k x) j 0
-  set-elsewhere j e = sym (getD-set-other l k j x 0 e)
+set-get : (l : List ℕ) (k x j : ℕ) → k < length l → getD (set l k x) j 0 ≡ (eqb j k ⇒ x else getD l j 0)
+set-get l k x j h = by (eqb j k) refl
+  where
+    by : (b : Bool) → eqb j k ≡ b → getD (set l k x) j 0 ≡ (eqb j k ⇒ x else getD l j 0)
+    by true e = ap (λ (i : ℕ). getD (set l k x) i 0) (eqb-true j k e) ∙ getD-set-same l k x 0 h ∙ sym (stop _ _ _ e)
+    by false e = getD-set-other l k j x 0 (eqb-false j k e) ∙ sym (skip _ _ _ e)
 
 module _
     {s counts starts : List ℕ} {v : Survey} {at : ℕ} (w : Sorting s counts starts v at)
@@ -180,46 +180,38 @@ module _
   abbrev t : ℕ
   t = times (rowOf (theDetails s)) number
 
-  room : (l : List ℕ) → length l ≡ slots → slot < length l
-  room l e = let b = slot-within number in omega arith
-
   few-more : (k : ℕ) → k < slots → 2 * getD (set counts slot (seen + 1)) k 0 ≤ next
-  few-more k h = by (eqb k slot) refl
+  few-more k h =
+      let f = w .few slot (slot-within number) in
+      let g = w .few k h in
+      subst (λ (m : ℕ). 2 * m ≤ next) (sym (set-get counts slot (seen + 1) k (omega (arith, slot-within number, w .counts-long))))
+      (branch (λ (m : ℕ). 2 * m ≤ next) _ _ _ (λ _. omega (arith, st .behind, st .ends)) (λ _. omega (arith, st .behind, st .ends)))
+
+  -- what stands in the slot of a number, once this number's is another
+  slot-get : (l : List ℕ) (y k : ℕ) → length l ≡ slots → has-slot k ≡ true → (eqb k number ⇒ y else getD l (slotOf k) 0) ≡ getD (set l slot y) (slotOf k) 0
+  slot-get l y k e h = sym (set-get l slot y (slotOf k) (omega (arith, slot-within number)) ∙ ap (λ (b : Bool). b ⇒ y else getD l (slotOf k) 0) (by (eqb k number) refl))
     where
-      by : (b : Bool) → eqb k slot ≡ b → 2 * getD (set counts slot (seen + 1)) k 0 ≤ next
-      by true e =
-          let c = set-there counts slot (seen + 1) (room counts (w .counts-long)) k (eqb-true k slot e) in
-          let f = w .few slot (slot-within number) in
-          omega (arith, st .behind, st .ends)
-      by false e =
-          let c = set-elsewhere counts slot (seen + 1) (room counts (w .counts-long)) k (eqb-false k slot e) in
-          let f = w .few k h in
-          omega (arith, st .behind, st .ends)
+      by : (b : Bool) → eqb k number ≡ b → eqb (slotOf k) slot ≡ eqb k number
+      by true q = eq-eqb (slotOf k) slot (ap slotOf (eqb-true k number q)) ∙ sym q
+      by false q = ne-eqb (slotOf k) slot (λ p. eqb-false k number q (slot-one k number h p)) ∙ sym q
 
   met-more :
-      (f a : ℕ) → ((k : ℕ) → has-slot k ≡ true → Met s (w .before) at (suc f) k (getD counts (slotOf k) 0) (getD starts (slotOf k) 0)) →
-      a ≡ firstOf seen (getD starts slot 0) start → (k : ℕ) → has-slot k ≡ true →
+      (f a : ℕ) → a ≡ firstOf seen (getD starts slot 0) start → (k : ℕ) → has-slot k ≡ true →
+      Met s (w .before) at (suc f) k (getD counts (slotOf k) 0) (getD starts (slotOf k) 0) →
       Met s (w .before ++ (x ∷ [])) next f k (getD (set counts slot (seen + 1)) (slotOf k) 0) (getD (set starts slot a) (slotOf k) 0)
-  met-more f a was ea k h = by (eqb k number) refl
+  unfolding _⇒_else_
+  met-more f a ea k h was =
+      subst (λ (j : ℕ). Met s (w .before ++ (x ∷ [])) next f k j (getD (set starts slot a) (slotOf k) 0)) (slot-get counts (seen + 1) k (w .counts-long) h)
+      (subst (λ (j : ℕ). Met s (w .before ++ (x ∷ [])) next f k (eqb k number ⇒ seen + 1 else getD counts (slotOf k) 0) j)
+      (slot-get starts a k (w .starts-long) h) (by (eqb k number) refl))
     where
-      M : ℕ → ℕ → Type 0
-      M c d = Met s (w .before ++ (x ∷ [])) next f k c d
-
-      by : (c : Bool) → eqb k number ≡ c → M (getD (set counts slot (seen + 1)) (slotOf k) 0) (getD (set starts slot a) (slotOf k) 0)
+      by : (b : Bool) → eqb k number ≡ b →
+          Met s (w .before ++ (x ∷ [])) next f k (b ⇒ seen + 1 else getD counts (slotOf k) 0) (b ⇒ a else getD starts (slotOf k) 0)
       by true e =
           let q = eqb-true k number e in
-          let p = ap slotOf q in
-          let there = set-there counts slot (seen + 1) (room counts (w .counts-long)) (slotOf k) p in
-          let first = sym ea ∙ set-there starts slot a (room starts (w .starts-long)) (slotOf k) p in
-          subst (λ (j : ℕ). M j (getD (set starts slot a) (slotOf k) 0)) there
-          (subst (λ (j : ℕ). M (seen + 1) j) first
-          (met-same (subst (λ (j : ℕ). Met s (w .before) at (suc f) k (getD counts j 0) (getD starts j 0)) p (was k h)) st q))
-      by false e =
-          let q = eqb-false k number e in
-          let p : slotOf k ≡ slot → ⊥ = λ z. q (slot-one k number h z) in
-          let there = set-elsewhere counts slot (seen + 1) (room counts (w .counts-long)) (slotOf k) p in
-          let first = set-elsewhere starts slot a (room starts (w .starts-long)) (slotOf k) p in
-          subst (λ (j : ℕ). M j (getD (set starts slot a) (slotOf k) 0)) there (subst (λ (j : ℕ). M (getD counts (slotOf k) 0) j) first (met-other (was k h) st q))
+          subst (λ (j : ℕ). Met s (w .before ++ (x ∷ [])) next f k (seen + 1) j) (sym ea)
+          (met-same (subst (λ (j : ℕ). Met s (w .before) at (suc f) k (getD counts j 0) (getD starts j 0)) (ap slotOf q) was) st q)
+      by false e = met-other was st (eqb-false k number e)
 
   counted : ltb seen (timesBy row number) ≡ ltb (occurrences number (numbers (w .before))) t
   counted = ap (λ (k : ℕ). ltb seen k) (r .times-are number) ∙ by (has-slot number) refl
@@ -247,7 +239,7 @@ module _
         counts-long = length-set counts slot (seen + 1) ∙ w .counts-long;
         starts-long = length-set starts slot a ∙ w .starts-long;
         few = few-more;
-        met = met-more f a (λ k h. subst (λ (j : ℕ). Met s (w .before) at j k (getD counts (slotOf k) 0) (getD starts (slotOf k) 0)) e (w .met k h)) ea;
+        met = λ k h. met-more f a ea k h (subst (λ (j : ℕ). Met s (w .before) at j k (getD counts (slotOf k) 0) (getD starts (slotOf k) 0)) e (w .met k h));
         survey =
             eu ∙ (λ i. noted (w .survey i) (counted i) (lengthFits number (x .value)) flag)
             ∙ survey-more (sift rs [] (w .before)) (ltb (occurrences number (numbers (w .before))) t) x ∙ ap surveyOf (sym (sift-more rs (w .before) x));
@@ -270,7 +262,7 @@ module _ {s : List ℕ} {first : ℕ} (g : Headed s first) {row : Row} (r : RowF
   three = sym (eq-eqb (length (part first (first + 3) s)) 3 (part-size s first 3 (omega (arith, g .stands .within))))
 
   pub sorting-start : Sorting s (set zeros 1 1) (set zeros 1 first) blank (first + 3)
-  unfolding slotOf firstOf timesBy member some-of noted _⇒_else_
+  unfolding slotOf firstOf timesBy besidesBy member some-of noted _⇒_else_
   sorting-start = sorting-on (sorting-none s) (g .stands) r 1 first (timesBy row 0x01) true blank refl refl refl three refl
 
 -- what stands no object is a fault
@@ -296,7 +288,9 @@ pub gathered :
     c ≡ slotOf (row .further) → e ≡ slotOf 0x3C → complete ≡ allStand (getD starts a 0) (getD starts b 0) (getD starts c 0) →
     _≡_ {A = Sorted}
     (record {
-      survey = survey;
+      flagged = survey .flagged;
+      ignored = survey .ignored;
+      misfit = survey .misfit;
       whole = whole;
       complete = complete;
       devices = getD starts a 0;
@@ -308,7 +302,9 @@ pub gathered :
 gathered starts row survey whole complete a b c e qa qb qc qe q =
     λ i.
     record {
-      survey = survey;
+      flagged = survey .flagged;
+      ignored = survey .ignored;
+      misfit = survey .misfit;
       whole = whole;
       complete = (q ∙ (λ j. allStand (getD starts (qa j) 0) (getD starts (qb j) 0) (getD starts (qc j) 0))) i;
       devices = getD starts (qa i) 0;
@@ -346,8 +342,11 @@ module _
     sorts whole e =
         let own = needs-slot (row .own) (own-needed (row .own) (row .further)) in
         let further = needs-slot (row .further) (further-needed (row .own) (row .further)) in
+        let survey = w .survey ∙ ap (λ (l : List Object). surveyOf (sift (rowOf (theDetails s)) [] l)) all in
         record {
-          survey = w .survey ∙ ap (λ (l : List Object). surveyOf (sift (rowOf (theDetails s)) [] l)) all;
+          flagged = ap (λ (y : Survey). y .flagged) survey;
+          ignored = ap (λ (y : Survey). y .ignored) survey;
+          misfit = ap (λ (y : Survey). y .misfit) survey;
           whole = e;
           complete = complete-is s r (first-there g) (stands 0x02 refl) (stands (row .own) own) (stands (row .further) further);
           devices = stands 0x02 refl;

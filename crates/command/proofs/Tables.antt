@@ -1,14 +1,14 @@
 -- The slots of the object numbers, the rows, and the plans of the types.
 -- Assumes nothing.
-use Prim.Native.Nat.{ℕ, zero, suc, _+_, _-_, _≤_, _<_}
-use mathlib.Core.Path.{_≡_, refl, sym, ap, subst, _∙_}
+use Prim.Native.Nat.{ℕ, _-_, _≤_, _<_}
+use mathlib.Core.Path.{_≡_, refl, sym, ap, _∙_}
 use mathlib.Core.Bool.{Bool, true, false, not, _&&_, _||_, true≢false}
 use mathlib.Core.List.{List, [], _∷_, map}
 use native.Mathlib.Omega.{arith}
 use types.Run.{OneOf}
 use lib.ListN.{getD}
 use lib.Dec.{ltb, leb, eqb}
-use borrow.Author.Tests.{ltb-true, leb-true, le-leb, lt-leb, eqb-true, eq-eqb, ne-eqb, not-true}
+use borrow.Author.Tests.{ltb-true, leb-true, le-leb, lt-leb, eqb-true, eq-eqb, ne-eqb}
 use Rattle.rules.specs.declared.Details.{Details}
 use Rattle.rules.specs.Checks.{_⇒_else_, every, some-of, member}
 use Rattle.rules.specs.Profile.{profileSize, bit, allowsType}
@@ -19,9 +19,9 @@ use Rattle.rules.proofs.Laws.{branch, stop, skip, both-left, both-right, or-rig
 use Rattle.profile.specs.declared.Place.{Place}
 use Rattle.command.specs.declared.Plan.{Plan}
 use Rattle.command.specs.declared.Row.{Row}
-use Rattle.command.specs.Plans.{handlerKind, ownNumber, needed, timesBy, PlaceFor, PlanOf}
+use Rattle.command.specs.Plans.{handlerKind, ownNumber, needed, besidesBy, timesBy, PlaceFor, PlanOf}
 use Rattle.command.specs.Surveys.{slots, slotOf}
-use Rattle.command.proofs.Keys.{in-keys, out-keys, Outside, outside, every-member, no-member, all-true}
+use Rattle.command.proofs.Keys.{arm, out-keys, run, in-run, Outside, outside, every-member, no-member, all-true}
 
 -- the slot of a number that a row may have is its own
 abbrev pub has-slot : ℕ → Bool
@@ -109,7 +109,7 @@ module _ (row : Row) (r : rules.Row) where
   among n = member n (needed row) || member n others
 
   times-by-out : (n : ℕ) → member n (needed row) ≡ false → member n others ≡ false → timesBy row n ≡ 0
-  unfolding timesBy every member some-of
+  unfolding timesBy besidesBy every member some-of
   times-by-out n h k =
       let out : (ks : List ℕ) → every (λ j. member j others) ks ≡ true → member n ks ≡ false = λ ks e. no-member (λ j. member j others) n ks e k in
       skip _ _ _ h ∙ skip _ _ _ (out (0x05 ∷ 0x1E ∷ []) refl) ∙ skip _ _ _ (out (0x3C ∷ 0x47 ∷ []) refl)
@@ -123,44 +123,36 @@ module _ (row : Row) (r : rules.Row) where
       by false true h k = eqb-true (timesBy row n) (times r n) (every-member agrees n others f k)
       by false false h k = times-by-out n h k ∙ sym (times-out among r n u (λ i. h i || k i))
 
--- the counts of a number that is not required, by the line that has it
-apart : (ks js : List ℕ) (n : ℕ) → OneOf ks n → every (λ k. not (member k js)) ks ≡ true → member n js ≡ false
-apart ks js n o e = not-true (member n js) (every-member (λ k. not (member k js)) n ks e (in-keys ks n o))
-
+-- the counts of a number, as the code comes to them
 module _ (row : Row) (n : ℕ) {b : Bool} (q : b ≡ member n (needed row)) where
   pub times-required : b ≡ true → 1 ≡ timesBy row n
   unfolding timesBy
   times-required e = sym (stop _ _ _ (sym q ∙ e))
 
-  module _ (e : b ≡ false) where
-    beside : member n (needed row) ≡ false
-    beside = sym q ∙ e
+  pub times-besides : {k : ℕ} → b ≡ false → k ≡ besidesBy row n → k ≡ timesBy row n
+  unfolding timesBy
+  times-besides e f = f ∙ sym (skip _ _ _ (sym q ∙ e))
 
-    pub times-named : OneOf (0x05 ∷ 0x1E ∷ []) n → (row .named ⇒ 1 else 0) ≡ timesBy row n
-    unfolding timesBy
-    times-named o = sym (skip _ _ _ beside ∙ stop _ _ _ (in-keys (0x05 ∷ 0x1E ∷ []) n o))
+module _ (row : Row) (n : ℕ) where
+  pub besides-named : OneOf (0x05 ∷ 0x1E ∷ []) n → (row .named ⇒ 1 else 0) ≡ besidesBy row n
+  unfolding besidesBy member some-of _⇒_else_
+  besides-named = arm (besidesBy row) _ (0x05 ∷ 0x1E ∷ []) n (refl, (refl, tt))
 
-    pub times-once : OneOf (0x3C ∷ 0x47 ∷ []) n → (row .opening ⇒ 1 else 0) ≡ timesBy row n
-    unfolding timesBy every member some-of
-    times-once o =
-        let ks : List ℕ = 0x3C ∷ 0x47 ∷ [] in
-        sym (skip _ _ _ beside ∙ skip _ _ _ (apart ks (0x05 ∷ 0x1E ∷ []) n o refl) ∙ stop _ _ _ (in-keys ks n o))
+  pub besides-once : OneOf (0x3C ∷ 0x47 ∷ []) n → (row .opening ⇒ 1 else 0) ≡ besidesBy row n
+  unfolding besidesBy member some-of _⇒_else_
+  besides-once = arm (besidesBy row) _ (0x3C ∷ 0x47 ∷ []) n (refl, (refl, tt))
 
-    pub times-twice : OneOf (0x04 ∷ 0x0D ∷ 0x3E ∷ []) n → (row .opening ⇒ 2 else 0) ≡ timesBy row n
-    unfolding timesBy every member some-of
-    times-twice o =
-        let ks : List ℕ = 0x04 ∷ 0x0D ∷ 0x3E ∷ [] in
-        sym
-        (skip _ _ _ beside ∙ skip _ _ _ (apart ks (0x05 ∷ 0x1E ∷ []) n o refl) ∙ skip _ _ _ (apart ks (0x3C ∷ 0x47 ∷ []) n o refl)
-        ∙ stop _ _ _ (in-keys ks n o))
+  pub besides-twice : OneOf (0x04 ∷ 0x0D ∷ 0x3E ∷ []) n → (row .opening ⇒ 2 else 0) ≡ besidesBy row n
+  unfolding besidesBy member some-of _⇒_else_
+  besides-twice = arm (besidesBy row) _ (0x04 ∷ 0x0D ∷ 0x3E ∷ []) n (refl, (refl, (refl, tt)))
 
-    pub times-other :
-        ((Unit {0} × (OneOf (0x05 ∷ 0x1E ∷ []) n → ⊥)) × (OneOf (0x3C ∷ 0x47 ∷ []) n → ⊥)) × (OneOf (0x04 ∷ 0x0D ∷ 0x3E ∷ []) n → ⊥) → 0 ≡ timesBy row n
-    unfolding timesBy
-    times-other w =
-        sym
-        (skip _ _ _ beside ∙ skip _ _ _ (out-keys (0x05 ∷ 0x1E ∷ []) n (w .0 .0 .1)) ∙ skip _ _ _ (out-keys (0x3C ∷ 0x47 ∷ []) n (w .0 .1))
-        ∙ skip _ _ _ (out-keys (0x04 ∷ 0x0D ∷ 0x3E ∷ []) n (w .1)))
+  pub besides-none :
+      ((Unit {0} × (OneOf (0x05 ∷ 0x1E ∷ []) n → ⊥)) × (OneOf (0x3C ∷ 0x47 ∷ []) n → ⊥)) × (OneOf (0x04 ∷ 0x0D ∷ 0x3E ∷ []) n → ⊥) → 0 ≡ besidesBy row n
+  unfolding besidesBy
+  besides-none w =
+      sym
+      (skip _ _ _ (out-keys (0x05 ∷ 0x1E ∷ []) n (w .0 .0 .1)) ∙ skip _ _ _ (out-keys (0x3C ∷ 0x47 ∷ []) n (w .0 .1))
+      ∙ skip _ _ _ (out-keys (0x04 ∷ 0x0D ∷ 0x3E ∷ []) n (w .1)))
 
 -- two tests that come out the same
 abbrev same : Bool → Bool → Bool
@@ -223,20 +215,15 @@ plan-right p d k q place e =
 pub place-at :
     (p : Place) (d : Details) (t : ℕ) → d .kind ≡ t →
     ((q : List ℕ) → bit q (p .byte) (p .bit) ≡ allowsType q (record { number = d .number; kind = t; qualifier = d .qualifier })) →
-    leb 1 (p .byte) && (leb (p .byte) profileSize && (leb 1 (p .bit) && leb (p .bit) 8)) ≡ true → PlaceFor p d
-place-at p d t e is w =
-    let a = leb 1 (p .byte) in
-    let b = leb (p .byte) profileSize in
-    let c = leb 1 (p .bit) in
-    let f = leb (p .bit) 8 in
-    let x = both-right a (b && (c && f)) w in
-    let y = both-right b (c && f) x in
+    let low = leb 1 (p .byte) ∷ leb (p .byte) profileSize ∷ leb 1 (p .bit) ∷ leb (p .bit) 8 ∷ [] in every (λ (b : Bool). b) low ≡ true → PlaceFor p d
+place-at p d t e is tried =
+    let w = all-true (leb 1 (p .byte) ∷ leb (p .byte) profileSize ∷ leb 1 (p .bit) ∷ leb (p .bit) 8 ∷ []) tried in
     record {
       is = λ q. is q ∙ sym (λ i. allowsType q (record { number = d .number; kind = e i; qualifier = d .qualifier }));
-      byte-low = leb-true 1 (p .byte) (both-left a (b && (c && f)) w);
-      byte-high = leb-true (p .byte) profileSize (both-left b (c && f) x);
-      bit-low = leb-true 1 (p .bit) (both-left c f y);
-      bit-high = leb-true (p .bit) 8 (both-right c f y);
+      byte-low = leb-true 1 (p .byte) (w .0);
+      byte-high = leb-true (p .byte) profileSize (w .1 .0);
+      bit-low = leb-true 1 (p .bit) (w .1 .1 .0);
+      bit-high = leb-true (p .bit) 8 (w .1 .1 .1 .0);
     }
 
 -- the places of 40 to 44: byte 12, and the type less 3F
@@ -254,21 +241,6 @@ channel-place p d low high b k =
       bit-high = omega arith;
     }
 
--- a type from 40 to 44 is one of five
-pub five : (P : ℕ → Type 0) → P 0x40 → P 0x41 → P 0x42 → P 0x43 → P 0x44 → (t : ℕ) → 0x40 ≤ t → t ≤ 0x44 → P t
-five P a b c d e t low high = subst P same-type (by (t - 0x40) (omega arith))
-  where
-    same-type : 0x40 + (t - 0x40) ≡ t
-    same-type = omega arith
-
-    by : (k : ℕ) → k ≤ 4 → P (0x40 + k)
-    by zero h = a
-    by (suc zero) h = b
-    by (suc (suc zero)) h = c
-    by (suc (suc (suc zero))) h = d
-    by (suc (suc (suc (suc zero)))) h = e
-    by (suc (suc (suc (suc (suc k))))) h = absurd (omega arith)
-
 -- the table of places
 abbrev places : List Place
 places =
@@ -279,12 +251,17 @@ places =
     record { byte = 12; bit = 5 } ∷
     []
 
--- its rule: byte 12, and the type less 3F
-abbrev Ruled : ℕ → Type 0
-Ruled t = (getD places (t - 0x40) (record { byte = 0; bit = 0 }) .byte ≡ 12) × (getD places (t - 0x40) (record { byte = 0; bit = 0 }) .bit ≡ t - 0x3F)
+abbrev place-of : ℕ → Place
+place-of t = getD places (t - 0x40) (record { byte = 0; bit = 0 })
 
-pub places-rule : (t : ℕ) → 0x40 ≤ t → t ≤ 0x44 → Ruled t
-places-rule = five Ruled (refl, refl) (refl, refl) (refl, refl) (refl, refl) (refl, refl)
+-- its rule: byte 12, and the type less 3F
+pub places-rule : (t : ℕ) → 0x40 ≤ t → t ≤ 0x44 → (place-of t .byte ≡ 12) × (place-of t .bit ≡ t - 0x3F)
+unfolding every
+places-rule t low high =
+    let byte = eqb (place-of t .byte) 12 in
+    let bit = eqb (place-of t .bit) (t - 0x3F) in
+    let w = every-member (λ k. eqb (place-of k .byte) 12 && eqb (place-of k .bit) (k - 0x3F)) t (run 0x40 5) refl (in-run t 0x40 5 low (omega arith)) in
+    (eqb-true _ _ (both-left byte bit w), eqb-true _ _ (both-right byte bit w))
 
 -- the types that have a plan: two, and the range
 abbrev planned : ℕ → Bool

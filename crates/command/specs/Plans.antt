@@ -41,14 +41,16 @@ ownNumber Status = 0x02
 abbrev pub needed : Row → List ℕ
 needed row = 0x01 ∷ 0x02 ∷ row .own ∷ row .further ∷ []
 
--- how often an object of a number may stand by a row: those required, those with a name, and those of OPEN CHANNEL
-unfoldable pub timesBy : Row → ℕ → ℕ
-timesBy row n =
-    member n (needed row) ⇒ 1 else
+-- how often an object of a number may stand by a row: once where it is required, else as those with a name and those of OPEN CHANNEL
+unfoldable pub besidesBy : Row → ℕ → ℕ
+besidesBy row n =
     member n (0x05 ∷ 0x1E ∷ []) ⇒ (row .named ⇒ 1 else 0) else
     member n (0x3C ∷ 0x47 ∷ []) ⇒ (row .opening ⇒ 1 else 0) else
     member n (0x04 ∷ 0x0D ∷ 0x3E ∷ []) ⇒ (row .opening ⇒ 2 else 0) else
     0
+
+unfoldable pub timesBy : Row → ℕ → ℕ
+timesBy row n = member n (needed row) ⇒ 1 else besidesBy row n
 
 -- the row is that of the rules: the same objects may stand, as often, and the same are required
 pub record RowFor (row : Row) (d : Details) : Type 0 where

@@ -139,7 +139,9 @@ pub record StandsAt (at : ℕ) (s : List ℕ) (number : ℕ) : Type 0 where
 
 -- the objects are sorted: surveyed, walked to the end or to a fault, and those that a row looks for found
 pub record Sorts (v : Sorted) (s : List ℕ) (row : Row) : Type 0 where
-  pub survey : v .survey ≡ surveyOf (theObjects s)
+  pub flagged : v .flagged ≡ surveyOf (theObjects s) .flagged
+  pub ignored : v .ignored ≡ surveyOf (theObjects s) .ignored
+  pub misfit : v .misfit ≡ surveyOf (theObjects s) .misfit
   pub whole : v .whole ≡ not (isFault (walk s .ending))
   pub complete : v .complete ≡ complete (rowOf (theDetails s)) (theObjects s .counting)
   pub devices : StandsAt (v .devices) s 0x02
@@ -157,9 +159,9 @@ pub record Begun (s : List ℕ) (d : Details) (plan : Plan) (v : Sorted) : Type 
 -- steps 6 and 7 are passed too
 pub record Fitted (s : List ℕ) (d : Details) (plan : Plan) (v : Sorted) : Type 0 where
   pub begun : Begun s d plan v
-  pub unflagged : v .survey .flagged ≡ false
+  pub unflagged : v .flagged ≡ false
   pub complete : v .complete ≡ true
-  pub fit : v .survey .misfit ≡ false
+  pub fit : v .misfit ≡ false
 
 -- the size at a place, and the protocol at one, of an OPEN CHANNEL; 0 and TCP of another type
 unfoldable pub sizeBy : List ℕ → Bool → ℕ → ℕ

@@ -52,7 +52,9 @@ sortedBy starts row survey whole =
     let own = getD starts (slotOf (row .own)) 0 in
     let further = getD starts (slotOf (row .further)) 0 in
     record {
-      survey = survey;
+      flagged = survey .flagged;
+      ignored = survey .ignored;
+      misfit = survey .misfit;
       whole = whole;
       complete = allStand devices own further;
       devices = devices;

@@ -328,9 +328,11 @@ fn first_of(seen: u8, there: u16, now: u16) -> u16
     there
 }
 
-// What a walk over a command's objects found: the survey, whether it came to the end, whether every required object is there, and where the values of 02, of the type's own object, of its further one and of 3C start, 0 where none stands.
+// What a walk over a command's objects found: what their survey did, whether it came to the end, whether every required object is there, and where the values of 02, of the type's own object, of its further one and of 3C start, 0 where none stands.
 struct Sorted {
-    survey: Survey,
+    flagged: bool,
+    ignored: bool,
+    misfit: bool,
     whole: bool,
     complete: bool,
     devices: u16,
@@ -364,7 +366,9 @@ fn gather(starts: &[u16; 72], row: Row, survey: Survey, whole: bool) -> Sorted
     let own = starts[slot(row.own)];
     let further = starts[slot(row.further)];
     Sorted {
-        survey,
+        flagged: survey.flagged,
+        ignored: survey.ignored,
+        misfit: survey.misfit,
         whole,
         complete: all_stand(devices, own, further),
         devices,
@@ -510,7 +514,6 @@ fn settle(s: &[u8], d: Details, plan: Plan, v: Sorted) -> Read
     }
     let handler = plan.handler;
     let row = plan.row;
-    let survey = v.survey;
     let start = v.own as usize;
     // The last byte of a length, which stands before the value, is how long it is.
     let len = s[start - 1];
@@ -518,7 +521,7 @@ fn settle(s: &[u8], d: Details, plan: Plan, v: Sorted) -> Read
         details: d,
         handler,
         destination: DeviceIdentity(to),
-        ignored: survey.ignored,
+        ignored: v.ignored,
         start,
         len: len as usize,
         size: size_at(s, row.opening, v.further as usize),
@@ -531,14 +534,13 @@ fn read_known(s: &[u8], d: Details, plan: Plan, v: Sorted) -> Read
     requires { ⌜ Begun (now s) d plan v ⌝ }
     ensures { λ r. ⌜ ((p : List ℕ) → Typed p (now (s .entry)) → Reads r p (now (s .entry))) ⌝ }
 {
-    let survey = v.survey;
-    if survey.flagged {
+    if v.flagged {
         return Read::Wrong(d, 0x32);
     }
     if !v.complete {
         return Read::Wrong(d, 0x36);
     }
-    if survey.misfit {
+    if v.misfit {
         return Read::Wrong(d, 0x32);
     }
     settle(s, d, plan, v)

@@ -5,7 +5,7 @@ use borrow.Author.Needs.{needs}
 use Rattle.rules.specs.Checks.{_⇒_else_, every, some-of, member}
 use Rattle.rules.specs.Table.{table, rowAmong, times, known}
 use Rattle.rules.specs.Reading.{toModem}
-use Rattle.command.specs.Plans.{timesBy, PlaceFor}
+use Rattle.command.specs.Plans.{besidesBy, timesBy, PlaceFor}
 use Rattle.command.proofs.Keys.{behind}
 use Rattle.command.proofs.Tables.{rightly, plan-right, channel-place}
 use Rattle.command.proofs.channel_plan.Statement.{statement}
@@ -19,7 +19,7 @@ last : (c : tie.At-match-rest) → c .before .before .args .d .kind ≡ 0x44
 last c = behind _ 0x40 4 (c .before .before .pre .0) (c .before .before .pre .1) (c .match .rest)
 
 pub channel-plan-spec : {M : Type 1} → statement M
-unfolding rightly known table rowAmong times timesBy every member some-of toModem _⇒_else_
+unfolding rightly known table rowAmong times timesBy besidesBy every member some-of toModem _⇒_else_
 channel-plan-spec =
     tie.close
     (tie.spec

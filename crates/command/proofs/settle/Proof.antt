@@ -13,12 +13,6 @@ misaddressed c = let s : tie.Start = search in settle-wrong (s .pre) (c .before 
 length-place : tie.Need-shared-slice-read-len
 length-place c = let s : tie.Start = search in omega (arith, own-behind (s .pre), own-within (s .pre))
 
-length-byte : tie.Need-cast-t15
-length-byte c =
-    let s : tie.Start = search in
-    let k : tie.After-shared-slice-known4 = search in
-    omega (arith, k .shared-slice-known4 .given (s .args .v .own - 1))
-
 settled : tie.Need-returns-2
 settled c =
     let p : tie.After-protocol-at = search in
@@ -41,7 +35,7 @@ settle-spec =
     (λ c. search needs)
     (λ c. let s : tie.Start = search in own-behind (s .pre))
     length-place
-    length-byte
+    (λ c. let s : tie.Start = search in omega (arith, c .shared-slice-known4 .given (s .args .v .own - 1)))
     (λ c. search needs)
     (λ c κs. let s : tie.Start = search in size-within (s .pre))
     (λ c. search needs)

@@ -2,7 +2,7 @@
 -- Assumes nothing.
 use mathlib.Core.Path.{_∙_}
 use borrow.Author.Needs.{needs}
-use Rattle.command.proofs.Tables.{times-required, times-named, times-once, times-twice, times-other}
+use Rattle.command.proofs.Tables.{times-required, times-besides, besides-named, besides-once, besides-twice, besides-none}
 use Rattle.command.proofs.times.Statement.{statement}
 use Rattle.command.proofs.times.Tie as tie
 
@@ -15,7 +15,7 @@ times-spec =
     (λ c κs. search needs)
     (λ c κs. search needs)
     (λ c κs. search needs)
-    (λ c. let r : tie.After-required = search in let e : tie.Else1 = search in c .where-allowed .ensures ∙ times-named _ _ (r .required .ensures) (e .if1 .left) (c .before .match .keys1))
-    (λ c. let r : tie.After-required = search in let e : tie.Else1 = search in c .where-allowed2 .ensures ∙ times-once _ _ (r .required .ensures) (e .if1 .left) (c .before .match .keys2))
-    (λ c. let r : tie.After-required = search in let e : tie.Else1 = search in c .where-allowed3 .ensures ∙ times-twice _ _ (r .required .ensures) (e .if1 .left) (c .before .match .keys3))
-    (λ c. let r : tie.After-required = search in let e : tie.Else1 = search in times-other _ _ (r .required .ensures) (e .if1 .left) (c .match .rest)))
+    (λ c. let e : tie.Else1 = search in times-besides _ _ (e .before .required .ensures) (e .if1 .left) (c .where-allowed .ensures ∙ besides-named _ _ (c .before .match .keys1)))
+    (λ c. let e : tie.Else1 = search in times-besides _ _ (e .before .required .ensures) (e .if1 .left) (c .where-allowed2 .ensures ∙ besides-once _ _ (c .before .match .keys2)))
+    (λ c. let e : tie.Else1 = search in times-besides _ _ (e .before .required .ensures) (e .if1 .left) (c .where-allowed3 .ensures ∙ besides-twice _ _ (c .before .match .keys3)))
+    (λ c. let e : tie.Else1 = search in times-besides _ _ (e .before .required .ensures) (e .if1 .left) (besides-none _ _ (c .match .rest))))
