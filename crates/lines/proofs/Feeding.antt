@@ -6,7 +6,7 @@ use mathlib.Core.Bool.{Bool, true, false}
 use mathlib.Core.List.{List, [], _∷_, _++_, append-nil}
 use mathlib.Core.Option.{Option, none, some}
 use native.Mathlib.Omega.{arith}
-use lib.ListN.{length, take, drop, replicate, length-append, length-take}
+use lib.ListN.{length, take, drop, replicate, length-take}
 use lib.Seq.{take-all, take-nil, take-take, append-snoc, length-take-le}
 use lib.Dec.{leb, eqb}
 use borrow.Author.Tests.{leb-true, leb-false, lt-ltb}
@@ -25,12 +25,12 @@ use Rattle.session.proofs.Starts.{empty-pool}
 use Rattle.session.proofs.Views.{shows-good, shows-back}
 use Rattle.text.specs.Sizes.{digitCap, keptCap}
 use Rattle.text.specs.declared.Gathered.{Gathered}
-use Rattle.text.specs.Gathers.{beforeFeed, fitting, Gathers}
+use Rattle.text.specs.Gathers.{beforeFeed, piece, fitting, Gathers}
 use Rattle.text.proofs.Stores.{paste-none}
 use Rattle.lines.specs.declared.Running.{Running}
 use Rattle.lines.specs.declared.Progress.{Progress}
 use Rattle.lines.specs.Says.{Says}
-use Rattle.lines.specs.Holds.{Ready, readerIn, cut, piece, lastPiece, Goes, Keeps}
+use Rattle.lines.specs.Holds.{Ready, readerIn, cut, lastPiece, Goes, Keeps}
 
 -- of a line that is too long, what is kept tells it
 frame-kept : (l : List ℕ) → frameOf (take keptCap l) ≡ frameOf l
@@ -121,14 +121,6 @@ take-both (suc n) (c ∷ s) t =
     ap (λ (l : List ℕ). c ∷ l) (take-both n s t)
     ∙ ap (λ (k : ℕ). c ∷ (take n s ++ take k t)) (let e : n - length s ≡ suc n - length (c ∷ s) = omega arith in e)
 
-piece-size : (s : List ℕ) → length (piece s) ≡ length (beforeFeed s) + (member 10 s ⇒ 1 else 0)
-unfolding piece _⇒_else_
-piece-size s = length-append (beforeFeed s) _ ∙ ap (λ (k : ℕ). length (beforeFeed s) + k) (by (member 10 s))
-  where
-    by : (b : Bool) → length {A = ℕ} (b ⇒ 10 ∷ [] else []) ≡ (b ⇒ 1 else 0)
-    by true = refl
-    by false = refl
-
 -- the code keeps all of the reader that it holds
 pub held-size : (c : Running) (t p line : List ℕ) → Ready c t p line → length (take (c .len) line) ≡ c .len
 held-size c t p line y = length-take-le (c .len) line (omega (arith, y .size, y .kept))
@@ -160,11 +152,7 @@ module _ (c : Running) (t p line chunk : List ℕ) (from : ℕ) (g : Gathered) (
   len-fits = let e = len-few in omega (arith, line-size)
 
   keeps : (d : Progress) → d .next ≡ g .next → Keeps d (c .len) chunk from line line′
-  keeps d e =
-      record {
-        kept = h .kept;
-        next = e ∙ h .next ∙ ap (λ (b : Bool). from + (length (beforeFeed s) + (b ⇒ 1 else 0))) (h .whole) ∙ ap (λ (k : ℕ). from + k) (sym (piece-size s));
-      }
+  keeps d e = record { kept = h .kept; next = e ∙ h .next }
 
   kept-line : take (g .len) line′ ≡ take keptCap (x .pending ++ beforeFeed s)
   unfolding fitting

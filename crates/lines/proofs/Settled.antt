@@ -1,15 +1,14 @@
 -- Each public contract of the lines settles its outcome.
 -- Assumes nothing.
 use Prim.Native.Nat.{ℕ}
-use mathlib.Core.Path.{_≡_, refl, sym, ap, _∙_}
+use mathlib.Core.Path.{_≡_, sym, ap, _∙_}
 use mathlib.Core.List.{List}
 use lib.ListN.{length}
 use Rattle.rules.specs.Input.{Reader, Fed}
-use Rattle.session.specs.Picture.{GoodIn, shown, ledgerOf, poolOf}
+use Rattle.session.specs.Picture.{shown, ledgerOf, poolOf}
 use Rattle.outcomes.specs.Determined.{Determined}
-use Rattle.lines.specs.declared.Running.{Running}
 use Rattle.lines.specs.declared.Progress.{Progress}
-use Rattle.lines.specs.Holds.{Ready, readerIn, Goes}
+use Rattle.lines.specs.Holds.{readerIn, Goes}
 use Rattle.lines.proofs.Feeding.{held-size}
 use Rattle.lines.proofs.feed.Kinds as feed-kinds
 use Rattle.lines.proofs.feed.Reads as feed-reads

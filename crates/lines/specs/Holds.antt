@@ -1,14 +1,14 @@
 -- The program between two pieces of its input, as the code keeps it, and what one piece does.
 use Prim.Native.Nat.{ℕ, _+_, _≤_}
 use mathlib.Core.Path.{_≡_}
-use mathlib.Core.List.{List, [], _∷_, _++_}
+use mathlib.Core.List.{List, [], _∷_}
 use lib.ListN.{length, take, drop}
-use Rattle.rules.specs.Checks.{_⇒_else_, isEmpty, member}
+use Rattle.rules.specs.Checks.{_⇒_else_, isEmpty}
 use Rattle.rules.specs.Input.{Reader, Fed}
 use Rattle.octets.specs.Parts.{pasted}
 use Rattle.session.specs.Picture.{GoodIn, shown}
 use Rattle.text.specs.Sizes.{keptCap}
-use Rattle.text.specs.Gathers.{beforeFeed, fitting}
+use Rattle.text.specs.Gathers.{piece, fitting}
 use Rattle.lines.specs.declared.Running.{Running}
 use Rattle.lines.specs.declared.Progress.{Progress}
 
@@ -25,10 +25,6 @@ readerIn c t p line = record { begun = c .begun; state = shown t p; pending = ta
 -- a reader that keeps no more of its line than is needed to see that it is too long
 abbrev pub cut : Reader → Reader
 cut r = record { begun = r .begun; state = r .state; pending = take keptCap (r .pending) }
-
--- the bytes up to the first line feed and with it; all, where there is none
-unfoldable pub piece : List ℕ → List ℕ
-piece s = beforeFeed s ++ (member 10 s ⇒ 10 ∷ [] else [])
 
 -- what ends the last line of an input, if anything of one is left
 unfoldable pub lastPiece : Reader → List ℕ

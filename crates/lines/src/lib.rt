@@ -21,15 +21,15 @@ ghost use mathlib.Core.Bool.{false};
 ghost use mathlib.Core.List.{[]};
 ghost use Prim.Native.Nat.{_+_, _≤_, min};
 ghost use lib.ListN.{length, drop};
-ghost use Rattle.rules.specs.Pool.{poolSize};
 ghost use Rattle.rules.specs.State.{start};
 ghost use Rattle.rules.specs.Lines.{frameOf, callIn, callOf};
 ghost use Rattle.rules.specs.Input.{begins, goes, lineEnds, feeds};
 ghost use Rattle.session.specs.Book.{ledgerSize};
 ghost use Rattle.session.specs.Picture.{GoodIn, shown, ledgerOf};
 ghost use Rattle.text.specs.Sizes.{takeCap, lineCap};
+ghost use Rattle.text.specs.Gathers.{piece};
 ghost use Rattle.lines.specs.Says.{answerTo, Replies, Says};
-ghost use Rattle.lines.specs.Holds.{Ready, readerIn, piece, lastPiece, Goes, Keeps};
+ghost use Rattle.lines.specs.Holds.{Ready, readerIn, lastPiece, Goes, Keeps};
 
 // What the program keeps between two pieces of its input, beside the session and the line: whether the first line was read, and how many bytes of a line are kept.
 pub struct Running {

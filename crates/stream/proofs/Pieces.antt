@@ -1,16 +1,12 @@
 -- An input that is read piece by piece: what holds between two lines of a piece.
 -- Assumes nothing.
 use Prim.Native.Nat.{ℕ, _+_, _≤_, _<_}
-use mathlib.Core.Path.{_≡_, refl, sym, ap, subst, _∙_}
-use mathlib.Core.Logic.{_⊎_, inl, inr, ⊎-elim}
-use mathlib.Core.Bool.{Bool, true, false, _||_}
-use mathlib.Core.List.{List, [], _∷_, _++_}
+use mathlib.Core.Path.{_≡_, sym, ap, subst, _∙_}
+use mathlib.Core.Bool.{false}
+use mathlib.Core.List.{List, [], _++_}
 use native.Mathlib.Omega.{arith}
-use lib.ListN.{length, take, drop, replicate, length-append, length-take, length-drop}
+use lib.ListN.{length, take, drop, replicate, length-append, length-drop}
 use lib.Seq.{take-all, take-add, length-take-le}
-use lib.Dec.{eqb}
-use borrow.Author.Tests.{eqb-true, eqb-false, ne-eqb}
-use Rattle.rules.specs.Checks.{_⇒_else_, member, some-of}
 use Rattle.rules.specs.Pool.{poolSize}
 use Rattle.rules.specs.State.{start}
 use Rattle.rules.specs.Input.{Reader, Fed, feeds}
@@ -18,47 +14,27 @@ use Rattle.rules.proofs.Input.{fed-pieces}
 use Rattle.octets.specs.Parts.{pasted}
 use Rattle.session.specs.Picture.{ledgerOf}
 use Rattle.text.specs.Sizes.{keptCap}
-use Rattle.text.specs.Gathers.{beforeFeed}
+use Rattle.text.specs.Gathers.{piece}
+use Rattle.text.proofs.Gathering.{piece-front, piece-some, piece-few}
 use Rattle.lines.specs.declared.Running.{Running}
 use Rattle.lines.specs.declared.Progress.{Progress}
-use Rattle.lines.specs.Holds.{Ready, readerIn, cut, piece, Goes, Keeps}
+use Rattle.lines.specs.Holds.{Ready, readerIn, cut, lastPiece, Goes, Keeps}
 use Rattle.lines.proofs.Feeding.{held-cut, feeds-cut, first-ready}
 use Rattle.stream.specs.Sizes.{pieceSize}
 
--- a piece has the first byte, and ends there or goes on
-piece-cons : (c : ℕ) (s : List ℕ) → (piece (c ∷ s) ≡ c ∷ []) ⊎ (piece (c ∷ s) ≡ c ∷ piece s)
-unfolding piece beforeFeed member some-of _⇒_else_
-piece-cons c s = by (eqb c 10) refl
-  where
-    by : (b : Bool) → eqb c 10 ≡ b → (piece (c ∷ s) ≡ c ∷ []) ⊎ (piece (c ∷ s) ≡ c ∷ piece s)
-    by true e = let same = eqb-true c 10 e in inl (ap (λ (k : ℕ). piece (k ∷ s)) same ∙ ap (λ (k : ℕ). k ∷ []) (sym same))
-    by false e =
-        let other : eqb 10 c ≡ false = ne-eqb 10 c (λ f. eqb-false c 10 e (sym f)) in
-        inr (λ i. (e i ⇒ [] else c ∷ beforeFeed s) ++ (other i || member 10 s ⇒ 10 ∷ [] else []))
-
--- so it is the front of what is there, and not empty
-piece-front : (s : List ℕ) → take (length (piece s)) s ≡ piece s
-unfolding piece beforeFeed member some-of _⇒_else_
-piece-front [] = refl
-piece-front (c ∷ s) =
-    let front : List ℕ → Type 0 = λ t. take (length t) (c ∷ s) ≡ t in
-    ⊎-elim (λ e. subst front (sym e) refl) (λ e. subst front (sym e) (ap (λ (t : List ℕ). c ∷ t) (piece-front s))) (piece-cons c s)
-
-piece-some : (s : List ℕ) → 1 ≤ length s → 1 ≤ length (piece s)
-piece-some [] h = absurd (let z : 1 ≤ 0 = h in omega arith)
-piece-some (c ∷ s) h = ⊎-elim (λ e. let k = ap length e in omega arith) (λ e. let k = ap length e in omega arith) (piece-cons c s)
-
-piece-few : (s : List ℕ) → length (piece s) ≤ length s
-piece-few s = let e = ap length (piece-front s) in let k = length-take (length (piece s)) s in omega arith
-
 -- what is printed stands within the output
-pub place-within : (f : Fed) (d : Progress) (t p line out : List ℕ) (at : ℕ) (out′ : List ℕ) → Goes f d t p line out at out′ → at ≤ length out → d .at ≤ length out′
+place-within : {f : Fed} {d : Progress} {t p line out : List ℕ} {at : ℕ} {out′ : List ℕ} → Goes f d t p line out at out′ → at ≤ length out → d .at ≤ length out′
 unfolding pasted
-place-within f d t p line out at out′ g h =
+place-within {f} {d} {t} {p} {line} {out} {at} g h =
     let e = ap length (g .printed) ∙ length-append (take at out) (f .out ++ drop (at + length (f .out)) out) in
     let k = length-take-le at out h in
     let m = length-append (f .out) (drop (at + length (f .out)) out) in
     omega (arith, g .place)
+
+pub end-within :
+    (c : Running) (t p line : List ℕ) {d : Progress} {t′ p′ line′ out out′ : List ℕ} →
+    Goes (feeds (readerIn c t p line) (lastPiece (readerIn c t p line))) d t′ p′ line′ out 0 out′ → d .at ≤ length out′
+end-within c t p line g = place-within g (omega arith)
 
 -- between two lines of a piece: the code holds what the reader has behind the bytes that were read
 pub record Midway (x : Reader) (s : List ℕ) (c : Running) (t p line out : List ℕ) (next at : ℕ) : Type 0 where
@@ -72,11 +48,11 @@ pub midway-none : (c : Running) (t p line s out : List ℕ) → Ready c t p line
 unfolding feeds
 midway-none c t p line s out y n = record { ready = y; holds = held-cut c t p line y; within = omega arith; room = omega arith; size = n }
 
-module _ (x : Reader) (s : List ℕ) (c : Running) (t p line out : List ℕ) (next at : ℕ) (w : Midway x s c t p line out next at) where
+module _ {x : Reader} {s : List ℕ} {c : Running} {t p line out : List ℕ} {next at : ℕ} (w : Midway x s c t p line out next at) where
   pub midway-all : length s ≤ next → readerIn c t p line ≡ cut (feeds x s .reader)
   midway-all h = w .holds ∙ ap (λ (l : List ℕ). cut (feeds x l .reader)) (take-all next s h)
 
-  module _ (h : next < length s) (k : ℕ) (d : Progress) (t′ p′ line′ out′ : List ℕ)
+  module _ (h : next < length s) {k : ℕ} {d : Progress} {t′ p′ line′ out′ : List ℕ}
       (g : Goes (feeds (readerIn c t p line) (piece (drop next s))) d t′ p′ line′ out k out′ × Keeps d (c .len) s next line line′) where
     pub midway-less : next < d .next
     midway-less =
@@ -99,7 +75,7 @@ module _ (x : Reader) (s : List ℕ) (c : Running) (t p line out : List ℕ) (ne
               g .0 .holds ∙ ap (λ (y : Reader). cut (feeds y r .reader)) (w .holds) ∙ ap (λ (y : Fed). y .reader) (feeds-cut r (feeds x (take next s) .reader))
               ∙ ap (λ (y : Fed). cut (y .reader)) (sym (ap (feeds x) read-more ∙ fed-pieces x (take next s) r));
           within = omega (arith, g .1 .next);
-          room = place-within _ d t′ p′ line′ out k out′ (g .0) m;
+          room = place-within (g .0) m;
           size = n;
         }
 

@@ -15,12 +15,10 @@ use Rattle.rules.specs.Checks.{_⇒_else_}
 use Rattle.rules.specs.Reading.{pairIn}
 use Rattle.rules.specs.Run.{takingOut}
 use Rattle.rules.specs.Lines.{callOf}
-use Rattle.rules.proofs.Laws.{stop, skip}
+use Rattle.text.specs.Sizes.{takeCap}
+use Rattle.rules.proofs.Laws.{stop, skip, both}
 
 -- a check of two parts
-pub both : (a b : Bool) → a ≡ true → b ≡ true → a && b ≡ true
-both a b e f = λ i. e i && f i
-
 pub not-left : (a b : Bool) → a ≡ false → a && b ≡ false
 not-left a b e = ap (λ (t : Bool). t && b) e
 
@@ -49,15 +47,15 @@ module _ (s : List ℕ) (n : ChannelNumber) (p : (getD s 0 0 ≡ 0xA1) × (getD 
   abbrev count : ℕ
   count = 256 * getD s 2 0 + getD s 3 0
 
-  by-take : callOf s ≡ (eqb (length s) 4 && leb count 1500 ⇒ some (takingOut count n) else none)
+  by-take : callOf s ≡ (eqb (length s) 4 && leb count takeCap ⇒ some (takingOut count n) else none)
   unfolding callOf _⇒_else_ pairIn
   by-take = simp (p .0, p .1, getD-drop)
 
   pub take-unsized : (length s ≡ 4 → ⊥) → callOf s ≡ none
   take-unsized h = by-take ∙ skip _ _ _ (not-left _ _ (ne-eqb (length s) 4 h))
 
-  pub take-over : 1500 < count → callOf s ≡ none
-  take-over h = by-take ∙ skip _ _ _ (not-right (eqb (length s) 4) _ (lt-leb count 1500 h))
+  pub take-over : takeCap < count → callOf s ≡ none
+  take-over h = by-take ∙ skip _ _ _ (not-right (eqb (length s) 4) _ (lt-leb count takeCap h))
 
-  pub take-call : length s ≡ 4 → count ≤ 1500 → callOf s ≡ some (takingOut count n)
-  take-call e h = by-take ∙ stop _ _ _ (both _ _ (eq-eqb (length s) 4 e) (le-leb count 1500 h))
+  pub take-call : length s ≡ 4 → count ≤ takeCap → callOf s ≡ some (takingOut count n)
+  take-call e h = by-take ∙ stop _ _ _ (both _ _ (eq-eqb (length s) 4 e) (le-leb count takeCap h))

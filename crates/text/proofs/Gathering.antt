@@ -1,93 +1,134 @@
 -- A line gathered byte by byte: what is gathered from a place on completes what is kept.
 -- Assumes nothing.
 use Prim.Native.Nat.{ℕ, suc, _+_, _-_, _≤_, _<_}
-use mathlib.Core.Path.{_≡_, refl, sym, ap, _∙_}
+use mathlib.Core.Path.{_≡_, refl, sym, ap, subst, _∙_}
 use mathlib.Core.Bool.{Bool, true, false, _||_}
-use mathlib.Core.List.{List, [], _∷_}
+use mathlib.Core.List.{List, [], _∷_, _++_}
 use native.Mathlib.Omega.{arith}
-use native.Mathlib.Nat.{add-zero}
 use native.Mathlib.Numerals.{add-one}
-use lib.ListN.{length, take, drop, getD, set, length-set, drop-of-length-le}
+use lib.ListN.{length, take, drop, getD, set, length-set, length-take, drop-of-length-le}
 use lib.Seq.{drop-cons, take-nil}
-use borrow.Author.Tests.{eq-eqb, ne-eqb}
+use lib.Dec.{eqb}
+use borrow.Author.Tests.{eqb-true, eqb-false, ne-eqb}
 use Rattle.rules.specs.Checks.{_⇒_else_, member, some-of}
-use Rattle.rules.proofs.Laws.{stop, skip}
 use Rattle.octets.specs.Parts.{pasted}
 use Rattle.text.specs.Sizes.{keptCap}
 use Rattle.text.specs.declared.Gathered.{Gathered}
-use Rattle.text.specs.Gathers.{beforeFeed, fitting, Gathers}
+use Rattle.text.specs.Gathers.{beforeFeed, piece, fitting, Gathers}
 use Rattle.text.proofs.Stores.{paste-one, paste-none}
 
--- nothing is kept: the line stands as it is
-module _ (g : Gathered) (had : ℕ) (chunk : List ℕ) (at : ℕ) (line : List ℕ) where
-  gathers-none :
-      beforeFeed (drop at chunk) ≡ [] → g .len ≡ had → g .whole ≡ member 10 (drop at chunk) → g .next ≡ at + (g .whole ⇒ 1 else 0) →
-      Gathers g had chunk at line line
-  unfolding fitting
-  gathers-none e l w n =
-      let f : fitting had (drop at chunk) ≡ [] = ap (take (keptCap - had)) e ∙ take-nil (keptCap - had) in
-      let z = ap length f in
-      let y = ap length e in
-      record { kept = paste-none line had ∙ ap (pasted line had) (sym f); len = omega arith; whole = w; next = omega arith }
+-- what is read by its first byte: that is a line feed and ends it, or another
+record Ends (c : ℕ) (s : List ℕ) : Type 0 where
+  none : beforeFeed (c ∷ s) ≡ []
+  whole : member 10 (c ∷ s) ≡ true
+  one : piece (c ∷ s) ≡ c ∷ []
 
--- at the end of a chunk, and at a line feed
+record GoesOn (c : ℕ) (s : List ℕ) : Type 0 where
+  more : beforeFeed (c ∷ s) ≡ c ∷ beforeFeed s
+  whole : member 10 (c ∷ s) ≡ member 10 s
+  next : piece (c ∷ s) ≡ c ∷ piece s
+
+ends : (c : ℕ) (s : List ℕ) → c ≡ 10 → Ends c s
+unfolding piece beforeFeed member some-of _⇒_else_
+ends c s e = subst (λ (k : ℕ). Ends k s) (sym e) (record { none = refl; whole = refl; one = refl })
+
+goes-on : (c : ℕ) (s : List ℕ) → (c ≡ 10 → ⊥) → GoesOn c s
+unfolding piece beforeFeed member some-of _⇒_else_
+goes-on c s n =
+    let e : eqb c 10 ≡ false = ne-eqb c 10 n in
+    let f : eqb 10 c ≡ false = ne-eqb 10 c (λ g. n (sym g)) in
+    record {
+      more = λ i. e i ⇒ [] else c ∷ beforeFeed s;
+      whole = λ i. f i || member 10 s;
+      next = λ i. (e i ⇒ [] else c ∷ beforeFeed s) ++ (f i || member 10 s ⇒ 10 ∷ [] else []);
+    }
+
+-- what holds of a list that ends or goes on, whichever it does
+by-first : (P : Type 0) (c : ℕ) (s : List ℕ) → (Ends c s → P) → (GoesOn c s → P) → P
+by-first P c s f g = by (eqb c 10) refl
+  where
+    by : (b : Bool) → eqb c 10 ≡ b → P
+    by true e = f (ends c s (eqb-true c 10 e))
+    by false e = g (goes-on c s (eqb-false c 10 e))
+
+-- a piece is the front of what is there, and not empty
+pub piece-front : (s : List ℕ) → take (length (piece s)) s ≡ piece s
+unfolding piece beforeFeed member some-of _⇒_else_
+piece-front [] = refl
+piece-front (c ∷ s) =
+    let front : List ℕ → Type 0 = λ t. take (length t) (c ∷ s) ≡ t in
+    by-first (front (piece (c ∷ s))) c s (λ e. subst front (sym (e .one)) refl)
+    (λ g. subst front (sym (g .next)) (ap (λ (t : List ℕ). c ∷ t) (piece-front s)))
+
+pub piece-some : (s : List ℕ) → 1 ≤ length s → 1 ≤ length (piece s)
+piece-some [] h = absurd (let z : 1 ≤ 0 = h in omega arith)
+piece-some (c ∷ s) h =
+    by-first (1 ≤ length (piece (c ∷ s))) c s (λ e. let k = ap length (e .one) in omega arith) (λ g. let k = ap length (g .next) in omega arith)
+
+pub piece-few : (s : List ℕ) → length (piece s) ≤ length s
+piece-few s = let e = ap length (piece-front s) in let k = length-take (length (piece s)) s in omega arith
+
+-- at the end of a chunk, and at a line feed, nothing is kept: the line stands as it is
+gathers-none :
+    (g : Gathered) (had : ℕ) (chunk : List ℕ) (at : ℕ) (line : List ℕ) → beforeFeed (drop at chunk) ≡ [] → g .len ≡ had →
+    g .whole ≡ member 10 (drop at chunk) → g .next ≡ at + length (piece (drop at chunk)) → Gathers g had chunk at line line
+unfolding fitting
+gathers-none g had chunk at line e l w n =
+    let f : fitting had (drop at chunk) ≡ [] = ap (take (keptCap - had)) e ∙ take-nil (keptCap - had) in
+    let z = ap length f in
+    record { kept = paste-none line had ∙ ap (pasted line had) (sym f); len = omega arith; whole = w; next = n }
+
 gathers-end : (had : ℕ) (chunk : List ℕ) (at : ℕ) (line : List ℕ) → length chunk ≤ at → Gathers (record { len = had; next = at; whole = false }) had chunk at line line
-unfolding beforeFeed member some-of _⇒_else_
+unfolding piece beforeFeed member some-of _⇒_else_
 gathers-end had chunk at line h =
     let e = drop-of-length-le chunk h in
-    gathers-none _ had chunk at line (ap beforeFeed e) refl (sym (ap (member 10) e)) (sym (add-zero at))
-
-byte-at : (chunk : List ℕ) (at : ℕ) → at < length chunk → drop at chunk ≡ getD chunk at 0 ∷ drop (at + 1) chunk
-byte-at chunk at h = drop-cons chunk at 0 h ∙ ap (λ (k : ℕ). getD chunk at 0 ∷ drop k chunk) (sym (add-one at))
+    let k = ap (λ (s : List ℕ). length (piece s)) e in
+    gathers-none _ had chunk at line (ap beforeFeed e) refl (sym (ap (member 10) e)) (omega arith)
 
 module _ (had : ℕ) (chunk : List ℕ) (at : ℕ) (line : List ℕ) (h : at < length chunk) where
-  gathers-feed : getD chunk at 0 ≡ 10 → Gathers (record { len = had; next = at + 1; whole = true }) had chunk at line line
-  unfolding beforeFeed member some-of _⇒_else_
-  gathers-feed e =
-      let b = byte-at chunk at h in
-      gathers-none _ had chunk at line (ap beforeFeed b ∙ stop _ _ _ (eq-eqb (getD chunk at 0) 10 e)) refl
-      (sym (ap (member 10) b ∙ ap (λ (t : Bool). t || member 10 (drop (at + 1) chunk)) (eq-eqb 10 (getD chunk at 0) (sym e)))) refl
+  abbrev c : ℕ
+  c = getD chunk at 0
+
+  abbrev rest : List ℕ
+  rest = drop (at + 1) chunk
+
+  first : drop at chunk ≡ c ∷ rest
+  first = drop-cons chunk at 0 h ∙ ap (λ (k : ℕ). c ∷ drop k chunk) (sym (add-one at))
+
+  gathers-feed : c ≡ 10 → Gathers (record { len = had; next = at + 1; whole = true }) had chunk at line line
+  gathers-feed q =
+      let e = ends c rest q in
+      let k = ap (λ (s : List ℕ). length (piece s)) first ∙ ap length (e .one) in
+      gathers-none _ had chunk at line (ap beforeFeed first ∙ e .none) refl (sym (ap (member 10) first ∙ e .whole)) (omega arith)
 
   -- another byte is kept where it fits
-  module _ (n : getD chunk at 0 ≡ 10 → ⊥) where
-    before-on : beforeFeed (drop at chunk) ≡ getD chunk at 0 ∷ beforeFeed (drop (at + 1) chunk)
-    unfolding beforeFeed
-    before-on = ap beforeFeed (byte-at chunk at h) ∙ skip _ _ _ (ne-eqb (getD chunk at 0) 10 n)
-
-    member-on : member 10 (drop (at + 1) chunk) ≡ member 10 (drop at chunk)
-    unfolding member some-of
-    member-on =
-        sym (ap (member 10) (byte-at chunk at h) ∙ ap (λ (t : Bool). t || member 10 (drop (at + 1) chunk)) (ne-eqb 10 (getD chunk at 0) (λ e. n (sym e))))
+  module _ (n : c ≡ 10 → ⊥) (g : Gathered) (after : List ℕ) where
+    kept-on : beforeFeed (drop at chunk) ≡ c ∷ beforeFeed rest
+    kept-on = ap beforeFeed first ∙ goes-on c rest n .more
 
     gathers-on :
-        (g : Gathered) (have : ℕ) (more after : List ℕ) →
-        pasted more have (fitting have (drop (at + 1) chunk)) ≡ pasted line had (fitting had (drop at chunk)) →
-        have + length (fitting have (drop (at + 1) chunk)) ≡ had + length (fitting had (drop at chunk)) →
-        Gathers g have chunk (at + 1) more after → Gathers g had chunk at line after
-    gathers-on g have more after e l w =
-        let b = ap length before-on in
-        record { kept = w .kept ∙ e; len = w .len ∙ l; whole = w .whole ∙ member-on; next = omega (arith, w .next) }
+        (have : ℕ) (more : List ℕ) → pasted more have (fitting have rest) ≡ pasted line had (fitting had (drop at chunk)) →
+        have + length (fitting have rest) ≡ had + length (fitting had (drop at chunk)) → Gathers g have chunk (at + 1) more after → Gathers g had chunk at line after
+    gathers-on have more e l w =
+        let o = goes-on c rest n in
+        let k = ap (λ (s : List ℕ). length (piece s)) first ∙ ap length (o .next) in
+        record { kept = w .kept ∙ e; len = w .len ∙ l; whole = w .whole ∙ sym (ap (member 10) first ∙ o .whole); next = omega (arith, w .next) }
 
-    gathers-full :
-        (g : Gathered) (after : List ℕ) → keptCap ≤ had → Gathers g had chunk (at + 1) line after → Gathers g had chunk at line after
+    gathers-full : keptCap ≤ had → Gathers g had chunk (at + 1) line after → Gathers g had chunk at line after
     unfolding fitting
-    gathers-full g after k w =
+    gathers-full k w =
         let z : keptCap - had ≡ 0 = omega arith in
-        let none : (s : List ℕ) → fitting had s ≡ [] = λ s. ap (λ (j : ℕ). take j (beforeFeed s)) z in
-        let same = none (drop (at + 1) chunk) ∙ sym (none (drop at chunk)) in
-        gathers-on g had line after (ap (pasted line had) same) (ap (λ (s : List ℕ). had + length s) same) w
+        let same : fitting had rest ≡ fitting had (drop at chunk) =
+        ap (λ (j : ℕ). take j (beforeFeed rest)) z ∙ sym (ap (λ (j : ℕ). take j (beforeFeed (drop at chunk))) z) in
+        gathers-on had line (ap (pasted line had) same) (ap (λ (s : List ℕ). had + length s) same) w
 
-    gathers-byte :
-        (g : Gathered) (after : List ℕ) → had < keptCap → length line ≡ keptCap →
-        Gathers g (had + 1) chunk (at + 1) (set line had (getD chunk at 0)) after → Gathers g had chunk at line after
+    gathers-byte : had < keptCap → length line ≡ keptCap → Gathers g (had + 1) chunk (at + 1) (set line had c) after → Gathers g had chunk at line after
     unfolding fitting
-    gathers-byte g after k l w =
-        let c = getD chunk at 0 in
+    gathers-byte k l w =
         let z : keptCap - had ≡ suc (keptCap - (had + 1)) = omega arith in
-        let rest = fitting (had + 1) (drop (at + 1) chunk) in
-        let f : fitting had (drop at chunk) ≡ c ∷ rest = ap (take (keptCap - had)) before-on ∙ ap (λ (j : ℕ). take j (c ∷ beforeFeed (drop (at + 1) chunk))) z in
+        let f : fitting had (drop at chunk) ≡ c ∷ fitting (had + 1) rest = λ i. take (z i) (kept-on i) in
         let y = ap length f in
-        gathers-on g (had + 1) (set line had c) after (paste-one line had c rest (omega arith) ∙ ap (pasted line had) (sym f)) (omega arith) w
+        gathers-on (had + 1) (set line had c) (paste-one line had c (fitting (had + 1) rest) (omega arith) ∙ ap (pasted line had) (sym f)) (omega arith) w
 
 -- what is gathered from here completes the line
 pub record Gathering (before : List ℕ) (had : ℕ) (chunk : List ℕ) (from : ℕ) (line : List ℕ) (kept at : ℕ) : Type 0 where

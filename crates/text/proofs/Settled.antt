@@ -1,18 +1,13 @@
 -- Each contract of the lines settles its outcome.
 -- Assumes nothing.
-use Prim.Native.Nat.{ℕ, _+_}
+use Prim.Native.Nat.{ℕ}
 use mathlib.Core.Path.{_≡_, refl, sym, ap, _∙_}
-use mathlib.Core.Bool.{Bool}
 use mathlib.Core.List.{List}
 use mathlib.Core.Option.{Option, none, some}
-use lib.ListN.{length, drop}
-use Rattle.rules.specs.Checks.{_⇒_else_}
 use Rattle.rules.specs.Run.{Call, starting, commanding, arriving, takingOut, droppingLink}
-use Rattle.text.specs.declared.Gathered.{Gathered}
 use Rattle.text.specs.declared.Spoken.{Spoken}
 use Rattle.text.specs.declared.Spoken.the-variants.{Command, Arrival, Take, Drop, Nothing}
 use Rattle.text.specs.Calls.{callSpoken}
-use Rattle.text.specs.Gathers.{beforeFeed, Gathers}
 use Rattle.outcomes.specs.Determined.{Determined}
 use Rattle.text.proofs.read_frame.Kinds as read-frame-kinds
 use Rattle.text.proofs.read_frame.Reads as read-frame-reads
@@ -40,17 +35,6 @@ spoken-back (Take n k) s = refl
 spoken-back (Drop n) s = refl
 spoken-back Nothing s = refl
 
--- two that are told of one chunk
-module _ (g h : Gathered) {had from : ℕ} {chunk before after after′ : List ℕ} (p : Gathers g had chunk from before after) (q : Gathers h had chunk from before after′) where
-  whole-alike : g .whole ≡ h .whole
-  whole-alike = p .whole ∙ sym (q .whole)
-
-  next-alike : g .next ≡ h .next
-  next-alike = p .next ∙ ap (λ (b : Bool). from + (length (beforeFeed (drop from chunk)) + (b ⇒ 1 else 0))) whole-alike ∙ sym (q .next)
-
-  gathered-alike : g ≡ h
-  gathered-alike = λ i. record { len = (p .len ∙ sym (q .len)) i; next = next-alike i; whole = whole-alike i }
-
 pub read-frame-settled : Determined 2 read-frame-kinds.ps read-frame-kinds.r read-frame-reads.Pre read-frame-reads.Post
 read-frame-settled κs a _ x y v w p q = (p .0 ∙ sym (q .0), λ i. (tt, ((p .1 ∙ sym (q .1)) i, tt)))
 
@@ -61,4 +45,7 @@ pub print-settled : Determined 2 print-kinds.ps print-kinds.r print-reads.Pre pr
 print-settled κs a _ x y v w p q = (p .1 ∙ sym (q .1), λ i. ((p .0 ∙ sym (q .0)) i, v .1))
 
 pub gather-settled : Determined 2 gather-kinds.ps gather-kinds.r gather-reads.Pre gather-reads.Post
-gather-settled κs a _ x y v w p q = (gathered-alike x y p q, λ i. ((p .kept ∙ sym (q .kept)) i, v .1))
+gather-settled κs a _ x y v w p q = (
+  λ i. record { len = (p .len ∙ sym (q .len)) i; next = (p .next ∙ sym (q .next)) i; whole = (p .whole ∙ sym (q .whole)) i },
+  λ i. ((p .kept ∙ sym (q .kept)) i, v .1),
+)

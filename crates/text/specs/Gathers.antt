@@ -1,7 +1,7 @@
 -- A line gathered from chunks, of which enough is kept to see that it is too long.
 use Prim.Native.Nat.{ℕ, _+_, _-_}
 use mathlib.Core.Path.{_≡_}
-use mathlib.Core.List.{List, [], _∷_}
+use mathlib.Core.List.{List, [], _∷_, _++_}
 use lib.ListN.{length, take, drop}
 use lib.Dec.{eqb}
 use Rattle.rules.specs.Checks.{_⇒_else_, member}
@@ -14,7 +14,11 @@ unfoldable pub beforeFeed : List ℕ → List ℕ
 beforeFeed [] = []
 beforeFeed (c ∷ s) = let rest = beforeFeed s in eqb c 10 ⇒ [] else c ∷ rest
 
--- those of them that are kept behind the so many that the line has
+-- the bytes up to the first line feed and with it; all, where there is none
+unfoldable pub piece : List ℕ → List ℕ
+piece s = beforeFeed s ++ (member 10 s ⇒ 10 ∷ [] else [])
+
+-- those before it that are kept behind the so many that the line has
 unfoldable pub fitting : ℕ → List ℕ → List ℕ
 fitting had s = take (keptCap - had) (beforeFeed s)
 
@@ -23,4 +27,4 @@ pub record Gathers (g : Gathered) (had : ℕ) (chunk : List ℕ) (from : ℕ) (b
   pub kept : after ≡ pasted before had (fitting had (drop from chunk))
   pub len : g .len ≡ had + length (fitting had (drop from chunk))
   pub whole : g .whole ≡ member 10 (drop from chunk)
-  pub next : g .next ≡ from + (length (beforeFeed (drop from chunk)) + (g .whole ⇒ 1 else 0))
+  pub next : g .next ≡ from + length (piece (drop from chunk))

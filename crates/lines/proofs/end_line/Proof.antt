@@ -1,6 +1,6 @@
 -- `lines::end_line` meets its contract: a line after the first, or the first.
 -- Assumes nothing.
-use Rattle.rules.specs.Input.{goes, lineEnds}
+use Rattle.rules.specs.Input.{lineEnds}
 use Rattle.rules.proofs.Laws.{stop, skip}
 use Rattle.lines.proofs.Telling.{ends-says}
 use borrow.Author.Needs.{needs}

@@ -1,7 +1,7 @@
 -- `stream::end` meets its contract: what the last line printed is written.
 -- Assumes nothing.
-use native.Mathlib.Omega.{arith}
-use Rattle.stream.proofs.Pieces.{place-within}
+use denote.Ref.{now}
+use Rattle.stream.proofs.Pieces.{end-within}
 use borrow.Author.Needs.{needs}
 use Rattle.stream.proofs.end.Statement.{statement}
 use Rattle.stream.proofs.end.Tie as tie
@@ -9,7 +9,8 @@ use Rattle.stream.proofs.end.Tie as tie
 write-out-requires : tie.Need-write-out-requires
 write-out-requires c κs =
     let f : tie.After-finish = search in
-    place-within _ _ _ _ _ _ _ _ (f .finish .ensures .0) (omega arith)
+    let s : tie.Start = search in
+    end-within (s .args .running) (now (s .args .ledger)) (now (s .args .pool)) (now (s .args .line)) (f .finish .ensures .0)
 
 pub end-spec : {M : Type 1} → statement M
 end-spec =

@@ -9,6 +9,7 @@ use Rattle.text.specs.Sizes.{lineCap}
 use Rattle.lines.specs.Holds.{readerIn}
 use Rattle.stream.specs.Sizes.{pieceSize}
 use Rattle.stream.proofs.Pieces.{Midway, midway-none, midway-all, midway-less, midway-more}
+use borrow.Author.Needs.{needs}
 use Rattle.stream.proofs.feed_all.Statement.{statement}
 use Rattle.stream.proofs.feed_all.Tie as tie
 
@@ -26,43 +27,6 @@ fits j =
     let n = l .loop .inv .size in
     ⊎-elim (λ u. let e = u .4 in omega arith) (λ u. let e = u .1 in let f = u .0 .left in omega arith) (j .if1 .came)
 
-loop-holds : tie.Need-loop-holds Inv-loop μ-loop
-loop-holds c =
-    let s : tie.Start Inv-loop μ-loop = search in
-    midway-none _ _ _ _ _ _ (s .pre .0) (s .pre .1)
-
-sub-if1 : tie.Need-sub-if1 Inv-loop μ-loop
-sub-if1 c =
-    let l : tie.At-loop Inv-loop μ-loop = search in
-    let w = l .loop .inv in
-    w .room
-
-write-out-requires : tie.Need-write-out-requires Inv-loop μ-loop
-write-out-requires c κs =
-    let l : tie.At-loop Inv-loop μ-loop = search in
-    let w = l .loop .inv in
-    w .room
-
-same-length : tie.Need-same-length Inv-loop μ-loop
-same-length c =
-    let l : tie.At-loop Inv-loop μ-loop = search in
-    let w = l .loop .inv in
-    let s : tie.Start Inv-loop μ-loop = search in
-    omega (arith, w .ready .size, s .pre .0 .size)
-
-same-length-2 : tie.Need-same-length-2 Inv-loop μ-loop
-same-length-2 c =
-    let l : tie.At-loop Inv-loop μ-loop = search in
-    let w = l .loop .inv in
-    let s : tie.Start Inv-loop μ-loop = search in
-    omega (arith, w .size, s .pre .1)
-
-returns : tie.Need-returns Inv-loop μ-loop
-returns c =
-    let l : tie.At-loop Inv-loop μ-loop = search in
-    let w = l .loop .inv in
-    (w .ready, λ m. absurd (false≢true m))
-
 feed-requires : tie.Need-feed-requires Inv-loop μ-loop
 feed-requires c κs =
     let j : tie.Joined1 Inv-loop μ-loop = search in
@@ -75,8 +39,7 @@ loop-less c =
     let f : tie.After-feed Inv-loop μ-loop = search in
     let i : tie.In-loop Inv-loop μ-loop = search in
     let l : tie.At-loop Inv-loop μ-loop = search in
-    let w = l .loop .inv in
-    omega (arith, midway-less _ _ _ _ _ _ _ _ _ w (i .loop-test .taken) _ _ _ _ _ _ (f .feed .ensures))
+    omega (arith, midway-less (l .loop .inv) (i .loop-test .taken) (f .feed .ensures))
 
 loop-again : tie.Need-loop-again Inv-loop μ-loop
 loop-again c =
@@ -85,34 +48,14 @@ loop-again c =
     let i : tie.In-loop Inv-loop μ-loop = search in
     let l : tie.At-loop Inv-loop μ-loop = search in
     let w = l .loop .inv in
-    midway-more _ _ _ _ _ _ _ _ _ w (i .loop-test .taken) _ _ _ _ _ _ (f .feed .ensures) (omega (arith, fits j, w .size)) (omega (arith, w .size))
-
-write-out-requires-2 : tie.Need-write-out-requires-2 Inv-loop μ-loop
-write-out-requires-2 c κs =
-    let l : tie.At-loop Inv-loop μ-loop = search in
-    let w = l .loop .inv in
-    w .room
-
-same-length-3 : tie.Need-same-length-3 Inv-loop μ-loop
-same-length-3 c =
-    let l : tie.At-loop Inv-loop μ-loop = search in
-    let w = l .loop .inv in
-    let s : tie.Start Inv-loop μ-loop = search in
-    omega (arith, w .ready .size, s .pre .0 .size)
-
-same-length-4 : tie.Need-same-length-4 Inv-loop μ-loop
-same-length-4 c =
-    let l : tie.At-loop Inv-loop μ-loop = search in
-    let w = l .loop .inv in
-    let s : tie.Start Inv-loop μ-loop = search in
-    omega (arith, w .size, s .pre .1)
+    midway-more w (i .loop-test .taken) (f .feed .ensures) (omega (arith, fits j, w .size)) (omega (arith, w .size))
 
 returns-2 : tie.Need-returns-2 Inv-loop μ-loop
 returns-2 c =
     let e : tie.After-loop Inv-loop μ-loop = search in
     let l : tie.At-loop Inv-loop μ-loop = search in
     let w = l .loop .inv in
-    (w .ready, λ m. midway-all _ _ _ _ _ _ _ _ _ w (e .loop-test .left))
+    (w .ready, λ m. midway-all w (e .loop-test .left))
 
 pub feed-all-spec : {M : Type 1} → statement M
 feed-all-spec =
@@ -120,16 +63,16 @@ feed-all-spec =
     (tie.spec
     Inv-loop
     μ-loop
-    loop-holds
-    sub-if1
-    write-out-requires
-    same-length
-    same-length-2
-    returns
+    (λ c. search midway-none)
+    (λ c. search needs)
+    (λ c κs. search needs)
+    (λ c. omega arith)
+    (λ c. omega arith)
+    (λ c. let l : tie.At-loop Inv-loop μ-loop = search in (l .loop .inv .ready, λ m. absurd (false≢true m)))
     feed-requires
     loop-less
     loop-again
-    write-out-requires-2
-    same-length-3
-    same-length-4
+    (λ c κs. search needs)
+    (λ c. omega arith)
+    (λ c. omega arith)
     returns-2)
