@@ -18,7 +18,7 @@ sub-arrival-in : tie.Need-sub-arrival-in
 sub-arrival-in c =
     let e : tie.After-n = search in
     let r : tie.After-read-call = search in
-    arrival-bounded _ _ (r .read-call .ensures) _ (e .n .given .1)
+    omega (arith, arrival-bounded _ _ (r .read-call .ensures) _ (e .n .given .1))
 
 part-arrival-in-start : tie.Need-part-arrival-in-start
 part-arrival-in-start c =

@@ -32,7 +32,7 @@ feed-requires c κs =
     let j : tie.Joined1 Inv-loop μ-loop = search in
     let l : tie.At-loop Inv-loop μ-loop = search in
     let w = l .loop .inv in
-    (w .ready, (w .within, omega (arith, fits j, w .size)))
+    (w .ready, (omega (arith, w .within), omega (arith, fits j, w .size)))
 
 loop-less : tie.Need-loop-less Inv-loop μ-loop
 loop-less c =

@@ -30,9 +30,9 @@ read-frame-spec =
     (tie.spec
     Inv-loop
     μ-loop
-    (λ c. told-long _ _ (c .if1 .taken))
+    (λ c. told-long _ _ (omega arith))
     (λ c κs. tt)
-    (λ c. told-unread _ _ _ (c .before .before .if1 .left) (c .before .readable .ensures) (c .if2 .taken))
+    (λ c. told-unread _ _ _ (omega arith) (c .before .readable .ensures) (c .if2 .taken))
     (λ c. search fills-none)
     (λ c. omega arith)
     (λ c. omega arith)

@@ -19,5 +19,5 @@ read-take-spec =
     (λ c. search needs)
     (λ c. omega (arith, c .shared-slice-known2 .given 3))
     (λ c. omega (arith, c .shared-slice-known2 .given 2, c .shared-slice-known2 .given 3))
-    (λ c. let s : tie.Start = search in take-over _ _ (s .pre) (c .if2 .taken))
-    (λ c. let i : tie.Else1 = search in let s : tie.Start = search in take-call _ _ (s .pre) (i .if1 .left) (c .if2 .left)))
+    (λ c. let s : tie.Start = search in take-over _ _ (s .pre) (omega arith))
+    (λ c. let i : tie.Else1 = search in let s : tie.Start = search in take-call _ _ (s .pre) (i .if1 .left) (omega arith)))
