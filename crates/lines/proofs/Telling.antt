@@ -19,7 +19,6 @@ use Rattle.rules.specs.Run.{Call, starting, commanding, arriving, takingOut, dr
 use Rattle.rules.specs.Reading.{pairIn}
 use Rattle.rules.specs.Lines.{printed, frameOf, callIn, callOf, perform, lineStep}
 use Rattle.rules.specs.Input.{Fed, lineBytes, between, begins, goes}
-use Rattle.rules.specs.Sound.{Sound}
 use Rattle.rules.proofs.Laws.{branch, both-right}
 use Rattle.rules.proofs.Soundness.{start-sound, step-sound}
 use Rattle.rules.specs.Pool.{poolSize}
@@ -54,11 +53,6 @@ outcome-front : (e : Ended) (s w : List ℕ) → countOf e ≤ length s → outc
 unfolding outcomeOf countOf
 outcome-front (Wrote k) s w h = ap wrote (take-append-le k s w h)
 outcome-front (Refused r) s w h = refl
-
-pub sound-to : (a : State) (o : Option Call) → Sound a → Sound (answerTo a o .state)
-unfolding answerTo
-sound-to a none h = h
-sound-to a (some c) h = step-sound a c h
 
 -- a call that was lent the front of a buffer
 module _ (t p : List ℕ) (g : GoodIn t p) (o : Option Call) (t′ p′ : List ℕ) (e : Ended) where
