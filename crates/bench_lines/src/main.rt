@@ -119,9 +119,9 @@ fn print_data(s: &[u8], start: usize, end: usize, left: u8, out: &mut [u8], at: 
     print_byte(left, out, behind)
 }
 
-// Prints so many statuses, each from its place; 0000 where there are none.
-fn print_statuses(s: &[u8], count: usize, out: &mut [u8], at: usize) -> usize
-    requires { ⌜ (12 + 4 * count ≤ length (now s)) × (1 ≤ at) × (at + 2 * length (now s) + 10 ≤ length (now out)) ⌝ }
+// Prints so many statuses from a place on, four bytes each; 0000 where there are none.
+fn print_statuses(s: &[u8], start: usize, count: usize, out: &mut [u8], at: usize) -> usize
+    requires { ⌜ (start + 4 * count ≡ length (now s)) × (1 ≤ at) × (at + 2 * length (now s) + 10 ≤ length (now out)) ⌝ }
     ensures { λ r. ⌜ (at < r) × (r ≤ at + 2 * length (now (s .entry)) + 10) ⌝ }
 {
     if count == 0 {
@@ -130,8 +130,8 @@ fn print_statuses(s: &[u8], count: usize, out: &mut [u8], at: usize) -> usize
     let mut end = at;
     let mut i: usize = 0;
     while i < count {
-        let place = 14 + 4 * i;
-        end = print_part(s, place, place + 2, out, end);
+        let place = start + 4 * i;
+        end = print_part(s, place + 2, place + 4, out, end);
         i += 1;
     }
     end
@@ -151,7 +151,7 @@ fn print_further(s: &[u8], further: Further, out: &mut [u8], at: usize) -> usize
         }
         Further::Received(start, len, left) => print_data(s, start, start + len, left, out, at),
         Further::Sent(room) => print_byte(room, out, at),
-        Further::Statuses(count) => print_statuses(s, count, out, at),
+        Further::Statuses(start, count) => print_statuses(s, start, count, out, at),
     }
 }
 

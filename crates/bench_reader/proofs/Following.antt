@@ -1,162 +1,234 @@
--- What follows a result: the data of RECEIVE DATA, and nothing at all.
+-- What follows a result, by type: a channel that was opened, data, room.
 -- Assumes nothing.
-use Prim.Native.Nat.{ℕ, suc, _+_, _-_, _≤_, _<_}
+use Prim.Native.Nat.{ℕ, suc, _+_, _*_, _/_, _%_, _≤_, _<_}
 use mathlib.Core.Path.{_≡_, refl, sym, ap, subst, _∙_}
-use mathlib.Core.Bool.{true, false, false≢true}
-use mathlib.Core.List.{List, [], _∷_, _++_, append-assoc}
+use mathlib.Core.Logic.{_⊎_, inl, inr, ⊎-elim}
+use mathlib.Core.Bool.{Bool, true, false, not, _&&_, _||_, false≢true, true≢false}
+use mathlib.Core.List.{List, [], _∷_}
 use native.Mathlib.Omega.{arith}
-use lib.ListN.{length, getD, drop, length-append, length-drop, take-append-drop}
-use lib.Seq.{drop-cons, drop-drop, drop-append-seam}
-use borrow.Author.Tests.{le-leb, leb-true, ltb-true, ltb-false}
-use Rattle.octets.specs.Parts.{part}
+use native.Mathlib.Nat.{add-zero}
+use lib.ListN.{length, getD, drop}
+use lib.Dec.{leb, eqb, eqb·suc-suc}
+use borrow.Author.Tests.{ne-eqb, le-leb, leb-true, not-true, not-false}
+use Rattle.rules.specs.declared.ChannelNumber.{ChannelNumber}
 use Rattle.rules.specs.declared.Details.{Details}
-use Rattle.rules.specs.Checks.{_⇒_else_, some-of, member}
-use Rattle.rules.specs.Frames.{LengthRead, len, noLength, lengthAt, following, lengthBytes, objectBytes, written}
-use Rattle.rules.specs.Own as own
-use Rattle.rules.specs.Own.{nothing, opened, received, sent, statuses}
-use Rattle.rules.specs.Written.{furtherObjects}
-use Rattle.rules.specs.Bench.{furtherProper}
-use Rattle.octets.proofs.Copies.{length-part}
-use Rattle.rules.proofs.Laws.{branch}
-use Rattle.rules.proofs.Forms.{length-back}
-use Rattle.bench_reader.specs.declared.Further.the-variants.{Received}
+use Rattle.rules.specs.declared.Link.{Link}
+use Rattle.rules.specs.declared.Link.the-variants.{NotYet, Established, Dropped}
+use Rattle.rules.specs.Checks.{_⇒_else_, isEmpty, some-of, member}
+use Rattle.rules.specs.Frames.{walk}
+use Rattle.rules.specs.State.{isDropped}
+use Rattle.rules.specs.Reading.{pairIn, bearerIn}
+use Rattle.rules.specs.Own.{Status, opened, received, nothing, done}
+use Rattle.rules.specs.Written.{unflagged, pairBytes, bearerBytes, statusObject, furtherObjects}
+use Rattle.rules.specs.Bench.{bearerProper, rising, furtherProper, valueAt, furtherIn}
+use Rattle.rules.proofs.Laws.{both-left, both-right}
+use Rattle.rules.proofs.Forms.{status-back}
+use Rattle.octets.specs.Parts.{part}
+use Rattle.octets.proofs.Copies.{part-get}
+use Rattle.objects.specs.declared.Cursor.{Cursor}
+use Rattle.bench_reader.specs.declared.Value.{Value}
+use Rattle.bench_reader.specs.declared.Value.the-variants as value
+use Rattle.bench_reader.specs.declared.One.{One}
+use Rattle.bench_reader.specs.declared.One.the-variants as one
+use Rattle.bench_reader.specs.declared.Two.{Two}
+use Rattle.bench_reader.specs.declared.Two.the-variants as two
+use Rattle.bench_reader.specs.declared.Shown.{Shown}
+use Rattle.bench_reader.specs.declared.Shown.the-variants as shown
+use Rattle.bench_reader.specs.declared.Further.the-variants.{Plain, Opened, Received, Sent}
 use Rattle.bench_reader.specs.declared.Verdict.the-variants.{Done}
-use Rattle.bench_reader.specs.declared.Heard.the-variants.{Response as Heard, Silence}
-use Rattle.bench_reader.specs.Heard.{furtherOf}
-use Rattle.bench_reader.specs.Forms.{Begun, Hears, Data}
-use Rattle.objects.proofs.Writing.{short-length, long-length}
-use Rattle.bench_reader.proofs.Hearing.{at-place, at-end, of-kind, further-heard, further-silent}
+use Rattle.bench_reader.specs.declared.Heard.{Heard}
+use Rattle.bench_reader.specs.declared.Heard.the-variants.{Silence}
+use Rattle.bench_reader.specs.Heard.{furtherOf, resultOf}
+use Rattle.bench_reader.specs.Tails.{Holder, Single, Double, ShownAt, sized, checked, followed, borne, Hears}
+use Rattle.bench_reader.proofs.Standing.{named, object-there, object-absent, byte-there, byte-missed, pair-there, pair-missed, value-long, behind-one, behind-two, silent, hears-as, step-on}
+use Rattle.bench_reader.proofs.Rising.{status-shown, status-hidden, rising-first}
 
--- the form of a length, byte by byte
-module _ (n : ℕ) (t : List ℕ) where
-  length-some : 1 ≤ length (lengthBytes n)
-  unfolding lengthBytes
-  length-some = branch (λ (l : List ℕ). 1 ≤ length l) _ _ _ (λ _. omega arith) (λ _. omega arith)
+-- two bytes as a number
+pub pair-of : (a b : ℕ) → (a < 256) × (b < 256) → (256 * a + b ≡ pairIn (a ∷ b ∷ [])) × (pairBytes (256 * a + b) ≡ a ∷ b ∷ [])
+unfolding pairIn pairBytes
+pair-of a b h =
+    let e : (256 * a + b) / 256 ≡ a = omega arith in
+    let f : (256 * a + b) % 256 ≡ b = omega arith in
+    (refl, λ i. e i ∷ f i ∷ [])
 
-  no-form : 128 ≤ getD (lengthBytes n ++ t) 0 0 → (getD (lengthBytes n ++ t) 0 0 ≡ 0x81 → ⊥) → ⊥
-  unfolding lengthBytes
-  no-form =
-      branch (λ (l : List ℕ). 128 ≤ getD (l ++ t) 0 0 → (getD (l ++ t) 0 0 ≡ 0x81 → ⊥) → ⊥) _ (n ∷ []) (0x81 ∷ n ∷ [])
-      (λ e h _. omega (arith, h, ltb-true n 128 e)) (λ _ _ h. h refl)
+-- a bearer of a type and a length
+sized-proper : (v : List ℕ) → 1 ≤ length v → (bearerProper (bearerIn v) ≡ sized (getD v 0 0) (length v)) × (bearerBytes (bearerIn v) ≡ v)
+unfolding bearerProper bearerIn bearerBytes sized isEmpty
+sized-proper [] h = absurd (omega arith)
+sized-proper (x ∷ []) h = (refl, refl)
+sized-proper (x ∷ y ∷ v) h =
+    let n = length (y ∷ v) in
+    (λ i. (eqb x 0x02 && sym (eqb·suc-suc n 6) i) || (eqb x 0x03 && sym (ne-eqb (suc n) 1 (omega arith)) i), refl)
 
-  no-longer : getD (lengthBytes n ++ t) 0 0 ≡ 0x81 → getD (lengthBytes n ++ t) 1 0 < 128 → ⊥
-  unfolding lengthBytes
-  no-longer =
-      branch (λ (l : List ℕ). getD (l ++ t) 0 0 ≡ 0x81 → getD (l ++ t) 1 0 < 128 → ⊥) _ (n ∷ []) (0x81 ∷ n ∷ [])
-      (λ e h _. omega (arith, h, ltb-true n 128 e)) (λ e _ h. omega (arith, h, ltb-false n 128 e))
+no-bytes : (v : List ℕ) → length v < 1 → v ≡ []
+no-bytes [] h = refl
+no-bytes (x ∷ v) h = absurd (omega arith)
 
--- one length, and one list behind it
-abbrev sizeOf : LengthRead → ℕ
-sizeOf noLength = 0
-sizeOf (len n s) = n
+module _ (d : Details) (x : ℕ) (st : Status) (s : List ℕ) (at : ℕ) {r : Value} (m : Holder r s at 0x35 false) where
+  pub bearer-missed : r ≡ value.Not → Hears (borne d x st (drop at s)) s Silence
+  unfolding borne
+  bearer-missed e = silent _ _ _ _ (λ _ q. object-absent e m .never _ _ q)
 
-module _ (n m : ℕ) (s t : List ℕ) (e : lengthBytes n ++ s ≡ lengthBytes m ++ t) where
-  read-both : len n s ≡ len m t
-  read-both = sym (length-back n s) ∙ ap lengthAt e ∙ length-back m t
+  module _ {start k : ℕ} {next : Cursor} (e : r ≡ value.At start k next) where
+    abbrev v : List ℕ
+    v = part start (start + k) s
 
-  pub same-length : n ≡ m
-  same-length = ap sizeOf read-both
+    bearer-on :
+        let g = pairIn (valueAt (walk (drop (next .at) s) .objects) 0) in
+        borne d x st (drop at s) ≡
+        checked (bearerProper (bearerIn v) && leb 1 g && leb g 1500) (unflagged 0x35 (bearerBytes (bearerIn v)) ∷ unflagged 0x39 (pairBytes g) ∷ []) (drop at s) (record { details = d; result = done x (opened st (bearerIn v) g) })
+    unfolding borne valueAt
+    bearer-on = rw (object-there e m .holds .walked)
 
-  pub same-rest : s ≡ t
-  unfolding following
-  same-rest = ap following read-both
+    bearer-unfit : bearerProper (bearerIn v) ≡ false → Hears (borne d x st (drop at s)) s Silence
+    bearer-unfit f = hears-as bearer-on (silent _ _ _ _ (λ t _. true≢false (sym (both-left _ _ (both-left _ _ t)) ∙ f)))
 
--- 36, the length and the data, 37 01 and the count
-abbrev pub receivedForm : List ℕ → ℕ → List ℕ
-receivedForm v left = (0x36 ∷ lengthBytes (length v)) ++ (v ++ (0x37 ∷ 0x01 ∷ left ∷ []))
+    pub bearer-empty : k < 1 → Hears (borne d x st (drop at s)) s Silence
+    unfolding bearerProper bearerIn
+    bearer-empty h = bearer-unfit (rw (no-bytes v (omega (arith, value-long s at 0x35 false m e))))
 
-received-written : (v : List ℕ) (left : ℕ) → written (furtherObjects (received v left)) ≡ receivedForm v left
-unfolding furtherObjects written objectBytes lengthBytes _⇒_else_
-received-written v left = append-assoc (0x36 ∷ lengthBytes (length v)) v (0x37 ∷ 0x01 ∷ left ∷ [])
+    module _ (h : 1 ≤ k) {b : Bool} (f : b ≡ sized (getD s start 0) k) where
+      proper-sized : bearerProper (bearerIn v) ≡ b
+      proper-sized =
+          let long = value-long s at 0x35 false m e in
+          sized-proper v (omega (arith, long)) .0 ∙ (λ i. sized (part-get start (start + k) 0 s (omega arith) i) (long i))
+          ∙ ap (λ (j : ℕ). sized (getD s j 0) k) (add-zero start) ∙ sym f
 
-module _ (s : List ℕ) where
-  -- where the data starts
-  pub data-short : 15 ≤ length s → getD s 12 0 ≡ 0x36 → getD s 13 0 < 128 → Data s 14 (getD s 13 0)
-  data-short h a c =
-      let f = short-length (getD s 13 0) c in
-      record {
-        place = ap (λ (l : List ℕ). 12 + length (0x36 ∷ l)) (sym f);
-        size =
-            drop-cons s 12 0 (omega arith)
-            ∙ (λ i. a i ∷ (drop-cons s 13 0 (omega arith) ∙ ap (λ (l : List ℕ). l ++ drop 14 s) (sym f)) i);
-      }
+      pub bearer-other : not b ≡ true → Hears (borne d x st (drop at s)) s Silence
+      bearer-other q = bearer-unfit (proper-sized ∙ not-true b q)
 
-  pub data-long : 15 ≤ length s → getD s 12 0 ≡ 0x36 → getD s 13 0 ≡ 0x81 → 128 ≤ getD s 14 0 → Data s 15 (getD s 14 0)
-  data-long h a g c =
-      let f = long-length (getD s 14 0) c in
-      record {
-        place = ap (λ (l : List ℕ). 12 + length (0x36 ∷ l)) (sym f);
-        size =
-            drop-cons s 12 0 (omega arith)
-            ∙ (λ i. a i ∷ (drop-cons s 13 0 (omega arith) ∙ (λ j. g j ∷ drop-cons s 14 0 (omega arith) j) ∙ ap (λ (l : List ℕ). l ++ drop 15 s) (sym f)) i);
-      }
+      bearer-fits :
+          let g = pairIn (valueAt (walk (drop (next .at) s) .objects) 0) in
+          not b ≡ false → borne d x st (drop at s) ≡
+          checked (leb 1 g && leb g 1500) (unflagged 0x39 (pairBytes g) ∷ []) (drop (next .at) s) (record { details = d; result = done x (opened st (bearerIn v) g) })
+      bearer-fits fits =
+          bearer-on ∙ step-on (object-there e m .holds) (named (omega arith)) _ _ _ (sized-proper v (omega (arith, value-long s at 0x35 false m e)) .1)
+          ∙ rw (proper-sized ∙ not-false b fits)
 
-  -- the form has at least five bytes
-  pub received-long : (v : List ℕ) (left : ℕ) → drop 12 s ≡ receivedForm v left → length s < 15 → ⊥
-  received-long v left e h =
-      let z = ap length e in
-      let y = length-drop 12 s in
-      let a = length-append (lengthBytes (length v)) (v ++ (0x37 ∷ 0x01 ∷ left ∷ [])) in
-      let c = length-append v (0x37 ∷ 0x01 ∷ left ∷ []) in
-      omega (arith, length-some (length v) [])
+      module _ (fits : not b ≡ false) {q : Two} (w : Double q s (next .at) 0x39 false) where
+        pub grant-missed : q ≡ two.Not → Hears (borne d x st (drop at s)) s Silence
+        unfolding pairBytes
+        grant-missed c = hears-as (bearer-fits fits) (silent _ _ _ _ (λ _ o. pair-missed c w .never _ _ refl o))
 
-  -- no other first byte of a length, and no longer form
-  pub no-length : (v : List ℕ) (left : ℕ) → drop 12 s ≡ receivedForm v left → 128 ≤ getD s 13 0 → (getD s 13 0 ≡ 0x81 → ⊥) → ⊥
-  no-length v left e =
-      subst (λ (k : ℕ). 128 ≤ k → (k ≡ 0x81 → ⊥) → ⊥) (sym (at-place s (receivedForm v left) 12 1 e)) (no-form (length v) (v ++ (0x37 ∷ 0x01 ∷ left ∷ [])))
+        module _ {a b₂ : ℕ} {end : Cursor} (c : q ≡ two.Bytes a b₂ end) {g : ℕ} (p : (g ≡ pairIn (a ∷ b₂ ∷ [])) × (pairBytes g ≡ a ∷ b₂ ∷ [])) where
+          grant-on : borne d x st (drop at s) ≡ checked (leb 1 g && leb g 1500) [] (drop (end .at) s) (record { details = d; result = done x (opened st (bearerIn v) g) })
+          unfolding valueAt
+          grant-on = let h₂ = pair-there c w in bearer-fits fits ∙ rw (h₂ .walked) (rw (← p .0) (step-on h₂ (named (omega arith)) _ _ _ (p .1)))
 
-  pub not-shortest : (v : List ℕ) (left : ℕ) → drop 12 s ≡ receivedForm v left → getD s 13 0 ≡ 0x81 → getD s 14 0 < 128 → ⊥
-  not-shortest v left e f h =
-      no-longer (length v) (v ++ (0x37 ∷ 0x01 ∷ left ∷ [])) (sym (at-place s (receivedForm v left) 12 1 e) ∙ f)
-      (subst (λ (k : ℕ). k < 128) (at-place s (receivedForm v left) 12 2 e) h)
+          pub grant-low : g < 1 → Hears (borne d x st (drop at s)) s Silence
+          grant-low o = hears-as grant-on (silent _ _ _ _ (λ t _. omega (arith, leb-true 1 g (both-left _ _ t))))
 
-  -- the data that stands there is no other
-  module _ (start n : ℕ) (p : Data s start n) (v : List ℕ) (left : ℕ) (e : drop 12 s ≡ receivedForm v left) where
-    both-forms : lengthBytes n ++ drop start s ≡ lengthBytes (length v) ++ (v ++ (0x37 ∷ 0x01 ∷ left ∷ []))
-    both-forms = ap (λ (l : List ℕ). drop 1 l) (sym (p .size) ∙ e)
+          pub grant-high : 1500 < g → Hears (borne d x st (drop at s)) s Silence
+          grant-high o = hears-as grant-on (silent _ _ _ _ (λ t _. omega (arith, leb-true g 1500 (both-right (leb 1 g) _ t))))
 
-    pub data-size : n ≡ length v
-    data-size = same-length n (length v) (drop start s) _ both-forms
+          pub grant-fits :
+              {y : Heard} → 1 ≤ g → g ≤ 1500 →
+              Hears (checked true [] (drop (end .at) s) (record { details = d; result = resultOf (Done x (Opened (st .number) (st .link) start k g)) s })) s y → Hears (borne d x st (drop at s)) s y
+          unfolding resultOf furtherOf
+          grant-fits o u = hears-as (grant-on ∙ rw (le-leb 1 g o, le-leb g 1500 u))
 
-    pub data-rest : drop (start + n) s ≡ 0x37 ∷ 0x01 ∷ left ∷ []
-    data-rest =
-        sym (drop-drop n start s)
-        ∙ (λ i. drop (data-size i) (same-rest n (length v) (drop start s) (v ++ (0x37 ∷ 0x01 ∷ left ∷ [])) both-forms i))
-        ∙ drop-append-seam v (0x37 ∷ 0x01 ∷ left ∷ [])
+        pub grant-place : {a b₂ : ℕ} {end : Cursor} → q ≡ two.Bytes a b₂ end → length s ≤ end .at → start + k + 4 ≡ length s
+        grant-place c o = let h₂ = pair-there c w in omega (arith, object-there e m .ends, behind-two h₂, h₂ .within)
 
-    pub data-length : length s ≡ start + n + 3
-    data-length =
-        let z = ap length data-rest in
-        let y = length-drop (start + n) s in
-        omega arith
+-- the status of a channel that was opened
+module _ (d : Details) (x : ℕ) (s : List ℕ) (at : ℕ) {r : Shown} (m : ShownAt r s at) where
+  pub opened-missed : r ≡ shown.Not → Hears (followed d 0x40 x (drop at s)) s Silence
+  unfolding followed furtherIn furtherProper furtherObjects _⇒_else_
+  opened-missed e = silent _ _ _ _ (λ t q. status-hidden e m .never _ _ (both-left _ _ (both-left _ _ (both-left _ _ (both-left _ _ t)))) q)
 
-module _ (s : List ℕ) (d : Details) (x : ℕ) (b : Begun s d x) (t : d .kind ≡ 0x42) where
-  pub received-silent : ((v : List ℕ) (left : ℕ) → length v ≤ 237 → drop 12 s ≡ receivedForm v left → ⊥) → Hears s Silence
-  unfolding furtherProper member some-of
-  received-silent k = further-silent s d x b (λ g p e. only g (of-kind s d x b 0x42 t g p) e)
-    where
-      only : (g : own.Further) → furtherProper 0x42 g ≡ true → drop 12 s ≡ written (furtherObjects g) → ⊥
-      only nothing p e = false≢true p
-      only (opened st c n) p e = false≢true p
-      only (received v left) p e = k v left (leb-true (length v) 237 p) (e ∙ received-written v left)
-      only (sent room) p e = false≢true p
-      only (statuses ss) p e = false≢true p
+  module _ {n : ChannelNumber} {l : Link} {next : Cursor} (e : r ≡ shown.At n l next) where
+    abbrev st : Status
+    st = record { number = n; link = l }
 
-  pub received-heard :
-      (start n : ℕ) → Data s start n → n ≤ 237 → length s ≡ start + n + 3 → drop (start + n) s ≡ 0x37 ∷ 0x01 ∷ drop (start + n + 2) s →
-      Hears s (Heard d (Done x (Received start n (getD s (start + n + 2) 0))))
-  unfolding furtherProper furtherOf
-  received-heard start n p h l e =
-      let v = part start (start + n) s in
-      let left = getD s (start + n + 2) 0 in
-      let m : length v ≡ n = length-part start (start + n) s (omega arith) ∙ (let z : start + n - start ≡ n = omega arith in z) in
-      let u : drop (start + n + 2) s ≡ left ∷ [] =
-      drop-cons s (start + n + 2) 0 (omega arith) ∙ ap (λ (k : List ℕ). left ∷ k) (at-end s (suc (start + n + 2)) (omega arith)) in
-      let w : drop start s ≡ v ++ (0x37 ∷ 0x01 ∷ left ∷ []) =
-      sym (take-append-drop (start + n - start) (drop start s))
-      ∙ ap (λ (k : List ℕ). v ++ k) (drop-drop (start + n - start) start s ∙ ap (λ (k : ℕ). drop k s) (omega-sum start n) ∙ e ∙ ap (λ (k : List ℕ). 0x37 ∷ 0x01 ∷ k) u) in
-      further-heard s d x b (Received start n left) (subst (λ (j : ℕ). furtherProper j (received v left) ≡ true) (sym t) (le-leb (length v) 237 (omega arith)))
-      (p .size ∙ (λ i. (0x36 ∷ lengthBytes (sym m i)) ++ w i) ∙ sym (received-written v left)) (p .place, l)
-    where
-      omega-sum : (a k : ℕ) → a + (a + k - a) ≡ a + k
-      omega-sum a k = omega arith
+    opened-on :
+        let os = walk (drop (next .at) s) .objects in
+        let b = bearerIn (valueAt os 0) in
+        let g = pairIn (valueAt os 1) in
+        followed d 0x40 x (drop at s) ≡
+        checked (rising 0 (st ∷ []) && not (isDropped l) && bearerProper b && leb 1 g && leb g 1500) (statusObject n l ∷ unflagged 0x35 (bearerBytes b) ∷ unflagged 0x39 (pairBytes g) ∷ []) (drop at s)
+        (record { details = d; result = done x (opened st b g) })
+    unfolding followed furtherIn furtherProper furtherObjects _⇒_else_ valueAt statusObject
+    opened-on = let h = status-shown e m in rw (h .holds .walked) (rw (status-back n l (rising-first 0 st [] (h .numbered) .1)))
+
+    pub opened-dropped : l ≡ Dropped → Hears (followed d 0x40 x (drop at s)) s Silence
+    unfolding isDropped
+    opened-dropped q =
+        hears-as opened-on (silent _ _ _ _ (λ t _.
+        false≢true (sym (ap (λ (k : Link). not (isDropped k)) q) ∙ both-right (rising 0 (st ∷ [])) _ (both-left _ _ (both-left _ _ (both-left _ _ t))))))
+
+    pub opened-fits : {y : Heard} → isDropped l ≡ false → Hears (borne d x st (drop (next .at) s)) s y → Hears (followed d 0x40 x (drop at s)) s y
+    unfolding borne statusObject
+    opened-fits q = let h = status-shown e m in hears-as (opened-on ∙ step-on (h .holds) (named (omega arith)) _ _ _ refl ∙ rw (h .numbered, q))
+
+pub link-not-yet : {l : Link} → l ≡ NotYet → isDropped l ≡ false
+unfolding isDropped
+link-not-yet e = ap isDropped e
+
+pub link-established : {l : Link} → l ≡ Established → isDropped l ≡ false
+unfolding isDropped
+link-established e = ap isDropped e
+
+-- data, and the count of bytes still held
+module _ (d : Details) (x : ℕ) (s : List ℕ) (at : ℕ) {r : Value} (m : Holder r s at 0x36 false) where
+  pub data-missed : r ≡ value.Not → Hears (followed d 0x42 x (drop at s)) s Silence
+  unfolding followed furtherIn furtherProper furtherObjects _⇒_else_
+  data-missed e = silent _ _ _ _ (λ _ q. object-absent e m .never _ _ q)
+
+  module _ {start k : ℕ} {next : Cursor} (e : r ≡ value.At start k next) where
+    data-on :
+        let v = part start (start + k) s in
+        let n = getD (valueAt (walk (drop (next .at) s) .objects) 0) 0 0 in
+        followed d 0x42 x (drop at s) ≡ checked (leb k 237) (unflagged 0x37 (n ∷ []) ∷ []) (drop (next .at) s) (record { details = d; result = done x (received v n) })
+    unfolding followed furtherIn furtherProper furtherObjects _⇒_else_ valueAt
+    data-on =
+        let h = object-there e m .holds in
+        rw (h .walked) (step-on h (named (omega arith)) _ _ _ refl ∙ rw (value-long s at 0x36 false m e))
+
+    pub data-long : 237 < k → Hears (followed d 0x42 x (drop at s)) s Silence
+    data-long h = hears-as data-on (silent _ _ _ _ (λ t _. omega (arith, leb-true k 237 t)))
+
+    module _ (h : k ≤ 237) {q : One} (w : Single q s (next .at) 0x37 false) where
+      pub count-missed : q ≡ one.Not → Hears (followed d 0x42 x (drop at s)) s Silence
+      count-missed c = hears-as data-on (silent _ _ _ _ (λ _ o. byte-missed c w .never _ _ refl o))
+
+      module _ {y : ℕ} {end : Cursor} (c : q ≡ one.Byte y end) where
+        pub count-place : length s ≤ end .at → start + k + 3 ≡ length s
+        count-place o = let f = byte-there c w in omega (arith, object-there e m .ends, behind-one f, f .within)
+
+        pub count-fits :
+            {z : Heard} → Hears (checked true [] (drop (end .at) s) (record { details = d; result = resultOf (Done x (Received start k y)) s })) s z → Hears (followed d 0x42 x (drop at s)) s z
+        unfolding valueAt resultOf furtherOf
+        count-fits = let f = byte-there c w in hears-as (data-on ∙ rw (le-leb k 237 h) (rw (f .walked) (step-on f (named (omega arith)) _ _ _ refl)))
+
+-- room
+module _ (d : Details) (x : ℕ) (s : List ℕ) (at : ℕ) {r : One} (m : Single r s at 0x37 false) where
+  pub room-missed : r ≡ one.Not → Hears (followed d 0x43 x (drop at s)) s Silence
+  unfolding followed furtherIn furtherProper furtherObjects _⇒_else_
+  room-missed e = silent _ _ _ _ (λ _ q. byte-missed e m .never _ _ refl q)
+
+  pub room-fits :
+      {y : ℕ} {next : Cursor} {z : Heard} → r ≡ one.Byte y next →
+      Hears (checked true [] (drop (next .at) s) (record { details = d; result = resultOf (Done x (Sent y)) s })) s z → Hears (followed d 0x43 x (drop at s)) s z
+  unfolding followed furtherIn furtherProper furtherObjects _⇒_else_ valueAt resultOf furtherOf
+  room-fits e = let h = byte-there e m in hears-as (rw (h .walked) (step-on h (named (omega arith)) _ _ _ refl))
+
+-- nothing, and a type that is none of the seven
+module _ (d : Details) (x : ℕ) (s t : List ℕ) where
+  pub followed-as : {r : Heard} (k j : ℕ) → k ≡ j → Hears (followed d j x t) s r → Hears (followed d k x t) s r
+  followed-as {r} k j e h = subst (λ (i : ℕ). Hears (followed d i x t) s r) (sym e) h
+
+  pub plain-fits :
+      {r : Heard} (k : ℕ) → (k ≡ 0x02) ⊎ ((k ≡ 0x05) ⊎ (k ≡ 0x41)) → Hears (checked true [] t (record { details = d; result = resultOf (Done x Plain) s })) s r →
+      Hears (followed d k x t) s r
+  unfolding followed furtherIn furtherProper furtherObjects member some-of _⇒_else_ resultOf furtherOf
+  plain-fits k e h =
+      ⊎-elim (λ e₁. followed-as k 0x02 e₁ h) (⊎-elim (λ e₂. followed-as k 0x05 e₂ h) (λ e₃. followed-as k 0x41 e₃ h)) e
+
+  pub none-follows :
+      (k : ℕ) → (k ≡ 0x40 → ⊥) → (k ≡ 0x42 → ⊥) → (k ≡ 0x43 → ⊥) → (k ≡ 0x44 → ⊥) → ((k ≡ 0x02) ⊎ ((k ≡ 0x05) ⊎ (k ≡ 0x41)) → ⊥) →
+      Hears (followed d k x t) s Silence
+  unfolding followed furtherIn furtherProper furtherObjects member some-of _⇒_else_
+  none-follows k a b c f n =
+      let e : followed d k x t ≡ checked false [] t (record { details = d; result = done x nothing }) =
+      simp (ne-eqb k 0x40 a, ne-eqb k 0x42 b, ne-eqb k 0x43 c, ne-eqb k 0x44 f, ne-eqb k 0x02 (λ q. n (inl q)), ne-eqb k 0x05 (λ q. n (inr (inl q))), ne-eqb k 0x41 (λ q. n (inr (inr q)))) in
+      hears-as e (silent _ _ _ _ (λ q _. false≢true q))

@@ -1,7 +1,6 @@
-pub mod Results
-pub mod Agreeing
-pub mod Hearing
-pub mod Following
-pub mod Opening
+pub mod Standing
 pub mod Rising
+pub mod Following
+pub mod Results
+pub mod Ruling
 pub mod Settled

@@ -1,38 +1,40 @@
 -- The results that a type can have, case by case.
 -- Assumes nothing.
-use Prim.Native.Nat.{ℕ, _+_, _-_, _≤_, _<_}
+use Prim.Native.Nat.{ℕ, _≤_, _<_}
 use mathlib.Core.Path.{_≡_, refl, sym, ap, _∙_}
 use mathlib.Core.Logic.{_⊎_, inl, inr, ⊎-elim}
-use mathlib.Core.Bool.{Bool, true, false, not, _&&_, _||_}
+use mathlib.Core.Bool.{Bool, true, false, not, _||_}
 use mathlib.Core.List.{List, [], _∷_}
 use native.Mathlib.Omega.{arith}
-use lib.ListN.{getD}
 use lib.Dec.{eqb}
 use borrow.Author.Tests.{eq-eqb, ne-eqb, eqb-false}
-use Rattle.rules.specs.declared.ChannelNumber.{ChannelNumber}
 use Rattle.rules.specs.declared.Details.{Details}
-use Rattle.rules.specs.declared.Link.{Link}
-use Rattle.rules.specs.declared.Link.the-variants.{NotYet, Established, Dropped}
 use Rattle.rules.specs.Checks.{_⇒_else_, some-of, member, same}
 use Rattle.rules.specs.Table.{table, known}
-use Rattle.rules.specs.Written.{detailsBytes, statusBytes}
-use Rattle.rules.specs.Bench.{errorProper, causeProper, successProper}
+use Rattle.rules.specs.Written.{detailsBytes}
+use Rattle.rules.specs.Bench.{causeProper, successProper}
 use Rattle.rules.specs.Sound.{Each}
 use Rattle.rules.proofs.Laws.{stop, skip, either-left, either-right}
-
-abbrev first : List ℕ → ℕ
-first v = getD v 0 0
-
-abbrev second : List ℕ → ℕ
-second v = getD v 1 0
+use Rattle.bench_reader.proofs.Standing.{and-true}
 
 -- a test that cannot fail
 sure : (b : Bool) → (b ≡ false → ⊥) → true ≡ b
 sure true h = refl
 sure false h = absurd (h refl)
 
+-- one of two tests
+pub or-first : {r k : Bool} (z : Bool) → r ≡ k → r ≡ true → r ≡ k || z
+or-first z e f = f ∙ sym (ap (λ (b : Bool). b || z) (sym e ∙ f))
+
+pub or-second : {r k y z : Bool} → r ≡ k → r ≡ false → y ≡ z → y ≡ k || z
+or-second {z = z} e f g = g ∙ sym (ap (λ (b : Bool). b || z) (sym e ∙ f))
+
+pub or-false : (b : Bool) → b || false ≡ b
+or-false true = refl
+or-false false = refl
+
 -- a number that a list does not have, and one that differs from each of its numbers
-outside : (n : ℕ) (s : List ℕ) → member n s ≡ false → Each (λ (x : ℕ). n ≡ x → ⊥) s
+pub outside : (n : ℕ) (s : List ℕ) → member n s ≡ false → Each (λ (x : ℕ). n ≡ x → ⊥) s
 unfolding member some-of
 outside n [] e = tt
 outside n (x ∷ s) e = (eqb-false n x (either-left (eqb n x) (member n s) e), outside n s (either-right (eqb n x) (member n s) e))
@@ -61,51 +63,10 @@ module _ (t : ℕ) where
   unfolding known table
   unknown k h = missing t seven (λ e. k (inl e), (λ e. k (inr e), h))
 
--- details that are not all zero
-module _ (d : Details) where
-  pub number-given : (d .number ≡ 0 → ⊥) → false ≡ same (detailsBytes d) (0 ∷ 0 ∷ 0 ∷ [])
-  unfolding same detailsBytes
-  number-given h = simp (ne-eqb (d .number) 0 h)
-
-  pub kind-given : d .number ≡ 0 → (d .kind ≡ 0 → ⊥) → false ≡ same (detailsBytes d) (0 ∷ 0 ∷ 0 ∷ [])
-  unfolding same detailsBytes
-  kind-given e h = simp (eq-eqb (d .number) 0 e, ne-eqb (d .kind) 0 h)
-
-  pub qualifier-left : d .number ≡ 0 → d .kind ≡ 0 → eqb (d .qualifier) 0 ≡ same (detailsBytes d) (0 ∷ 0 ∷ 0 ∷ [])
-  unfolding same detailsBytes
-  qualifier-left e f = and-true (eqb (d .qualifier) 0) ∙ sym (simp (eq-eqb (d .number) 0 e, eq-eqb (d .kind) 0 f))
-    where
-      and-true : (b : Bool) → b ≡ b && true
-      and-true true = refl
-      and-true false = refl
-
--- each error, in the order of its number
-module _ (d : Details) (e : ℕ) where
-  pub error-30 : e ≡ 0x30 → known (d .kind) ≡ errorProper d e
-  unfolding errorProper _⇒_else_
-  error-30 q = simp q
-
-  pub error-31 : e ≡ 0x31 → not (known (d .kind)) ≡ errorProper d e
-  unfolding errorProper _⇒_else_
-  error-31 q = simp q
-
-  pub error-32 : e ≡ 0x32 → true ≡ errorProper d e
-  unfolding errorProper _⇒_else_
-  error-32 q = simp q
-
-  error-36 : e ≡ 0x36 → known (d .kind) || same (detailsBytes d) (0 ∷ 0 ∷ 0 ∷ []) ≡ errorProper d e
-  unfolding errorProper _⇒_else_
-  error-36 q = simp q
-
-  pub known-36 : e ≡ 0x36 → (r : Bool) → r ≡ known (d .kind) → r ≡ true → r ≡ errorProper d e
-  known-36 q r k h = h ∙ sym (ap (λ (b : Bool). b || same (detailsBytes d) (0 ∷ 0 ∷ 0 ∷ [])) (sym k ∙ h)) ∙ error-36 q
-
-  pub zero-36 : e ≡ 0x36 → (r z : Bool) → r ≡ known (d .kind) → r ≡ false → z ≡ same (detailsBytes d) (0 ∷ 0 ∷ 0 ∷ []) → z ≡ errorProper d e
-  zero-36 q r z k h f = f ∙ sym (ap (λ (b : Bool). b || same (detailsBytes d) (0 ∷ 0 ∷ 0 ∷ [])) (sym k ∙ h)) ∙ error-36 q
-
-  pub no-error : (e ≡ 0x30 → ⊥) → (e ≡ 0x31 → ⊥) → (e ≡ 0x32 → ⊥) → (e ≡ 0x36 → ⊥) → false ≡ errorProper d e
-  unfolding errorProper _⇒_else_
-  no-error a b c f = simp (ne-eqb e 0x30 a, ne-eqb e 0x31 b, ne-eqb e 0x32 c, ne-eqb e 0x36 f)
+-- details of which two are zero
+pub qualifier-left : (d : Details) → d .number ≡ 0 → d .kind ≡ 0 → eqb (d .qualifier) 0 ≡ same (detailsBytes d) (0 ∷ 0 ∷ 0 ∷ [])
+unfolding same detailsBytes
+qualifier-left d e f = sym (rw (eq-eqb (d .number) 0 e, eq-eqb (d .kind) 0 f, and-true))
 
 -- each success
 module _ (t r : ℕ) where
@@ -114,14 +75,6 @@ module _ (t r : ℕ) where
   success-plain h =
       sym (stop _ _ _ (sym (sure (eqb r 0 || eqb r 1) (λ e.
       omega (arith, eqb-false r 0 (either-left (eqb r 0) (eqb r 1) e), eqb-false r 1 (either-right (eqb r 0) (eqb r 1) e))))))
-
-  pub success-02 : r ≡ 0x02 → eqb t 0x42 ≡ successProper t r
-  unfolding successProper _⇒_else_
-  success-02 q = simp q
-
-  pub success-07 : r ≡ 0x07 → eqb t 0x40 ≡ successProper t r
-  unfolding successProper _⇒_else_
-  success-07 q = simp q
 
   pub no-success : 2 ≤ r → (r ≡ 0x02 → ⊥) → (r ≡ 0x07 → ⊥) → false ≡ successProper t r
   unfolding successProper _⇒_else_
@@ -161,24 +114,3 @@ module _ (t c : ℕ) where
   pub no-cause : Each (λ (x : ℕ). t ≡ x → ⊥) (0x40 ∷ 0x41 ∷ 0x42 ∷ 0x43 ∷ []) → false ≡ causeProper t c
   unfolding causeProper _⇒_else_
   no-cause h = simp (ne-eqb t 0x40 (h .0), ne-eqb t 0x41 (h .1 .0), ne-eqb t 0x42 (h .1 .1 .0), ne-eqb t 0x43 (h .1 .1 .1 .0))
-
--- the status in two bytes
-pub no-status :
-    (a b : ℕ) → (b ≡ 0 → 1 ≤ a → a ≤ 7 → ⊥) → (b ≡ 0 → 129 ≤ a → a ≤ 135 → ⊥) → (b ≡ 5 → 1 ≤ a → a ≤ 7 → ⊥) →
-    (n : ChannelNumber) (l : Link) → 1 ≤ n .0 → n .0 ≤ 7 → a ∷ b ∷ [] ≡ statusBytes n l → ⊥
-unfolding statusBytes
-no-status a b f g h n NotYet k m e = let p : a ≡ n .0 = ap first e in f (ap second e) (omega arith) (omega arith)
-no-status a b f g h n Established k m e = let p : a ≡ n .0 + 0x80 = ap first e in g (ap second e) (omega arith) (omega arith)
-no-status a b f g h n Dropped k m e = let p : a ≡ n .0 = ap first e in h (ap second e) (omega arith) (omega arith)
-
-pub as-not-yet : (a b : ℕ) → b ≡ 0 → a ∷ b ∷ [] ≡ statusBytes (record { 0 = a }) NotYet
-unfolding statusBytes
-as-not-yet a b e = ap (λ (x : ℕ). a ∷ x ∷ []) e
-
-pub as-established : (a b : ℕ) → b ≡ 0 → 129 ≤ a → a ∷ b ∷ [] ≡ statusBytes (record { 0 = a - 0x80 }) Established
-unfolding statusBytes
-as-established a b e h = let p : a ≡ a - 0x80 + 0x80 = omega arith in λ i. p i ∷ e i ∷ []
-
-pub as-dropped : (a b : ℕ) → b ≡ 5 → a ∷ b ∷ [] ≡ statusBytes (record { 0 = a }) Dropped
-unfolding statusBytes
-as-dropped a b e = ap (λ (x : ℕ). a ∷ x ∷ []) e

@@ -1,259 +1,269 @@
--- What follows the result of GET CHANNEL STATUS, status by status, and a result that nothing follows.
+-- Statuses: one at a place, and one behind the other, up to the end.
 -- Assumes nothing.
-use Prim.Native.Nat.{ℕ, zero, suc, _+_, _-_, _*_, _≤_, _<_}
+use Prim.Native.Nat.{ℕ, _+_, _-_, _*_, _≤_, _<_}
 use mathlib.Core.Path.{_≡_, refl, sym, ap, subst, _∙_}
-use mathlib.Core.Bool.{Bool, true, false, not, _&&_, _||_, false≢true}
+use mathlib.Core.Bool.{Bool, true, false, _&&_}
 use mathlib.Core.List.{List, [], _∷_, _++_, map}
 use native.Mathlib.Omega.{arith}
-use native.Mathlib.Nat.{add-zero}
-use lib.ListN.{length, getD, drop, length-drop}
-use lib.Seq.{drop-drop}
-use lib.Dec.{ltb, leb, eqb}
-use borrow.Author.Tests.{eqb-true, ltb-true, leb-true, lt-ltb, le-leb}
-use Rattle.octets.specs.Parts.{part}
+use lib.ListN.{length, drop, length-append, length-drop, drop-of-length-le}
+use lib.Seq.{drop-cons, drop-append-seam}
+use lib.Dec.{ltb, leb}
+use borrow.Author.Tests.{lt-ltb, le-ltb, le-leb, ltb-true, leb-true}
 use Rattle.rules.specs.declared.ChannelNumber.{ChannelNumber}
 use Rattle.rules.specs.declared.Details.{Details}
 use Rattle.rules.specs.declared.Link.{Link}
 use Rattle.rules.specs.declared.Link.the-variants.{NotYet, Established, Dropped}
-use Rattle.rules.specs.Checks.{_⇒_else_, some-of, member}
-use Rattle.rules.specs.Frames.{lengthBytes, objectBytes, written}
-use Rattle.rules.specs.Table.{table, known}
-use Rattle.rules.specs.State.{isDropped}
-use Rattle.rules.specs.Own as own
-use Rattle.rules.specs.Own.{Status, nothing, opened, received, sent, statuses}
-use Rattle.rules.specs.Written.{statusBytes, statusObject, statusObjects, furtherObjects}
-use Rattle.rules.specs.Bench.{bearerProper, rising, successProper, furtherProper, statusIn}
-use Rattle.rules.proofs.Laws.{branch, both-left, both-right, by-equal, each-member}
-use Rattle.rules.proofs.Forms.{status-back}
-use Rattle.bench_reader.specs.declared.Further.the-variants.{Plain, Statuses}
+use Rattle.rules.specs.Checks.{_⇒_else_, same}
+use Rattle.rules.specs.Frames.{Object, walk, lengthBytes, objectBytes, written}
+use Rattle.rules.specs.Reading.{pairIn}
+use Rattle.rules.specs.Own.{Status, statuses, done}
+use Rattle.rules.specs.Written.{pairBytes, statusBytes, statusObject, statusObjects, furtherObjects}
+use Rattle.rules.specs.Bench.{rising, furtherProper, valueAt, statusIn, statusesIn, furtherIn, told}
+use Rattle.rules.proofs.Laws.{stop, skip, both-left, both-right}
+use Rattle.rules.proofs.Forms.{same-refl, same-true, status-back}
+use Rattle.rules.proofs.Walks.{walk-end}
+use Rattle.octets.specs.Parts.{part}
+use Rattle.objects.specs.declared.Cursor.{Cursor}
+use Rattle.bench_reader.specs.declared.Two.{Two}
+use Rattle.bench_reader.specs.declared.Two.the-variants as two
+use Rattle.bench_reader.specs.declared.Shown.{Shown}
+use Rattle.bench_reader.specs.declared.Shown.the-variants as shown
+use Rattle.bench_reader.specs.declared.Further.the-variants.{Statuses}
 use Rattle.bench_reader.specs.declared.Verdict.the-variants.{Done}
-use Rattle.bench_reader.specs.declared.Heard.the-variants.{Response as Heard, Silence}
-use Rattle.bench_reader.specs.declared.Seen.the-variants.{Shows, Nothing}
-use Rattle.bench_reader.specs.Heard.{statusesAt, furtherOf}
-use Rattle.bench_reader.specs.Forms.{Begun, Hears, ShownAt}
-use Rattle.bench_reader.proofs.Hearing.{at-end, of-kind, behind-result, further-heard, further-silent}
-use Rattle.bench_reader.proofs.Opening.{status-form, behind-status, seen-long}
+use Rattle.bench_reader.specs.declared.Heard.{Heard}
+use Rattle.bench_reader.specs.declared.Heard.the-variants.{Response as Says, Silence}
+use Rattle.bench_reader.specs.Heard.{statusesAt, furtherOf, resultOf, heardOf}
+use Rattle.bench_reader.specs.Tails.{Holds, objectWith, Hidden, Double, Displays, ShownAt, checked, followed, listed, Hears}
+use Rattle.bench_reader.proofs.Standing.{named, same-object, pair-there, pair-missed, behind-two, never, silent, hears-as, same-step, step-on}
 
--- statuses as bytes
-abbrev pub told : List Status → List ℕ
-told ss = written (map (λ (t : Status). statusObject (t .number) (t .link)) ss)
+-- what was told, by the case that it is
+pub status-shown : {s : List ℕ} {at : ℕ} {r : Shown} {n : ChannelNumber} {l : Link} {next : Cursor} → r ≡ shown.At n l next → ShownAt r s at → Displays s at (record { number = n; link = l }) (next .at)
+status-shown {s} {at} e h = subst (λ (x : Shown). ShownAt x s at) e h
 
--- so many statuses, above a number, are all that stands; and no statuses above a number are
-pub record Good (k last : ℕ) (t : List ℕ) : Type 0 where
-  pub rise : rising last (statusesAt k t) ≡ true
-  pub is : t ≡ told (statusesAt k t)
+pub status-hidden : {s : List ℕ} {at : ℕ} {r : Shown} → r ≡ shown.Not → ShownAt r s at → Hidden s at
+status-hidden {s} {at} e h = subst (λ (x : Shown). ShownAt x s at) e h
 
-abbrev pub Bad : ℕ → List ℕ → Type 0
-Bad last t = (ss : List Status) → rising last ss ≡ true → t ≡ told ss → ⊥
+-- a status of a channel from 1 to 7
+pub rising-first : (last : ℕ) (st : Status) (ss : List Status) → rising last (st ∷ ss) ≡ true → (last < st .number .0) × (st .number .0 ≤ 7) × (rising (st .number .0) ss ≡ true)
+unfolding rising
+rising-first last st ss e =
+    let k = st .number .0 in
+    let within = both-left (ltb last k && leb k 7) (rising k ss) e in
+    (ltb-true last k (both-left (ltb last k) _ within), leb-true k 7 (both-right (ltb last k) _ within), both-right (ltb last k && leb k 7) _ e)
 
--- the first byte of a status is not 00
-first-some : (n : ChannelNumber) (l : Link) (u : List ℕ) → 1 ≤ n .0 → getD (objectBytes (statusObject n l) ++ u) 2 0 ≡ 0 → ⊥
+number-fair : (st : Status) → 1 ≤ st .number .0 → st .number .0 ≤ 7 → rising 0 (st ∷ []) ≡ true
+unfolding rising
+number-fair st l h = rw (lt-ltb 0 (st .number .0) l, le-leb (st .number .0) 7 h)
+
+two-long : (n : ChannelNumber) (l : Link) → length (statusBytes n l) ≡ 2
+unfolding statusBytes
+two-long n NotYet = refl
+two-long n Established = refl
+two-long n Dropped = refl
+
+-- the status that two bytes are, and bytes that are none
+module _ (s : List ℕ) (at : ℕ) {r : Two} (m : Double r s at 0x38 false) where
+  pub status-missed : r ≡ two.Not → Hidden s at
+  unfolding statusObject
+  status-missed e = record { never = λ st os _ q. pair-missed e m .never (statusBytes (st .number) (st .link)) os (two-long (st .number) (st .link)) q }
+
+  module _ {a b : ℕ} {next : Cursor} (e : r ≡ two.Bytes a b next) where
+    displays : (n : ChannelNumber) (l : Link) → 1 ≤ n .0 → n .0 ≤ 7 → a ∷ b ∷ [] ≡ statusBytes n l → Displays s at (record { number = n; link = l }) (next .at)
+    unfolding statusObject
+    displays n l low high q =
+        record { holds = subst (λ (v : List ℕ). Holds s at (objectWith 0x38 false v) (next .at)) q (pair-there e m); numbered = number-fair _ low high }
+
+    pub as-not-yet : b ≡ 0 → 1 ≤ a → a < 8 → Displays s at (record { number = record { 0 = a }; link = NotYet }) (next .at)
+    unfolding statusBytes
+    as-not-yet q low high = displays _ NotYet low (omega arith) (λ i. a ∷ q i ∷ [])
+
+    pub as-established : b ≡ 0 → 129 ≤ a → a < 136 → Displays s at (record { number = record { 0 = a - 0x80 }; link = Established }) (next .at)
+    unfolding statusBytes
+    as-established q low high =
+        let p : a ≡ a - 0x80 + 0x80 = omega arith in
+        displays _ Established (omega arith) (omega arith) (λ i. p i ∷ q i ∷ [])
+
+    pub as-dropped : b ≡ 5 → 1 ≤ a → a < 8 → Displays s at (record { number = record { 0 = a }; link = Dropped }) (next .at)
+    unfolding statusBytes
+    as-dropped q low high = displays _ Dropped low (omega arith) (λ i. a ∷ q i ∷ [])
+
+    pub no-status : (b ≡ 0 → 1 ≤ a → a ≤ 7 → ⊥) → (b ≡ 0 → 129 ≤ a → a ≤ 135 → ⊥) → (b ≡ 5 → 1 ≤ a → a ≤ 7 → ⊥) → Hidden s at
+    unfolding statusObject statusBytes
+    no-status f g h =
+        record {
+          never =
+              λ st os k q.
+              let p = rising-first 0 st [] k in
+              by (st .number) (st .link) (p .0) (p .1) (ap (λ (o : Object). o .value) (same-object (drop at s) _ os (named (omega arith)) q (pair-there e m .is)));
+        }
+      where
+        by : (n : ChannelNumber) (l : Link) → 1 ≤ n .0 → n .0 ≤ 7 → statusBytes n l ≡ a ∷ b ∷ [] → ⊥
+        by n NotYet low high q = let p : n .0 ≡ a = cc in f (sym (cc)) (omega arith) (omega arith)
+        by n Established low high q = let p : n .0 + 0x80 ≡ a = cc in g (sym (cc)) (omega arith) (omega arith)
+        by n Dropped low high q = let p : n .0 ≡ a = cc in h (sym (cc)) (omega arith) (omega arith)
+
+-- the statuses of objects, and the objects of statuses
+abbrev seen : List Object → List Status
+seen = map (λ (o : Object). statusIn (o .value))
+
+abbrev written-as : List Status → List Object
+written-as = map (λ (st : Status). statusObject (st .number) (st .link))
+
+-- none, or a list of them
+module _ (d : Details) (x : ℕ) (s : List ℕ) (at : ℕ) {r : Two} (m : Double r s at 0x38 false) where
+  pub statuses-missed : r ≡ two.Not → Hears (followed d 0x44 x (drop at s)) s Silence
+  unfolding followed furtherIn furtherProper furtherObjects _⇒_else_ statusObjects statusObject
+  statuses-missed e = silent _ _ _ _ (λ _ q. only (statusesIn (walk (drop at s) .objects)) q)
+    where
+      only : (ss : List Status) → drop at s ≡ written (statusObjects ss) → ⊥
+      only [] q = pair-missed e m .never _ _ refl q
+      only (st ∷ ss) q = pair-missed e m .never _ _ (two-long (st .number) (st .link)) q
+
+  module _ {a b : ℕ} {next : Cursor} (e : r ≡ two.Bytes a b next) where
+    pub statuses-inside : at ≤ length s
+    statuses-inside = let h = pair-there e m in omega (arith, behind-two h, h .within)
+
+    pub statuses-place : length s ≤ next .at → next .at + 0 ≡ length s
+    statuses-place o = let h = pair-there e m in omega (arith, h .within)
+
+    pub statuses-none :
+        {g : ℕ} {y : Heard} → (g ≡ pairIn (a ∷ b ∷ [])) × (pairBytes g ≡ a ∷ b ∷ []) → g ≡ 0 →
+        Hears (checked true [] (drop (next .at) s) (record { details = d; result = resultOf (Done x (Statuses (next .at) 0)) s })) s y → Hears (followed d 0x44 x (drop at s)) s y
+    unfolding followed furtherIn furtherProper furtherObjects _⇒_else_ statusesIn statusObjects valueAt same rising resultOf furtherOf statusesAt pairIn
+    statuses-none p q =
+        let h = pair-there e m in
+        let f : a ≡ 0 = omega (arith, p .0) in
+        let g : b ≡ 0 = omega (arith, p .0) in
+        hears-as (rw (h .walked) (rw (f, g) (step-on h (named (omega arith)) _ _ _ (λ i. sym f i ∷ sym g i ∷ []))))
+
+    statuses-listed : {y : Heard} → same (a ∷ b ∷ []) (0 ∷ 0 ∷ []) ≡ false → Hears (listed d x (drop at s)) s y → Hears (followed d 0x44 x (drop at s)) s y
+    unfolding followed furtherIn furtherProper furtherObjects _⇒_else_ statusesIn statusObjects valueAt listed
+    statuses-listed f = hears-as (rw (pair-there e m .walked) (rw f))
+
+    pub statuses-some :
+        {g : ℕ} {y : Heard} → (g ≡ pairIn (a ∷ b ∷ [])) × (pairBytes g ≡ a ∷ b ∷ []) → (g ≡ 0 → ⊥) → Hears (listed d x (drop at s)) s y → Hears (followed d 0x44 x (drop at s)) s y
+    unfolding pairIn
+    statuses-some p n =
+        statuses-listed (never _ (λ q. let z = same-true (a ∷ b ∷ []) (0 ∷ 0 ∷ []) q in
+        let o : a ≡ 0 = cc in
+        let u : b ≡ 0 = cc in
+        n (omega (arith, p .0))))
+
+-- the statuses from here on rise above a number, and are all that stands here
+unfoldable risen : ℕ → List ℕ → Bool
+risen last t = let ss = seen (walk t .objects) in rising last ss && same (written (written-as ss)) t
+
+module _ (s : List ℕ) (at last : ℕ) where
+  module _ {st : Status} {next : ℕ} (h : Displays s at st next) where
+    risen-here :
+        let ss = seen (walk (drop next s) .objects) in
+        risen last (drop at s) ≡ rising last (st ∷ ss) && same (written (written-as ss)) (drop next s)
+    unfolding risen statusObject
+    risen-here =
+        let n = st .number in
+        let l = st .link in
+        rw (h .holds .walked)
+        (rw (status-back n l (rising-first 0 st [] (h .numbered) .1))
+        (ap (λ (k : Bool). rising last (st ∷ seen (walk (drop next s) .objects)) && k)
+        (same-step (h .holds) (named (omega arith)) (statusBytes n l) _ ∙ rw (same-refl (statusBytes n l)))))
+
+    risen-on : last < st .number .0 → risen last (drop at s) ≡ risen (st .number .0) (drop next s)
+    unfolding risen rising
+    risen-on k = risen-here ∙ rw (lt-ltb last (st .number .0) k, le-leb (st .number .0) 7 (rising-first 0 st [] (h .numbered) .1))
+
+    risen-order : st .number .0 ≤ last → risen last (drop at s) ≡ false
+    unfolding rising
+    risen-order k = risen-here ∙ rw (le-ltb last (st .number .0) k)
+
+  risen-none : Hidden s at → at < length s → risen last (drop at s) ≡ false
+  unfolding risen written
+  risen-none h k =
+      never _ (λ e.
+      let ss = seen (walk (drop at s) .objects) in
+      only ss (both-left _ _ e) (sym (same-true (written (written-as ss)) (drop at s) (both-right (rising last ss) _ e))))
+    where
+      only : (ss : List Status) → rising last ss ≡ true → drop at s ≡ written (written-as ss) → ⊥
+      only [] r e = let z : _≡_ {A = ℕ} 0 1 = cc (drop-cons s at 0 k) in omega arith
+      only (st ∷ ss) r e = let f = rising-first last st ss r in h .never st (written-as ss) (number-fair st (omega (arith, f .0)) (f .1)) e
+
+  risen-end : length s ≤ at → risen last (drop at s) ≡ true
+  unfolding risen rising written same
+  risen-end h = rw (drop-of-length-le s h, walk-end)
+
+-- each status takes four bytes
+four : (n : ChannelNumber) (l : Link) → length (objectBytes (statusObject n l)) ≡ 4
 unfolding objectBytes statusObject statusBytes lengthBytes _⇒_else_
-first-some n NotYet u h e = omega (arith, e)
-first-some n Established u h e = omega (arith, e)
-first-some n Dropped u h e = omega (arith, e)
+four n NotYet = refl
+four n Established = refl
+four n Dropped = refl
 
--- a status at the front
+written-four : (ss : List Status) → length (written (written-as ss)) ≡ 4 * length ss
+unfolding written
+written-four [] = refl
+written-four (st ∷ ss) =
+    let e = length-append (objectBytes (statusObject (st .number) (st .link))) (written (written-as ss)) in
+    omega (arith, four (st .number) (st .link), written-four ss)
+
 status-in : (n : ChannelNumber) (l : Link) (u : List ℕ) → n .0 ≤ 7 → statusIn (part 2 4 (objectBytes (statusObject n l) ++ u)) ≡ record { number = n; link = l }
 unfolding objectBytes statusObject statusBytes lengthBytes _⇒_else_
 status-in n NotYet u h = status-back n NotYet h
 status-in n Established u h = status-back n Established h
 status-in n Dropped u h = status-back n Dropped h
 
-rising-parts : (last : ℕ) (st : Status) (ss : List Status) → rising last (st ∷ ss) ≡ true → (last < st .number .0) × (st .number .0 ≤ 7) × (rising (st .number .0) ss ≡ true)
-unfolding rising
-rising-parts last st ss e =
-    let k = st .number .0 in
-    let within = both-left (ltb last k && leb k 7) (rising k ss) e in
-    (ltb-true last k (both-left (ltb last k) (leb k 7) within), leb-true k 7 (both-right (ltb last k) (leb k 7) within), both-right (ltb last k && leb k 7) (rising k ss) e)
-
-module _ (n : ChannelNumber) (l : Link) (last : ℕ) (t : List ℕ) (p : ShownAt (Shows n l) t) where
-  good-more : (k : ℕ) → last < n .0 → Good k (n .0) (drop 4 t) → Good (suc k) last t
-  unfolding statusesAt rising written
-  good-more k h g =
-      let st : Status = record { number = n; link = l } in
-      let q : statusIn (part 2 4 t) ≡ st = ap (λ (v : List ℕ). statusIn (part 2 4 v)) (p .2) ∙ status-in n l (drop 4 t) (p .1) in
-      record {
-        rise =
-            ap (λ (x : Status). rising last (x ∷ statusesAt k (drop 4 t))) q
-            ∙ (λ i. lt-ltb last (n .0) h i && le-leb (n .0) 7 (p .1) i && g .rise i);
-        is =
-            p .2 ∙ ap (λ (v : List ℕ). objectBytes (statusObject n l) ++ v) (g .is)
-            ∙ ap (λ (x : Status). objectBytes (statusObject (x .number) (x .link)) ++ told (statusesAt k (drop 4 t))) (sym q);
-      }
-
-  -- the same status stands first in any other list
-  same-first : (st : Status) (ss : List Status) → st .number .0 ≤ 7 → t ≡ told (st ∷ ss) → st .number .0 ≡ n .0
-  unfolding written
-  same-first st ss h e =
-      ap (λ (x : Status). x .number .0)
-      (sym (status-in (st .number) (st .link) (told ss) h) ∙ ap (λ (v : List ℕ). statusIn (part 2 4 v)) (sym e ∙ p .2) ∙ status-in n l (drop 4 t) (p .1))
-
-  bad-more : Bad (n .0) (drop 4 t) → Bad last t
-  unfolding written
-  bad-more k [] r e =
-      let z = ap length (sym e ∙ p .2 ∙ status-form n l (drop 4 t)) in
-      omega arith
-  bad-more k (st ∷ ss) r e =
-      let h = rising-parts last st ss r in
-      k ss (subst (λ (j : ℕ). rising j ss ≡ true) (same-first st ss (h .1) e) (h .2))
-      (ap (λ (v : List ℕ). drop 4 v) e ∙ behind-status (st .number) (st .link) (told ss))
-
-  bad-order : n .0 ≤ last → Bad last t
-  unfolding written
-  bad-order k [] r e =
-      let z = ap length (sym e ∙ p .2 ∙ status-form n l (drop 4 t)) in
-      omega arith
-  bad-order k (st ∷ ss) r e = let h = rising-parts last st ss r in omega (arith, h .0, same-first st ss (h .1) e)
-
-bad-none : (last : ℕ) (t : List ℕ) → 1 ≤ length t → ShownAt Nothing t → Bad last t
-unfolding written
-bad-none last t h p [] r e = let z = ap length e in omega arith
-bad-none last t h p (st ∷ ss) r e =
-    let q = rising-parts last st ss r in
-    p (st .number) (st .link) (told ss) (let w = q .0 in omega arith) (q .1) e
+statuses-back : (last : ℕ) (ss : List Status) → rising last ss ≡ true → statusesAt (length ss) (written (written-as ss)) ≡ ss
+unfolding statusesAt written
+statuses-back last [] e = refl
+statuses-back last (st ∷ ss) e =
+    let n = st .number in
+    let f = rising-first last st ss e in
+    let u = written (written-as ss) in
+    λ i.
+    status-in n (st .link) u (f .1) i
+    ∷ (ap (statusesAt (length ss)) (ap (λ (k : ℕ). drop k (objectBytes (statusObject n (st .link)) ++ u)) (sym (four n (st .link))) ∙ drop-append-seam (objectBytes (statusObject n (st .link))) u) ∙ statuses-back (n .0) ss (f .2)) i
 
 -- at every turn: so many statuses stand before here, the last of which has this number
-pub record Rises (s : List ℕ) (at count last : ℕ) : Type 0 where
-  pub place : at ≡ 12 + 4 * count
+pub record Rises (s : List ℕ) (start at count last : ℕ) : Type 0 where
+  pub place : start + 4 * count ≡ at
   pub within : at ≤ length s
-  good : (k : ℕ) → Good k last (drop at s) → Good (count + k) 0 (drop 12 s)
-  bad : Bad last (drop at s) → Bad 0 (drop 12 s)
+  test : risen 0 (drop start s) ≡ risen last (drop at s)
 
-module _ (s : List ℕ) where
-  pub rises-none : 12 ≤ length s → Rises s 12 0 0
-  rises-none h =
+pub rises-none : {s : List ℕ} {start : ℕ} → start ≤ length s → Rises s start start 0 0
+rises-none h = record { place = omega arith; within = h; test = refl }
+
+module _ (d : Details) (x : ℕ) (s : List ℕ) {start at count last : ℕ} (r : Rises s start at count last) where
+  rising-silent : risen last (drop at s) ≡ false → Hears (listed d x (drop start s)) s Silence
+  unfolding listed checked risen heardOf
+  rising-silent e = record { is = skip _ _ _ (r .test ∙ e); at = tt }
+
+  pub rising-hidden : {y : Shown} → ShownAt y s at → y ≡ shown.Not → at < length s → Hears (listed d x (drop start s)) s Silence
+  rising-hidden m e k = rising-silent (risen-none s at last (status-hidden e m) k)
+
+  pub rising-order : {y : Shown} {n : ChannelNumber} {l : Link} {next : Cursor} → ShownAt y s at → y ≡ shown.At n l next → n .0 ≤ last → Hears (listed d x (drop start s)) s Silence
+  rising-order m e k = rising-silent (risen-order s at last (status-shown e m) k)
+
+  pub rising-heard : length s ≤ at → Hears (listed d x (drop start s)) s (Says d (Done x (Statuses start count)))
+  unfolding listed checked risen heardOf resultOf furtherOf
+  rising-heard h =
+      let ss = seen (walk (drop start s) .objects) in
+      let t = r .test ∙ risen-end s at last h in
+      let e = sym (same-true (written (written-as ss)) (drop start s) (both-right (rising 0 ss) _ t)) in
+      let l = sym (written-four ss) ∙ sym (ap length e) ∙ length-drop start s in
+      let n : length ss ≡ count = omega (arith, r .place, r .within) in
+      let all : ss ≡ statusesAt count (drop start s) = sym (statuses-back 0 ss (both-left _ _ t)) ∙ (λ i. statusesAt (n i) (sym e i)) in
       record {
-        place = refl;
-        within = h;
-        good = λ k g. subst (λ (j : ℕ). Good j 0 (drop 12 s)) (let z : k ≡ 0 + k = omega arith in z) g;
-        bad = λ b. b;
+        is = stop _ _ _ t ∙ ap (λ (k : List Status). told (record { details = d; result = done x (statuses k) })) all;
+        at = omega (arith, r .place, r .within);
       }
 
-  module _ (at count last : ℕ) (r : Rises s at count last) where
-    module _ (n : ChannelNumber) (l : Link) (p : ShownAt (Shows n l) (drop at s)) where
-      pub seen-room : at + 4 ≤ length s
-      seen-room = seen-long s n l at (drop 4 (drop at s)) (r .within) (p .2)
+module _ (s : List ℕ) (at : ℕ) {y : Shown} {n : ChannelNumber} {l : Link} {next : Cursor} (m : ShownAt y s at) (e : y ≡ shown.At n l next) where
+  pub nearer : length s - next .at < length s - at
+  nearer = let h = status-shown e m .holds in omega (arith, h .behind, h .within, four n l)
 
-      pub rises-more : last < n .0 → Rises s (at + 4) (count + 1) (n .0)
-      rises-more h =
-          let d = drop-drop 4 at s in
-          let a = r .place in
-          record {
-            place = omega arith;
-            within = seen-room;
-            good =
-                λ k g.
-                let z : count + suc k ≡ count + 1 + k = omega arith in
-                subst (λ (j : ℕ). Good j 0 (drop 12 s)) z
-                (r .good (suc k) (good-more n l last (drop at s) p k h (subst (Good k (n .0)) (sym d) g)));
-            bad = λ b. r .bad (bad-more n l last (drop at s) p (subst (Bad (n .0)) (sym d) b));
-          }
-
-      pub not-rising : n .0 ≤ last → Bad 0 (drop 12 s)
-      not-rising h = r .bad (bad-order n l last (drop at s) p h)
-
-    pub nothing-seen : at < length s → ShownAt Nothing (drop at s) → Bad 0 (drop 12 s)
-    nothing-seen h p = r .bad (bad-none last (drop at s) (let z = length-drop at s in omega arith) p)
-
-    pub all-seen : length s ≤ at → Good count 0 (drop 12 s)
-    unfolding rising statusesAt written
-    all-seen h =
-        let w = r .within in
-        let e : drop at s ≡ [] = at-end s at (omega arith) in
-        subst (λ (j : ℕ). Good j 0 (drop 12 s)) (add-zero count) (r .good 0 (record { rise = refl; is = e }))
-
-module _ (s : List ℕ) (d : Details) (x : ℕ) (b : Begun s d x) where
-  module _ (t : d .kind ≡ 0x44) where
-    statuses-silent : ((ss : List Status) → rising 0 ss ≡ true → drop 12 s ≡ written (statusObjects ss) → ⊥) → Hears s Silence
-    unfolding furtherProper furtherObjects member some-of
-    statuses-silent k = further-silent s d x b (λ g p e. only g (of-kind s d x b 0x44 t g p) e)
-      where
-        only : (g : own.Further) → furtherProper 0x44 g ≡ true → drop 12 s ≡ written (furtherObjects g) → ⊥
-        only nothing p e = false≢true p
-        only (opened st c n) p e = false≢true p
-        only (received v left) p e = false≢true p
-        only (sent room) p e = false≢true p
-        only (statuses ss) p e = k ss p e
-
-    statuses-heard :
-        (k : ℕ) → rising 0 (statusesAt k (drop 12 s)) ≡ true → drop 12 s ≡ written (statusObjects (statusesAt k (drop 12 s))) →
-        12 + 4 * k ≤ length s → Hears s (Heard d (Done x (Statuses k)))
-    unfolding furtherProper furtherOf furtherObjects
-    statuses-heard k r e h =
-        further-heard s d x b (Statuses k) (subst (λ (j : ℕ). furtherProper j (statuses (statusesAt k (drop 12 s))) ≡ true) (sym t) r) e h
-
-    -- 38 02 00 00 alone, or with bytes behind it
-    pub none-heard : drop 12 s ≡ 0x38 ∷ 0x02 ∷ 0x00 ∷ 0x00 ∷ drop 16 s → length s ≡ 16 → Hears s (Heard d (Done x (Statuses 0)))
-    unfolding statusesAt rising statusObjects written objectBytes lengthBytes _⇒_else_
-    none-heard e l = statuses-heard 0 refl (e ∙ ap (λ (v : List ℕ). 0x38 ∷ 0x02 ∷ 0x00 ∷ 0x00 ∷ v) (at-end s 16 l)) (omega (arith, l))
-
-    pub none-silent : drop 12 s ≡ 0x38 ∷ 0x02 ∷ 0x00 ∷ 0x00 ∷ drop 16 s → (length s ≡ 16 → ⊥) → Hears s Silence
-    unfolding statusObjects written objectBytes lengthBytes _⇒_else_
-    none-silent e n = statuses-silent only
-      where
-        only : (ss : List Status) → rising 0 ss ≡ true → drop 12 s ≡ written (statusObjects ss) → ⊥
-        only [] r f = n (behind-result s d x b 4 _ refl f)
-        only (st ∷ ss) r f =
-            first-some (st .number) (st .link) (told ss) (rising-parts 0 st ss r .0)
-            (ap (λ (v : List ℕ). getD v 2 0) (sym f ∙ e))
-
-    -- statuses, one behind the other
-    module _ (n : (u : List ℕ) → drop 12 s ≡ 0x38 ∷ 0x02 ∷ 0x00 ∷ 0x00 ∷ u → ⊥) where
-      pub some-silent : ((st : Status) (ss : List Status) → rising 0 (st ∷ ss) ≡ true → drop 12 s ≡ told (st ∷ ss) → ⊥) → Hears s Silence
-      unfolding statusObjects written objectBytes lengthBytes _⇒_else_
-      some-silent k = statuses-silent only
-        where
-          only : (ss : List Status) → rising 0 ss ≡ true → drop 12 s ≡ written (statusObjects ss) → ⊥
-          only [] r f = n [] f
-          only (st ∷ ss) r f = k st ss r f
-
-      pub empty-silent : (at count last : ℕ) → Rises s at count last → count ≡ 0 → length s ≤ at → Hears s Silence
-      unfolding written
-      empty-silent at count last r c h =
-          let w = r .place in
-          let l : length s ≡ 12 = omega (arith, b .headed .long) in
-          some-silent (λ st ss q f.
-          let z = ap length (sym (at-end s 12 l) ∙ f ∙ status-form (st .number) (st .link) (told ss)) in
-          omega arith)
-
-    pub some-heard : (k : ℕ) → (k ≡ 0 → ⊥) → Good k 0 (drop 12 s) → 12 + 4 * k ≤ length s → Hears s (Heard d (Done x (Statuses k)))
-    unfolding statusesAt statusObjects
-    some-heard zero n g h = absurd (n refl)
-    some-heard (suc k) n g h = statuses-heard (suc k) (g .rise) (g .is) h
-
-  -- a result that nothing follows
-  known-success : successProper (d .kind) x ≡ true → known (d .kind) ≡ true
-  unfolding successProper known table member some-of
-  known-success =
-      branch P (eqb x 0x00 || eqb x 0x01) _ _ (λ _ p. p) (λ _.
-      branch P (eqb x 0x02) _ _ (λ _ p. by-equal (λ (k : ℕ). known k ≡ true) (d .kind) 0x42 p refl) (λ _.
-      branch P (eqb x 0x07) _ _ (λ _ p. by-equal (λ (k : ℕ). known k ≡ true) (d .kind) 0x40 p refl) (λ _ p. absurd (false≢true p))))
-    where
-      P : Bool → Type 0
-      P v = v ≡ true → known (d .kind) ≡ true
-
-  module _ (k₄₀ : d .kind ≡ 0x40 → ⊥) (k₄₂ : d .kind ≡ 0x42 → ⊥) (k₄₃ : d .kind ≡ 0x43 → ⊥) (k₄₄ : d .kind ≡ 0x44 → ⊥) where
-    pub plain-silent : (length s ≡ 12 → ⊥) → Hears s Silence
-    unfolding furtherProper furtherObjects written
-    plain-silent n = further-silent s d x b only
-      where
-        only : (g : own.Further) → furtherProper (d .kind) g ≡ true → drop 12 s ≡ written (furtherObjects g) → ⊥
-        only nothing p e = n (behind-result s d x b 0 _ refl e)
-        only (opened st c m) p e =
-            k₄₀ (eqb-true (d .kind) 0x40 (both-left (eqb (d .kind) 0x40) (rising 0 (st ∷ [])) (both-left _ (not (isDropped (st .link))) (both-left _ (bearerProper c) (both-left _ (leb 1 m) (both-left _ (leb m 1500) p))))))
-        only (received v left) p e = k₄₂ (eqb-true (d .kind) 0x42 (both-left (eqb (d .kind) 0x42) _ p))
-        only (sent room) p e = k₄₃ (eqb-true (d .kind) 0x43 p)
-        only (statuses ss) p e = k₄₄ (eqb-true (d .kind) 0x44 (both-left (eqb (d .kind) 0x44) _ p))
-
-    pub plain-heard : length s ≡ 12 → Hears s (Heard d (Done x Plain))
-    unfolding furtherProper furtherOf furtherObjects written known table member some-of
-    plain-heard l =
-        further-heard s d x b Plain
-        (each-member P (d .kind) (0x02 ∷ 0x05 ∷ 0x40 ∷ 0x41 ∷ 0x42 ∷ 0x43 ∷ 0x44 ∷ [])
-        (λ _ _ _ _. refl, (λ _ _ _ _. refl, (λ h _ _ _. absurd (h refl), (λ _ _ _ _. refl, (λ _ h _ _. absurd (h refl), (λ _ _ h _. absurd (h refl), (λ _ _ _ h. absurd (h refl), tt)))))))
-        (known-success (b .success)) k₄₀ k₄₂ k₄₃ k₄₄)
-        (at-end s 12 l) tt
-      where
-        P : ℕ → Type 0
-        P k = (k ≡ 0x40 → ⊥) → (k ≡ 0x42 → ⊥) → (k ≡ 0x43 → ⊥) → (k ≡ 0x44 → ⊥) → furtherProper k nothing ≡ true
+  pub rises-more : {start count last : ℕ} → Rises s start at count last → last < n .0 → Rises s start (next .at) (count + 1) (n .0)
+  rises-more {last = last} r k =
+      let h = status-shown e m in
+      record {
+        place = omega (arith, r .place, h .holds .behind, four n l);
+        within = h .holds .within;
+        test = r .test ∙ risen-on s at last h k;
+      }

@@ -1,11 +1,11 @@
 -- The contract of the reader settles its outcome.
 -- Assumes nothing.
-use Prim.Native.Nat.{ℕ, zero, suc, _+_, _-_}
+use Prim.Native.Nat.{ℕ, zero, suc, _+_, _-_, _*_}
 use mathlib.Core.Path.{_≡_, refl, sym, ap, _∙_}
-use mathlib.Core.List.{List, _∷_}
+use mathlib.Core.List.{List}
 use native.Mathlib.Omega.{arith}
-use lib.ListN.{length, drop}
-use Rattle.rules.specs.Frames.{lengthBytes}
+use lib.ListN.{length, drop, length-drop}
+use Rattle.rules.specs.Reading.{bearerIn}
 use Rattle.rules.specs.Own as own
 use Rattle.rules.specs.Own.{Result, error, problem, done, opened, received, sent, statuses, nothing}
 use Rattle.rules.specs.Bench.{Told, told, untold}
@@ -28,26 +28,33 @@ unfolding statusesAt
 count-back zero t = refl
 count-back (suc k) t = ap suc (count-back k (drop 4 t))
 
--- what the code tells, read back from what was told and the number of bytes: four stand behind a bearer
+-- what the code tells, read back from what was told and the number of bytes: four stand behind a bearer, three behind data
 further-in : own.Further → ℕ → Further
 further-in nothing n = Plain
-further-in (opened st b g) n = Opened (st .number) (st .link) 18 (n - 22) g
-further-in (received v left) n = Received (12 + length (0x36 ∷ lengthBytes (length v))) (length v) left
+further-in (opened st b g) n = let k = length (b .parameters) + 1 in Opened (st .number) (st .link) (n - 4 - k) k g
+further-in (received v left) n = Received (n - 3 - length v) (length v) left
 further-in (sent room) n = Sent room
-further-in (statuses ss) n = Statuses (length ss)
+further-in (statuses ss) n = Statuses (n - 4 * length ss) (length ss)
 
 further-back : (f : Further) (s : List ℕ) → FurtherAt f s → further-in (furtherOf f s) (length s) ≡ f
-unfolding further-in furtherOf
+unfolding further-in furtherOf bearerIn
 further-back Plain s h = refl
 further-back (Opened n link start len grant) s h =
-    let e : length s - 22 ≡ len = omega (arith, h .0, h .1) in
-    λ i. Opened n link (sym (h .0) i) (e i) grant
+    let v = part start (start + len) s in
+    let all = length-part start (start + len) s (omega (arith, h .1)) in
+    let k : length (drop 1 v) + 1 ≡ len = omega (arith, h .0, all, length-drop 1 v) in
+    let a : length s - 4 - len ≡ start = omega (arith, h .1) in
+    λ i. Opened n link ((ap (λ (m : ℕ). length s - 4 - m) k ∙ a) i) (k i) grant
 further-back (Received start len left) s h =
-    let size = length-part start (start + len) s (omega (arith, h .1)) in
-    let e : length (part start (start + len) s) ≡ len = omega (arith, size) in
-    ap (λ (k : ℕ). Received (12 + length (0x36 ∷ lengthBytes k)) k left) e ∙ ap (λ (k : ℕ). Received k len left) (sym (h .0))
+    let all = length-part start (start + len) s (omega (arith, h)) in
+    let k : length (part start (start + len) s) ≡ len = omega (arith, all) in
+    let a : length s - 3 - len ≡ start = omega (arith, h) in
+    λ i. Received ((ap (λ (m : ℕ). length s - 3 - m) k ∙ a) i) (k i) left
 further-back (Sent room) s h = refl
-further-back (Statuses count) s h = ap Statuses (count-back count (drop 12 s))
+further-back (Statuses start count) s h =
+    let k = count-back count (drop start s) in
+    let a : length s - 4 * count ≡ start = omega (arith, h) in
+    λ i. Statuses ((ap (λ (m : ℕ). length s - 4 * m) k ∙ a) i) (k i)
 
 verdict-in : Result → ℕ → Verdict
 verdict-in (error e) n = Error e
@@ -73,4 +80,4 @@ heard-alike : (x y : Heard) (s : List ℕ) → heardOf x s ≡ heardOf y s → P
 heard-alike x y s e h k = sym (heard-back x s h) ∙ ap (λ (t : Told). heard-in t (length s)) e ∙ heard-back y s k
 
 pub read-settled : Determined 1 read-kinds.ps read-kinds.r read-reads.Pre read-reads.Post
-read-settled κs a _ x y v w p q = (heard-alike x y _ (sym (p .0) ∙ q .0) (p .1) (q .1), refl)
+read-settled κs a _ x y v w p q = (heard-alike x y _ (sym (p .is) ∙ q .is) (p .at) (q .at), refl)

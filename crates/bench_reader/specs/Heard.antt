@@ -4,7 +4,6 @@ use mathlib.Core.Path.{_≡_}
 use mathlib.Core.List.{List, [], _∷_}
 use lib.ListN.{length, drop}
 use Rattle.rules.specs.declared.Refusal.the-variants.{NoResponse}
-use Rattle.rules.specs.Frames.{lengthBytes}
 use Rattle.rules.specs.Reading.{bearerIn}
 use Rattle.rules.specs.Own as own
 use Rattle.rules.specs.Own.{Status, Result, error, problem, done, opened, received, sent, statuses, nothing}
@@ -28,7 +27,7 @@ furtherOf Plain s = nothing
 furtherOf (Opened n link start len grant) s = opened (record { number = n; link = link }) (bearerIn (part start (start + len) s)) grant
 furtherOf (Received start len left) s = received (part start (start + len) s) left
 furtherOf (Sent room) s = sent room
-furtherOf (Statuses count) s = statuses (statusesAt count (drop 12 s))
+furtherOf (Statuses start count) s = statuses (statusesAt count (drop start s))
 
 unfoldable pub resultOf : Verdict → List ℕ → Result
 resultOf (Error e) s = error e
@@ -40,13 +39,13 @@ unfoldable pub heardOf : Heard → List ℕ → Told
 heardOf (Response d v) s = told (record { details = d; result = resultOf v s })
 heardOf Silence s = untold NoResponse
 
--- where the data stands, and that the bytes end with what follows it: the bearer behind the status, the data behind its tag and length
+-- where the data stands: the bytes end with what follows it, a grant of four bytes, a count of three, and nothing behind the statuses
 abbrev pub FurtherAt : Further → List ℕ → Type 0
 FurtherAt Plain s = Unit {0}
-FurtherAt (Opened n link start len grant) s = (start ≡ 18) × (length s ≡ start + len + 4)
-FurtherAt (Received start len left) s = (start ≡ 12 + length (0x36 ∷ lengthBytes len)) × (length s ≡ start + len + 3)
+FurtherAt (Opened n link start len grant) s = (1 ≤ len) × (start + len + 4 ≡ length s)
+FurtherAt (Received start len left) s = start + len + 3 ≡ length s
 FurtherAt (Sent room) s = Unit {0}
-FurtherAt (Statuses count) s = 12 + 4 * count ≤ length s
+FurtherAt (Statuses start count) s = start + 4 * count ≡ length s
 
 abbrev pub VerdictAt : Verdict → List ℕ → Type 0
 VerdictAt (Error e) s = Unit {0}

@@ -1,25 +1,30 @@
 // The bench's reader: a response from its one form, or silence.
+use objects::Cursor;
+use objects::Found;
 use rules::ChannelNumber;
 use rules::Details;
 use rules::Link;
 ghost use mathlib.Core.Path.{_≡_};
+ghost use mathlib.Core.Bool.{true};
 ghost use mathlib.Core.List.{[], _∷_};
-ghost use Prim.Native.Nat.{_≤_};
-ghost use lib.ListN.{length, getD, drop};
+ghost use Prim.Native.Nat.{_%_, _≤_};
+ghost use lib.ListN.{length, drop};
+ghost use lib.Dec.{leb};
 ghost use Rattle.rules.specs.Checks.{same};
 ghost use Rattle.rules.specs.Table.{known};
+ghost use Rattle.rules.specs.Reading.{pairIn};
 ghost use Rattle.rules.specs.Written.{pairBytes, detailsBytes};
 ghost use Rattle.rules.specs.Bench.{errorProper, causeProper, successProper, benchRead};
-ghost use Rattle.bench_reader.specs.Heard.{heardOf, PlacesAt};
-ghost use Rattle.bench_reader.specs.Forms.{StandsIf, HeadedIf, Headed, Begun, Hears, ShownBy, ShownAt, Bearing, Data};
+ghost use Rattle.bench_reader.specs.Heard.{resultOf, VerdictAt};
+ghost use Rattle.bench_reader.specs.Tails.{Tag, Misfit, Holder, Single, Double, ShownAt, sized, Hears, checked, resulted, followed, borne, listed};
 
-// What follows the result of a response. A bearer and data stand in the bytes that were read, at a place and so long; statuses from place 12 on, four bytes each.
+// What follows the result of a response. A bearer and data stand in the bytes that were read, from a place on and so long; statuses from a place on, four bytes each.
 pub enum Further {
     Plain,
     Opened(ChannelNumber, Link, usize, usize, u16),
     Received(usize, usize, u8),
     Sent(u8),
-    Statuses(usize),
+    Statuses(usize, usize),
 }
 
 // The result of a response: an error, a problem with its cause, or done, with what follows.
@@ -35,43 +40,71 @@ pub enum Heard {
     Silence,
 }
 
-// A status that was seen: a channel with its link, or nothing.
-enum Seen {
-    Shows(ChannelNumber, Link),
-    Nothing,
+// An object that was looked for: where its value starts, how long it is and the cursor behind it.
+enum Value {
+    At(usize, usize, Cursor),
+    Not,
 }
 
-// Whether a form stands in the bytes from `at` on.
-fn stands(s: &[u8], at: usize, form: &[u8]) -> bool
-    requires { ⌜ at ≤ length (now s) ⌝ }
-    ensures { λ r. ⌜ StandsIf r (now (s .entry)) at (now (form .entry)) ⌝ }
-{
-    if s.len() - at < form.len() {
-        return false;
-    }
-    let mut i: usize = 0;
-    while i < form.len() {
-        if s[at + i] != form[i] {
-            return false;
-        }
-        i += 1;
-    }
-    true
+// An object of one byte that was looked for: the byte and the cursor behind it.
+enum One {
+    Byte(u8, Cursor),
+    Not,
 }
 
-// Whether the bytes begin as every response does: 81 03 details, 82 02 82 81, 83.
-fn headed(s: &[u8]) -> bool
-    ensures { λ r. ⌜ HeadedIf r (now (s .entry)) ⌝ }
+// An object of two bytes that was looked for: the bytes and the cursor behind them.
+enum Two {
+    Bytes(u8, u8, Cursor),
+    Not,
+}
+
+// A status that was looked for: a channel with its link, and the cursor behind it.
+enum Shown {
+    At(ChannelNumber, Link, Cursor),
+    Not,
+}
+
+// The object at a cursor, if it has this tag.
+fn object_of(s: &[u8], c: Cursor, tag: u8) -> Value
+    requires { ⌜ Tag tag ⌝ }
+    ensures { λ r. ⌜ Holder r (now (s .entry)) (c .at) (tag % 0x80) (leb 0x80 tag) ⌝ }
 {
-    if s.len() < 12 {
-        return false;
+    let Found::Object(_, _, start, len, next) = c.object(s) else {
+        return Value::Not;
+    };
+    let at = c.at;
+    if s[at] != tag {
+        return Value::Not;
     }
-    let details = [0x81u8, 0x03];
-    if !stands(s, 0, &details) {
-        return false;
+    Value::At(start, len, next)
+}
+
+// The byte of the object at a cursor, if it has this tag.
+fn byte_of(s: &[u8], c: Cursor, tag: u8) -> One
+    requires { ⌜ Tag tag ⌝ }
+    ensures { λ r. ⌜ Single r (now (s .entry)) (c .at) (tag % 0x80) (leb 0x80 tag) ⌝ }
+{
+    let Value::At(at, len, next) = object_of(s, c, tag) else {
+        return One::Not;
+    };
+    if len != 1 {
+        return One::Not;
     }
-    let result = [0x82u8, 0x02, 0x82, 0x81, 0x83];
-    stands(s, 5, &result)
+    One::Byte(s[at], next)
+}
+
+// The two bytes of the object at a cursor, if it has this tag.
+fn pair_of(s: &[u8], c: Cursor, tag: u8) -> Two
+    requires { ⌜ Tag tag ⌝ }
+    ensures { λ r. ⌜ Double r (now (s .entry)) (c .at) (tag % 0x80) (leb 0x80 tag) ⌝ }
+{
+    let Value::At(at, len, next) = object_of(s, c, tag) else {
+        return Two::Not;
+    };
+    if len != 2 {
+        return Two::Not;
+    }
+    Two::Bytes(s[at], s[at + 1], next)
 }
 
 // Whether a type is one of the seven.
@@ -140,258 +173,244 @@ fn fits_success(kind: u8, result: u8) -> bool
     }
 }
 
-// The status in two bytes: the number, 1 to 7, plus 80 if established; then 05 if dropped, else 00.
-fn status_of(first: u8, second: u8) -> Seen
-    ensures { λ r. ⌜ ShownBy r (first ∷ second ∷ []) ⌝ }
+// Whether a bearer of a type can have so many bytes: type 02 seven, 03 one.
+fn fits_bearer(kind: u8, len: usize) -> bool
+    ensures { λ r. ⌜ r ≡ sized kind len ⌝ }
 {
-    match second {
-        0x00 => match first {
-            0x01..=0x07 => Seen::Shows(ChannelNumber(first), Link::NotYet),
-            0x81..=0x87 => Seen::Shows(ChannelNumber(first - 0x80), Link::Established),
-            _ => Seen::Nothing,
-        },
-        0x05 => match first {
-            0x01..=0x07 => Seen::Shows(ChannelNumber(first), Link::Dropped),
-            _ => Seen::Nothing,
-        },
-        _ => Seen::Nothing,
+    match kind {
+        0x02 => len == 7,
+        0x03 => len == 1,
+        _ => false,
     }
 }
 
-// The status at a place: 38 02 and its two bytes.
-fn status_at(s: &[u8], at: usize) -> Seen
-    requires { ⌜ at ≤ length (now s) ⌝ }
-    ensures { λ r. ⌜ ShownAt r (drop at (now (s .entry))) ⌝ }
+// The status at a cursor: 38 02, the number, 1 to 7, plus 80 if established; then 05 if dropped, else 00.
+fn status_at(s: &[u8], c: Cursor) -> Shown
+    ensures { λ r. ⌜ ShownAt r (now (s .entry)) (c .at) ⌝ }
 {
-    let form = [0x38u8, 0x02];
-    if !stands(s, at, &form) {
-        return Seen::Nothing;
+    let Two::Bytes(first, second, next) = pair_of(s, c, 0x38) else {
+        return Shown::Not;
+    };
+    match second {
+        0x00 => match first {
+            0x01..=0x07 => Shown::At(ChannelNumber(first), Link::NotYet, next),
+            0x81..=0x87 => Shown::At(ChannelNumber(first - 0x80), Link::Established, next),
+            _ => Shown::Not,
+        },
+        0x05 => match first {
+            0x01..=0x07 => Shown::At(ChannelNumber(first), Link::Dropped, next),
+            _ => Shown::Not,
+        },
+        _ => Shown::Not,
     }
-    if s.len() - at < 4 {
-        return Seen::Nothing;
-    }
-    status_of(s[at + 2], s[at + 3])
 }
 
 // Two bytes as a number, high byte first.
 fn pair(high: u8, low: u8) -> u16
-    ensures { λ r. ⌜ pairBytes r ≡ high ∷ low ∷ [] ⌝ }
+    ensures { λ r. ⌜ (r ≡ pairIn (high ∷ low ∷ [])) × (pairBytes r ≡ high ∷ low ∷ []) ⌝ }
 {
     256 * high as u16 + low as u16
 }
 
-// Reads the end of an answer to OPEN CHANNEL, behind a bearer of so many bytes: the grant, 1 to 1500.
-fn read_grant(s: &[u8], d: Details, result: u8, n: ChannelNumber, link: Link, len: usize) -> Heard
-    requires { ⌜ Begun (now s) d result × (d .kind ≡ 0x40) × Bearing (now s) n link len ⌝ }
-    ensures { λ r. ⌜ Hears (now (s .entry)) r ⌝ }
+// The response, if the bytes end here.
+fn last(s: &[u8], c: Cursor, d: Details, verdict: Verdict) -> Heard
+    requires { ⌜ (length (now s) ≤ c .at → VerdictAt verdict (now s)) ⌝ }
+    ensures { λ r. ⌜ Hears (checked true [] (drop (c .at) (now (s .entry))) (record { details = d; result = resultOf verdict (now (s .entry)) })) (now (s .entry)) r ⌝ }
 {
-    let end = 18 + len;
-    if s.len() != end + 4 {
+    let at = c.at;
+    if at < s.len() {
         return Heard::Silence;
     }
-    let form = [0x39u8, 0x02];
-    if !stands(s, end, &form) {
+    Heard::Response(d, verdict)
+}
+
+// Reads the bearer behind the status of an opened channel, type 02 or 03, and its grant, 1 to 1500.
+fn read_bearer(s: &[u8], c: Cursor, d: Details, result: u8, n: ChannelNumber, link: Link) -> Heard
+    ensures { λ r. ⌜ Hears (borne d result (record { number = n; link = link }) (drop (c .at) (now (s .entry)))) (now (s .entry)) r ⌝ }
+{
+    let Value::At(start, len, next) = object_of(s, c, 0x35) else {
+        return Heard::Silence;
+    };
+    if len < 1 {
         return Heard::Silence;
     }
-    let grant = pair(s[end + 2], s[end + 3]);
+    if !fits_bearer(s[start], len) {
+        return Heard::Silence;
+    }
+    let Two::Bytes(high, low, end) = pair_of(s, next, 0x39) else {
+        return Heard::Silence;
+    };
+    let grant = pair(high, low);
     if grant < 1 {
         return Heard::Silence;
     }
     if 1500 < grant {
         return Heard::Silence;
     }
-    Heard::Response(
+    last(
+        s,
+        end,
         d,
-        Verdict::Done(result, Further::Opened(n, link, 18, len, grant)),
+        Verdict::Done(result, Further::Opened(n, link, start, len, grant)),
     )
 }
 
-// Reads an answer to OPEN CHANNEL: the status, a bearer of type 02 or 03, and the grant.
-fn read_opened(s: &[u8], d: Details, result: u8) -> Heard
-    requires { ⌜ Begun (now s) d result × (d .kind ≡ 0x40) ⌝ }
-    ensures { λ r. ⌜ Hears (now (s .entry)) r ⌝ }
+// Reads an answer to OPEN CHANNEL: a status that is not dropped, and what follows.
+fn read_opened(s: &[u8], c: Cursor, d: Details, result: u8) -> Heard
+    ensures { λ r. ⌜ Hears (followed d 0x40 result (drop (c .at) (now (s .entry)))) (now (s .entry)) r ⌝ }
 {
-    let Seen::Shows(n, link) = status_at(s, 12) else {
+    let Shown::At(n, link, next) = status_at(s, c) else {
         return Heard::Silence;
     };
-    if s[15] != 0x00 {
-        return Heard::Silence;
+    match link {
+        Link::NotYet => read_bearer(s, next, d, result, n, link),
+        Link::Established => read_bearer(s, next, d, result, n, link),
+        Link::Dropped => Heard::Silence,
     }
-    let with = [0x35u8, 0x07, 0x02];
-    if stands(s, 16, &with) {
-        return read_grant(s, d, result, n, link, 7);
-    }
-    let without = [0x35u8, 0x01, 0x03];
-    if stands(s, 16, &without) {
-        return read_grant(s, d, result, n, link, 1);
-    }
-    Heard::Silence
 }
 
-// Reads the end of an answer to RECEIVE DATA, with data of so many bytes, at most 237: the data, and 37 01 with the count of bytes still held.
-fn read_data(s: &[u8], d: Details, result: u8, start: usize, len: u8) -> Heard
-    requires { ⌜ Begun (now s) d result × (d .kind ≡ 0x42) × Data (now s) start len ⌝ }
-    ensures { λ r. ⌜ Hears (now (s .entry)) r ⌝ }
+// Reads an answer to RECEIVE DATA: at most 237 bytes of data, and the count of bytes still held.
+fn read_received(s: &[u8], c: Cursor, d: Details, result: u8) -> Heard
+    ensures { λ r. ⌜ Hears (followed d 0x42 result (drop (c .at) (now (s .entry)))) (now (s .entry)) r ⌝ }
 {
+    let Value::At(start, len, next) = object_of(s, c, 0x36) else {
+        return Heard::Silence;
+    };
     if 237 < len {
         return Heard::Silence;
     }
-    let end = start + len as usize;
-    if s.len() != end + 3 {
+    let One::Byte(left, end) = byte_of(s, next, 0x37) else {
         return Heard::Silence;
-    }
-    let form = [0x37u8, 0x01];
-    if !stands(s, end, &form) {
-        return Heard::Silence;
-    }
-    Heard::Response(
+    };
+    last(
+        s,
+        end,
         d,
-        Verdict::Done(result, Further::Received(start, len as usize, s[end + 2])),
+        Verdict::Done(result, Further::Received(start, len, left)),
     )
 }
 
-// Reads an answer to RECEIVE DATA: 36, a length in its shortest form, and the data.
-fn read_received(s: &[u8], d: Details, result: u8) -> Heard
-    requires { ⌜ Begun (now s) d result × (d .kind ≡ 0x42) ⌝ }
-    ensures { λ r. ⌜ Hears (now (s .entry)) r ⌝ }
+// Reads an answer to SEND DATA: the room that is left.
+fn read_sent(s: &[u8], c: Cursor, d: Details, result: u8) -> Heard
+    ensures { λ r. ⌜ Hears (followed d 0x43 result (drop (c .at) (now (s .entry)))) (now (s .entry)) r ⌝ }
 {
-    if s.len() < 15 {
+    let One::Byte(room, next) = byte_of(s, c, 0x37) else {
         return Heard::Silence;
-    }
-    if s[12] != 0x36 {
-        return Heard::Silence;
-    }
-    if s[13] < 0x80 {
-        return read_data(s, d, result, 14, s[13]);
-    }
-    if s[13] != 0x81 {
-        return Heard::Silence;
-    }
-    if s[14] < 0x80 {
-        return Heard::Silence;
-    }
-    read_data(s, d, result, 15, s[14])
+    };
+    last(s, next, d, Verdict::Done(result, Further::Sent(room)))
 }
 
-// Reads an answer to SEND DATA: 37 01 and the room that is left.
-fn read_sent(s: &[u8], d: Details, result: u8) -> Heard
-    requires { ⌜ Begun (now s) d result × (d .kind ≡ 0x43) ⌝ }
-    ensures { λ r. ⌜ Hears (now (s .entry)) r ⌝ }
+// Reads statuses that rise, up to the end.
+fn read_rising(s: &[u8], c: Cursor, d: Details, result: u8) -> Heard
+    requires { ⌜ c .at ≤ length (now s) ⌝ }
+    ensures { λ r. ⌜ Hears (listed d result (drop (c .at) (now (s .entry)))) (now (s .entry)) r ⌝ }
 {
-    if s.len() != 15 {
-        return Heard::Silence;
-    }
-    let form = [0x37u8, 0x01];
-    if !stands(s, 12, &form) {
-        return Heard::Silence;
-    }
-    Heard::Response(d, Verdict::Done(result, Further::Sent(s[14])))
-}
-
-// Reads an answer to GET CHANNEL STATUS: statuses that rise, or 38 02 00 00 where no channel is open.
-fn read_statuses(s: &[u8], d: Details, result: u8) -> Heard
-    requires { ⌜ Begun (now s) d result × (d .kind ≡ 0x44) ⌝ }
-    ensures { λ r. ⌜ Hears (now (s .entry)) r ⌝ }
-{
-    let none = [0x38u8, 0x02, 0x00, 0x00];
-    if stands(s, 12, &none) {
-        if s.len() == 16 {
-            return Heard::Response(d, Verdict::Done(result, Further::Statuses(0)));
-        }
-        return Heard::Silence;
-    }
-    let mut at: usize = 12;
+    let start = c.at;
+    let mut here = c;
     let mut count: usize = 0;
-    let mut last: u8 = 0;
-    while at < s.len() {
-        let Seen::Shows(n, _) = status_at(s, at) else {
-            return Heard::Silence;
-        };
-        if n.0 <= last {
-            return Heard::Silence;
+    let mut highest: u8 = 0;
+    loop {
+        let at = here.at;
+        if s.len() <= at {
+            break Heard::Response(d, Verdict::Done(result, Further::Statuses(start, count)));
         }
-        last = n.0;
-        at += 4;
+        let Shown::At(n, _, next) = status_at(s, here) else {
+            break Heard::Silence;
+        };
+        if n.0 <= highest {
+            break Heard::Silence;
+        }
+        highest = n.0;
+        here = next;
         count += 1;
     }
-    if count == 0 {
+}
+
+// Reads an answer to GET CHANNEL STATUS: statuses, or 00 00 where no channel is open.
+fn read_statuses(s: &[u8], c: Cursor, d: Details, result: u8) -> Heard
+    ensures { λ r. ⌜ Hears (followed d 0x44 result (drop (c .at) (now (s .entry)))) (now (s .entry)) r ⌝ }
+{
+    let Two::Bytes(first, second, next) = pair_of(s, c, 0x38) else {
         return Heard::Silence;
+    };
+    if pair(first, second) != 0 {
+        return read_rising(s, c, d, result);
     }
-    Heard::Response(d, Verdict::Done(result, Further::Statuses(count)))
+    let end = next.at;
+    last(s, next, d, Verdict::Done(result, Further::Statuses(end, 0)))
 }
 
 // Reads what follows the result of a command that succeeded, by its type.
-fn read_further(s: &[u8], d: Details, result: u8) -> Heard
-    requires { ⌜ Begun (now s) d result ⌝ }
-    ensures { λ r. ⌜ Hears (now (s .entry)) r ⌝ }
+fn read_further(s: &[u8], c: Cursor, d: Details, result: u8) -> Heard
+    ensures { λ r. ⌜ Hears (followed d (d .kind) result (drop (c .at) (now (s .entry)))) (now (s .entry)) r ⌝ }
 {
     let kind = d.kind;
     match kind {
-        0x40 => read_opened(s, d, result),
-        0x42 => read_received(s, d, result),
-        0x43 => read_sent(s, d, result),
-        0x44 => read_statuses(s, d, result),
-        _ => {
-            if s.len() != 12 {
-                return Heard::Silence;
-            }
-            Heard::Response(d, Verdict::Done(result, Further::Plain))
-        }
+        0x40 => read_opened(s, c, d, result),
+        0x42 => read_received(s, c, d, result),
+        0x43 => read_sent(s, c, d, result),
+        0x44 => read_statuses(s, c, d, result),
+        0x02 | 0x05 | 0x41 => last(s, c, d, Verdict::Done(result, Further::Plain)),
+        _ => Heard::Silence,
     }
 }
 
-// Reads a result, behind 83 01.
-fn read_result(s: &[u8], d: Details) -> Heard
-    requires { ⌜ Headed (now s) d × (getD (now s) 10 0 ≡ 0x01) ⌝ }
-    ensures { λ r. ⌜ Hears (now (s .entry)) r ⌝ }
+// Reads a result of two bytes: 3A and its cause.
+fn read_problem(s: &[u8], c: Cursor, d: Details) -> Heard
+    requires { ⌜ Misfit (now s) (c .at) 0x03 true 1 ⌝ }
+    ensures { λ r. ⌜ Hears (resulted d (drop (c .at) (now (s .entry)))) (now (s .entry)) r ⌝ }
 {
-    let result = s[11];
-    if fits_success(d.kind, result) {
-        return read_further(s, d, result);
-    }
-    if s.len() != 12 {
+    let Two::Bytes(result, cause, next) = pair_of(s, c, 0x83) else {
         return Heard::Silence;
+    };
+    if result != 0x3A {
+        return Heard::Silence;
+    }
+    if !fits_cause(d.kind, cause) {
+        return Heard::Silence;
+    }
+    last(s, next, d, Verdict::Problem(cause))
+}
+
+// Reads a result of one byte: a success and what follows, or an error; else one of two.
+fn read_result(s: &[u8], c: Cursor, d: Details) -> Heard
+    ensures { λ r. ⌜ Hears (resulted d (drop (c .at) (now (s .entry)))) (now (s .entry)) r ⌝ }
+{
+    let One::Byte(result, next) = byte_of(s, c, 0x83) else {
+        return read_problem(s, c, d);
+    };
+    if fits_success(d.kind, result) {
+        return read_further(s, next, d, result);
     }
     if !fits_error(d, result) {
         return Heard::Silence;
     }
-    Heard::Response(d, Verdict::Error(result))
+    last(s, next, d, Verdict::Error(result))
 }
 
-// Reads a problem, behind 83 02: 3A and its cause.
-fn read_problem(s: &[u8], d: Details) -> Heard
-    requires { ⌜ Headed (now s) d × (getD (now s) 10 0 ≡ 0x02) ⌝ }
-    ensures { λ r. ⌜ Hears (now (s .entry)) r ⌝ }
-{
-    if s.len() != 13 {
-        return Heard::Silence;
-    }
-    if s[11] != 0x3A {
-        return Heard::Silence;
-    }
-    let cause = s[12];
-    if !fits_cause(d.kind, cause) {
-        return Heard::Silence;
-    }
-    Heard::Response(d, Verdict::Problem(cause))
-}
-
-// Reads a response from its one form, or hears silence, which is R8.
+// Reads a response from its one form, or hears silence, which is R8: the details, the devices 82 81, and what follows.
 pub fn read(s: &[u8]) -> Heard
-    ensures { λ r. ⌜ benchRead (now (s .entry)) ≡ heardOf r (now (s .entry)) ⌝ }
-    ensures { λ r. ⌜ PlacesAt r (now (s .entry)) ⌝ }
+    ensures { λ r. ⌜ Hears (benchRead (now (s .entry))) (now (s .entry)) r ⌝ }
 {
-    if !headed(s) {
+    let Value::At(at, len, next) = object_of(s, Cursor { at: 0 }, 0x81) else {
+        return Heard::Silence;
+    };
+    if len != 3 {
+        return Heard::Silence;
+    }
+    let Two::Bytes(source, destination, behind) = pair_of(s, next, 0x82) else {
+        return Heard::Silence;
+    };
+    if source != 0x82 {
+        return Heard::Silence;
+    }
+    if destination != 0x81 {
         return Heard::Silence;
     }
     let d = Details {
-        number: s[2],
-        kind: s[3],
-        qualifier: s[4],
+        number: s[at],
+        kind: s[at + 1],
+        qualifier: s[at + 2],
     };
-    match s[10] {
-        0x01 => read_result(s, d),
-        0x02 => read_problem(s, d),
-        _ => Heard::Silence,
-    }
+    read_result(s, behind, d)
 }

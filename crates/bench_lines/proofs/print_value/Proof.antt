@@ -12,11 +12,15 @@ print-requires : tie.Need-print-requires
 unfolding countOf
 print-requires c κs = (omega arith, omega arith)
 
-same-length : tie.Need-same-length
-same-length c = search needs
-
 returns : tie.Need-returns
-returns c = line-within _ (now (c .before .before .before .before .before .before .args .value)) _ _ (c .before .before .print .ensures .1)
+returns c =
+    let at-start : tie.Start = search in
+    line-within _ (now (at-start .args .value)) _ _ (c .before .before .print .ensures .1)
 
 pub print-value-spec : {M : Type 1} → statement M
-print-value-spec = tie.close (tie.spec print-requires same-length returns)
+print-value-spec =
+    tie.close
+    (tie.spec
+    print-requires
+    (λ c. search needs)
+    returns)
