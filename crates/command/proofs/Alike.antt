@@ -2,15 +2,15 @@
 -- Assumes nothing.
 use Prim.Native.Nat.{ℕ}
 use mathlib.Core.Path.{_≡_, refl, sym, ap, _∙_}
-use mathlib.Core.Bool.{Bool, true, false, true≢false, false≢true}
+use mathlib.Core.Bool.{true≢false, false≢true}
 use mathlib.Core.List.{List}
+use native.Mathlib.Omega.{arith}
 use lib.ListN.{length}
 use lib.Dec.{eqb}
 use Rattle.rules.specs.declared.Details.{Details}
 use Rattle.rules.specs.Checks.{_⇒_else_}
 use Rattle.rules.specs.Frames.{walk}
 use Rattle.rules.specs.Table.{valueOf}
-use Rattle.rules.specs.Reading.{Reading, wrong, asked, zeros}
 use Rattle.objects.specs.Places.{placeOf}
 use Rattle.objects.proofs.Alike.{drop-alike}
 use Rattle.command.specs.declared.Framed.{Framed}
@@ -51,23 +51,6 @@ handler-back Receive = refl
 handler-back Send = refl
 handler-back Status = refl
 
--- what a reading says
-detailsTold : Reading → Details
-detailsTold (wrong d e) = d
-detailsTold (asked c i) = zeros
-
-errorTold : Reading → ℕ
-errorTold (wrong d e) = e
-errorTold (asked c i) = 0
-
-ignoredTold : Reading → Bool
-ignoredTold (wrong d e) = false
-ignoredTold (asked c i) = i
-
-isAsked : Reading → Bool
-isAsked (wrong d e) = false
-isAsked (asked c i) = true
-
 module _ {q r : Request} {p s : List ℕ} (u : AskedFor q p s) (w : AskedFor r p s) where
   details-alike : q .details ≡ r .details
   details-alike = sym (u .details) ∙ w .details
@@ -77,15 +60,17 @@ module _ {q r : Request} {p s : List ℕ} (u : AskedFor q p s) (w : AskedFor r p
       let kinds = sym (u .kind) ∙ ap (λ (d : Details). d .kind) details-alike ∙ w .kind in
       sym (handler-back (q .handler)) ∙ ap handlerIn kinds ∙ handler-back (r .handler)
 
+  ignored-alike : q .ignored ≡ r .ignored
+  ignored-alike = cc (u .is, w .is)
+
   request-alike : q ≡ r
-  unfolding ignoredTold
   request-alike =
       λ i.
       record {
         details = details-alike i;
         handler = handler-alike i;
         destination = (sym (u .destination) ∙ w .destination) i;
-        ignored = ap ignoredTold (sym (u .is) ∙ w .is) i;
+        ignored = ignored-alike i;
         start = (u .own-place ∙ ap (λ (h : Handler). placeOf (ownNumber h) s) handler-alike ∙ sym (w .own-place)) i;
         len = (u .own-length ∙ ap (λ (h : Handler). length (valueOf (ownNumber h) (walk s .objects))) handler-alike ∙ sym (w .own-length)) i;
         size = (u .size ∙ sym (w .size)) i;
@@ -93,8 +78,10 @@ module _ {q r : Request} {p s : List ℕ} (u : AskedFor q p s) (w : AskedFor r p
       }
 
 pub read-alike : (x y : Read) (p s : List ℕ) → Reads x p s → Reads y p s → x ≡ y
-unfolding detailsTold errorTold isAsked
-read-alike (Wrong d e) (Wrong c f) p s u w = let k = sym u ∙ w in λ i. Wrong (ap detailsTold k i) (ap errorTold k i)
-read-alike (Wrong d e) (Asked r) p s u w = absurd (false≢true (ap isAsked (sym u ∙ w .is)))
-read-alike (Asked q) (Wrong c f) p s u w = absurd (true≢false (ap isAsked (sym (u .is) ∙ w)))
+read-alike (Wrong d e) (Wrong c f) p s u w =
+    let details : d ≡ c = cc (u, w) in
+    let error : e ≡ f = cc (u, w) in
+    λ i. Wrong (details i) (error i)
+read-alike (Wrong d e) (Asked r) p s u w = absurd (let z : _≡_ {A = ℕ} 0 1 = cc (u, w .is) in omega arith)
+read-alike (Asked q) (Wrong c f) p s u w = absurd (let z : _≡_ {A = ℕ} 0 1 = cc (u .is, w) in omega arith)
 read-alike (Asked q) (Asked r) p s u w = ap Asked (request-alike u w)

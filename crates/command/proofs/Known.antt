@@ -2,15 +2,15 @@
 -- Assumes nothing.
 use Prim.Native.Nat.{ℕ}
 use mathlib.Core.Path.{_≡_, sym, ap, _∙_}
-use mathlib.Core.Bool.{true, false}
+use mathlib.Core.Bool.{Bool, true, false, not}
 use mathlib.Core.List.{List}
-use lib.ListN.{length}
-use borrow.Author.Tests.{not-true, not-false}
+use borrow.Author.Tests.{not-false}
 use Rattle.rules.specs.declared.Details.{Details}
-use Rattle.rules.specs.Checks.{member}
+use Rattle.rules.specs.Checks.{_⇒_else_, isEmpty, member}
 use Rattle.rules.specs.Frames.{Object, walk}
 use Rattle.rules.specs.Table.{rowOf, present, valueOf, complete, lengthFits, measured}
 use Rattle.rules.specs.Reading.{Reading, wrong, asked, addressed, readObjects}
+use Rattle.rules.proofs.Laws.{stop, skip}
 use Rattle.rules.proofs.Readings.{value-fits}
 use Rattle.command.specs.declared.Plan.{Plan}
 use Rattle.command.specs.declared.Sorted.{Sorted}
@@ -18,29 +18,35 @@ use Rattle.command.specs.Plans.{needed}
 use Rattle.command.specs.Requests.{theDetails, theObjects, theCommand, Typed, Begun, Fitted}
 use Rattle.command.proofs.Keys.{every-member}
 use Rattle.command.proofs.Needed.{needed-required, needed-alike}
-use Rattle.command.proofs.Steps.{read-flagged, read-incomplete, read-misfit, read-misaddressed, read-asked}
+use Rattle.command.proofs.Steps.{read-typed}
 
 module _ {s : List ℕ} {d : Details} {plan : Plan} {v : Sorted} (b : Begun s d plan v) where
-  told : {r : Reading} (e : ℕ) → r ≡ wrong (theDetails s) e → r ≡ wrong d e
-  told e q = q ∙ ap (λ (x : Details). wrong x e) (b .details)
+  told : {r : Reading} {e : ℕ} → r ≡ wrong (theDetails s) e → r ≡ wrong d e
+  told {e = e} q = q ∙ ap (λ (x : Details). wrong x e) (b .details)
 
   -- step 6
   pub known-flagged : v .flagged ≡ true → (p : List ℕ) → Typed p s → readObjects p s ≡ wrong d 0x32
-  known-flagged e p t = told 0x32 (read-flagged p s t (sym (b .sorted .flagged) ∙ e))
+  known-flagged e p t = told (read-typed p s t ∙ stop _ _ _ (sym (b .sorted .flagged) ∙ e))
 
   -- step 7
   pub known-incomplete : v .flagged ≡ false → v .complete ≡ false → (p : List ℕ) → Typed p s → readObjects p s ≡ wrong d 0x36
-  known-incomplete f e p t = told 0x36 (read-incomplete p s t (sym (b .sorted .flagged) ∙ f) (sym (b .sorted .complete) ∙ e))
+  known-incomplete f e p t =
+      told (read-typed p s t ∙ skip _ _ _ (sym (b .sorted .flagged) ∙ f) ∙ stop _ _ _ (ap not (sym (b .sorted .complete) ∙ e)))
 
   pub known-misfit :
       v .flagged ≡ false → v .complete ≡ true → v .misfit ≡ true → (p : List ℕ) → Typed p s → readObjects p s ≡ wrong d 0x32
   known-misfit f c e p t =
-      told 0x32 (read-misfit p s t (sym (b .sorted .flagged) ∙ f) (sym (b .sorted .complete) ∙ c) (not-true (measured (theObjects s .counting)) (sym (b .sorted .misfit) ∙ e)))
+      told
+      (read-typed p s t ∙ skip _ _ _ (sym (b .sorted .flagged) ∙ f) ∙ skip _ _ _ (ap not (sym (b .sorted .complete) ∙ c))
+      ∙ stop _ _ _ (sym (b .sorted .misfit) ∙ e))
 
 -- behind step 7
 module _ {s : List ℕ} {d : Details} {plan : Plan} {v : Sorted} (z : Fitted s d plan v) where
   abbrev counts : List Object
   counts = theObjects s .counting
+
+  abbrev right : Bool
+  right = addressed (theDetails s .kind) (theCommand s .source) (theCommand s .destination)
 
   whole : complete (rowOf (theDetails s)) counts ≡ true
   whole = sym (z .begun .sorted .complete) ∙ z .complete
@@ -49,17 +55,15 @@ module _ {s : List ℕ} {d : Details} {plan : Plan} {v : Sorted} (z : Fitted s d
   fit = not-false (measured counts) (sym (z .begun .sorted .misfit) ∙ z .fit)
 
   -- step 8
-  pub known-misaddressed :
-      addressed (theDetails s .kind) (theCommand s .source) (theCommand s .destination) ≡ false → (p : List ℕ) → Typed p s →
-      readObjects p s ≡ wrong d 0x32
-  known-misaddressed e p t = told (z .begun) 0x32 (read-misaddressed p s t (sym (z .begun .sorted .flagged) ∙ z .unflagged) whole fit e)
+  settled : (p : List ℕ) → Typed p s → readObjects p s ≡ (not right ⇒ wrong (theDetails s) 0x32 else asked (theCommand s) (not (isEmpty (theObjects s .unexpected))))
+  settled p t =
+      read-typed p s t ∙ skip _ _ _ (sym (z .begun .sorted .flagged) ∙ z .unflagged) ∙ skip _ _ _ (ap not whole) ∙ skip _ _ _ (ap not fit)
 
-  pub known-asked :
-      addressed (theDetails s .kind) (theCommand s .source) (theCommand s .destination) ≡ true → (p : List ℕ) → Typed p s →
-      readObjects p s ≡ asked (theCommand s) (v .ignored)
-  known-asked e p t =
-      read-asked p s t (sym (z .begun .sorted .flagged) ∙ z .unflagged) whole fit e
-      ∙ ap (asked (theCommand s)) (sym (z .begun .sorted .ignored))
+  pub known-misaddressed : right ≡ false → (p : List ℕ) → Typed p s → readObjects p s ≡ wrong d 0x32
+  known-misaddressed e p t = told (z .begun) (settled p t ∙ stop _ _ _ (ap not e))
+
+  pub known-asked : right ≡ true → (p : List ℕ) → Typed p s → readObjects p s ≡ asked (theCommand s) (v .ignored)
+  known-asked e p t = settled p t ∙ skip _ _ _ (ap not e) ∙ ap (asked (theCommand s)) (sym (z .begun .sorted .ignored))
 
   -- a needed object is there, with its value and its length
   module _ (n : ℕ) (e : member n (needed (plan .row)) ≡ true) where

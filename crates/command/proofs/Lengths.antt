@@ -1,6 +1,6 @@
 -- The lengths of values, number by number.
 -- Assumes nothing.
-use Prim.Native.Nat.{ℕ, suc, _+_, _-_, _≤_}
+use Prim.Native.Nat.{ℕ, suc, _+_, _≤_}
 use mathlib.Core.Path.{_≡_, refl, sym, ap, _∙_}
 use mathlib.Core.Logic.{inl, inr}
 use mathlib.Core.Bool.{Bool, true, false}
@@ -14,7 +14,8 @@ use Rattle.rules.specs.Checks.{_⇒_else_, isEmpty}
 use Rattle.rules.specs.Table.{bearerFits, lengthFits}
 use Rattle.rules.proofs.Laws.{stop, skip}
 use Rattle.octets.specs.Parts.{part}
-use Rattle.octets.proofs.Copies.{part-get, length-part}
+use Rattle.octets.proofs.Copies.{part-get}
+use Rattle.objects.proofs.Alike.{part-size}
 use Rattle.command.proofs.Keys.{arm}
 
 -- no bytes, or some
@@ -28,10 +29,7 @@ unfolding isEmpty
 filled [] h = absurd (h refl)
 filled (x ∷ l) h = refl
 
--- a part's length, and its bytes
-pub part-size : (s : List ℕ) (start n : ℕ) → start + n ≤ length s → length (part start (start + n) s) ≡ n
-part-size s start n h = length-part start (start + n) s h ∙ (let e : start + n - start ≡ n = omega arith in e)
-
+-- the bytes of a part
 pub part-first : (s : List ℕ) (start n : ℕ) → 1 ≤ n → getD (part start (start + n) s) 0 0 ≡ getD s start 0
 part-first s start n h =
     let e : start + 0 ≡ start = omega arith in

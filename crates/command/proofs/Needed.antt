@@ -1,20 +1,23 @@
 -- The required objects: those that a row needs, and that all of them are there.
 -- Assumes nothing.
-use Prim.Native.Nat.{ℕ}
+use Prim.Native.Nat.{ℕ, _<_}
 use mathlib.Core.Path.{_≡_, refl, sym, ap, _∙_}
 use mathlib.Core.Bool.{Bool, true, false, not, _&&_}
 use mathlib.Core.List.{List}
+use lib.Dec.{ltb}
+use borrow.Author.Tests.{ltb-true}
 use Rattle.rules.specs.Checks.{_⇒_else_, every, some-of, member}
 use Rattle.rules.specs.Frames.{Walk, walk}
 use Rattle.rules.specs.Table.{rowOf, present, complete}
+use Rattle.rules.proofs.Laws.{both-right}
 use Rattle.objects.proofs.Walking.{here-object}
 use Rattle.command.specs.declared.Row.{Row}
 use Rattle.command.specs.Plans.{needed, RowFor}
-use Rattle.command.specs.Surveys.{allStand}
+use Rattle.command.specs.Surveys.{slots, allStand}
 use Rattle.command.specs.Requests.{theDetails, theObjects, Headed, StandsAt}
 use Rattle.command.proofs.Counting.{Alike, alike}
 use Rattle.command.proofs.Keys.{every-member, every-alike}
-use Rattle.command.proofs.Tables.{required-may, own-needed, further-needed}
+use Rattle.command.proofs.Tables.{has-slot, required-slot, required-may, own-needed, further-needed}
 
 -- 01 is there, since it came first
 pub first-there : {s : List ℕ} {first : ℕ} → Headed s first → present 0x01 (walk s .objects) ≡ true
@@ -33,6 +36,15 @@ module _ (s : List ℕ) {row : Row} (r : RowFor row (theDetails s)) where
   -- an object that the row needs is required, so it may stand, and is among those that count as it is among all
   pub needed-required : (n : ℕ) → member n (needed row) ≡ true → member n (rowOf (theDetails s) .required) ≡ true
   needed-required n e = every-member (λ k. member k (rowOf (theDetails s) .required)) n (needed row) (r .required) e
+
+  pub needed-slot : (n : ℕ) → member n (needed row) ≡ true → has-slot n ≡ true
+  needed-slot n e = required-slot (theDetails s) n (needed-required n e)
+
+  pub needed-low : (row .own < slots) × (row .further < slots)
+  needed-low = (low (row .own) (own-needed (row .own) (row .further)), low (row .further) (further-needed (row .own) (row .further)))
+    where
+      low : (n : ℕ) → member n (needed row) ≡ true → n < slots
+      low n e = ltb-true n slots (both-right (ltb 0 n) (ltb n slots) (needed-slot n e))
 
   pub needed-alike : (n : ℕ) → member n (needed row) ≡ true → Alike n (theObjects s .counting) (walk s .objects)
   needed-alike n e = alike (rowOf (theDetails s)) n (walk s .objects) (required-may (rowOf (theDetails s)) n (needed-required n e))

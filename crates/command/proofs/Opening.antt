@@ -14,18 +14,19 @@ use Rattle.rules.specs.Checks.{isEmpty}
 use Rattle.rules.specs.Frames.{Object, objectAt, faulty, Walk, walk}
 use Rattle.rules.specs.Table.{known, valueOf}
 use Rattle.rules.specs.Profile.{bit, allowsType}
-use Rattle.rules.specs.Reading.{wrong, zeros, detailsIn, startsWithDetails, isFault, readObjects}
-use Rattle.rules.proofs.Laws.{stop}
+use Rattle.rules.specs.Reading.{Reading, wrong, zeros, detailsIn, startsWithDetails, isFault, readObjects}
+use Rattle.rules.proofs.Laws.{stop, skip}
 use Rattle.rules.proofs.Walks.{walk-fault}
 use Rattle.octets.specs.Parts.{part}
 use Rattle.objects.specs.Places.{objectOf, Stands}
+use Rattle.objects.proofs.Alike.{part-size}
 use Rattle.objects.proofs.Walking.{here-object}
 use Rattle.command.specs.declared.Plan.{Plan}
 use Rattle.command.specs.declared.Sorted.{Sorted}
 use Rattle.command.specs.Plans.{RowFor, PlanOf}
 use Rattle.command.specs.Requests.{theDetails, detailsAt, Detailed, Headed, Typed, Sorts, Begun}
-use Rattle.command.proofs.Lengths.{empty, filled, part-size, part-first, part-at}
-use Rattle.command.proofs.Steps.{read-none, read-faulty, read-stranger, read-cut, read-unknown, read-forbidden}
+use Rattle.command.proofs.Lengths.{empty, filled, part-first, part-at}
+use Rattle.command.proofs.Steps.{read-began}
 
 no-first : (s : List ℕ) (e : Ending) → isEmpty s ≡ false → objectAt s ≡ faulty e → isEmpty (walk s .objects) ≡ true
 unfolding isEmpty
@@ -33,11 +34,13 @@ no-first [] e h f = absurd (true≢false h)
 no-first (b ∷ s) e h f = ap (λ (w : Walk). isEmpty (w .objects)) (walk-fault b s e f)
 
 pub none-read : (p s : List ℕ) → length s ≡ 0 → readObjects p s ≡ wrong zeros 0x36
-none-read p s e = read-none p s (empty s e)
+unfolding readObjects
+none-read p s e = stop _ _ _ (empty s e)
 
 module _ (p s : List ℕ) (h : length s ≡ 0 → ⊥) where
   pub faulty-read : (e : Ending) → objectAt s ≡ faulty e → readObjects p s ≡ wrong zeros 0x32
-  faulty-read e f = read-faulty p s (filled s h) (no-first s e (filled s h) f)
+  unfolding readObjects
+  faulty-read e f = skip _ _ _ (filled s h) ∙ stop _ _ _ (no-first s e (filled s h) f)
 
 -- the first object stands
 module _ {s : List ℕ} (h : length s ≡ 0 → ⊥) {number : ℕ} {flag : Bool} {start n next : ℕ} (st : Stands s 0 number flag start n next) where
@@ -58,13 +61,16 @@ module _ {s : List ℕ} (h : length s ≡ 0 → ⊥) {number : ℕ} {flag : Bool
   unfolding startsWithDetails
   begins = ap startsWithDetails first-is ∙ ap (λ (k : ℕ). eqb number 0x01 && eqb k 3) (part-size s start n fits)
 
+  stranger : startsWithDetails (walk s .objects) ≡ false → (p : List ℕ) → readObjects p s ≡ wrong zeros 0x36
+  unfolding readObjects
+  stranger e p = skip _ _ _ (filled s h) ∙ skip _ _ _ some-objects ∙ stop _ _ _ (ap not e)
+
   pub stranger-number : (number ≡ 0x01 → ⊥) → (p : List ℕ) → readObjects p s ≡ wrong zeros 0x36
-  stranger-number e p =
-      read-stranger p s (filled s h) some-objects (begins ∙ ap (λ (b : Bool). b && eqb n 3) (ne-eqb number 0x01 e))
+  stranger-number e = stranger (begins ∙ ap (λ (b : Bool). b && eqb n 3) (ne-eqb number 0x01 e))
 
   module _ (e : number ≡ 0x01) where
     pub stranger-length : (n ≡ 3 → ⊥) → (p : List ℕ) → readObjects p s ≡ wrong zeros 0x36
-    stranger-length l p = read-stranger p s (filled s h) some-objects (begins ∙ (λ i. eq-eqb number 0x01 e i && ne-eqb n 3 l i))
+    stranger-length l = stranger (begins ∙ (λ i. eq-eqb number 0x01 e i && ne-eqb n 3 l i))
 
     module _ (l : n ≡ 3) where
       pub headed : Headed s start
@@ -90,13 +96,17 @@ module _ {s : List ℕ} (h : length s ≡ 0 → ⊥) {number : ℕ} {flag : Bool
 
 -- step 4, and step 5 for a type without a plan
 module _ {s : List ℕ} {d : Details} (g : Detailed s d) where
+  told : {r : Reading} {e : ℕ} → r ≡ wrong (theDetails s) e → r ≡ wrong d e
+  told {e = e} q = q ∙ ap (λ (x : Details). wrong x e) (g .details)
+
   pub cut-read : (e : Ending) → e ≡ walk s .ending → isFault e ≡ true → (p : List ℕ) → readObjects p s ≡ wrong d 0x32
-  cut-read e q f p = read-cut p s (g .began) (sym (ap isFault q) ∙ f) ∙ ap (λ (x : Details). wrong x 0x32) (g .details)
+  cut-read e q f p = told (read-began p s (g .began) ∙ stop _ _ _ (sym (ap isFault q) ∙ f))
 
   pub unknown-read : (e : Ending) → e ≡ walk s .ending → isFault e ≡ false → known (d .kind) ≡ false → (p : List ℕ) → readObjects p s ≡ wrong d 0x31
   unknown-read e q f k p =
-      read-unknown p s (g .began) (sym (ap isFault q) ∙ f) (ap (λ (x : Details). known (x .kind)) (g .details) ∙ k)
-      ∙ ap (λ (x : Details). wrong x 0x31) (g .details)
+      told
+      (read-began p s (g .began) ∙ skip _ _ _ (sym (ap isFault q) ∙ f)
+      ∙ stop _ _ _ (ap (λ (x : Details). not (known (x .kind))) (g .details) ∙ ap not k))
 
   -- the type has a plan
   module _ {plan : Plan} (k : PlanOf plan d) where
@@ -123,7 +133,8 @@ module _ {s : List ℕ} {d : Details} (g : Detailed s d) where
 
           pub forbidden-read : not b ≡ true → readObjects p s ≡ wrong d 0x30
           forbidden-read e =
-              read-forbidden p s (g .began) unbroken (plan-is .known-is) (allows ∙ not-true b e) ∙ ap (λ (x : Details). wrong x 0x30) (g .details)
+              told
+              (read-began p s (g .began) ∙ skip _ _ _ unbroken ∙ skip _ _ _ (ap not (plan-is .known-is)) ∙ stop _ _ _ (ap not (allows ∙ not-true b e)))
 
           pub typed : not b ≡ false → Typed p s
           typed e = record { began = g .began; whole = unbroken; kind = plan-is .known-is; allowed = allows ∙ not-false b e }

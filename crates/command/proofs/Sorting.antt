@@ -17,18 +17,17 @@ use Rattle.rules.specs.Reading.{isFault}
 use Rattle.rules.proofs.Laws.{branch, stop, skip}
 use Rattle.octets.specs.Parts.{part}
 use Rattle.objects.specs.Places.{objectOf, Stands, placeUpTo, placeOf}
+use Rattle.objects.proofs.Alike.{part-size}
 use Rattle.objects.proofs.Walking.{here-end, here-fault, here-object, Ends, ends-start, ends-on, ends-end, ends-fault, place-here}
 use Rattle.command.specs.declared.Row.{Row}
 use Rattle.command.specs.declared.Sorted.{Sorted}
 use Rattle.command.specs.declared.Survey.{Survey}
-use Rattle.command.specs.Plans.{needed, besidesBy, timesBy, RowFor}
-use Rattle.command.specs.Surveys.{surveyOf, noted, slots, slotOf, firstOf, allStand, sortedBy}
+use Rattle.command.specs.Plans.{besidesBy, timesBy, RowFor}
+use Rattle.command.specs.Surveys.{surveyOf, noted, slots, slotOf, firstOf, sortedBy}
 use Rattle.command.specs.Requests.{theDetails, Headed, StandsAt, Sorts}
-use Rattle.command.proofs.Keys.{every-member}
-use Rattle.command.proofs.Lengths.{part-size}
-use Rattle.command.proofs.Needed.{first-there, complete-is}
-use Rattle.command.proofs.Sifting.{numbers, occurs-more, occurs-present, value-more, value-none, more, sift-more, survey-more}
-use Rattle.command.proofs.Tables.{has-slot, slot-within, slot-one, times-none, required-slot, own-needed, further-needed}
+use Rattle.command.proofs.Needed.{first-there, needed-slot, complete-is}
+use Rattle.command.proofs.Sifting.{numbers, occurs-more, occurs-present, value-more, value-none, sift-more, survey-more}
+use Rattle.command.proofs.Tables.{has-slot, slot-self, slot-within, slot-one, times-none, own-needed, further-needed}
 
 -- what was met of a number among the objects before a place: how many, and where the first value starts; so many objects may still stand from there on
 pub record Met (s : List ℕ) (before : List Object) (at fuel n count start : ℕ) : Type 0 where
@@ -282,37 +281,6 @@ fault-met l e f = sym (ap failing f) ∙ all (tagAt l)
     all noTag = refl
     all (tag n b r) = after n b (lengthAt r)
 
--- what was found, from slots that were computed
-pub gathered :
-    (starts : List ℕ) (row : Row) (survey : Survey) (whole complete : Bool) (a b c e : ℕ) → a ≡ slotOf 0x02 → b ≡ slotOf (row .own) →
-    c ≡ slotOf (row .further) → e ≡ slotOf 0x3C → complete ≡ allStand (getD starts a 0) (getD starts b 0) (getD starts c 0) →
-    _≡_ {A = Sorted}
-    (record {
-      flagged = survey .flagged;
-      ignored = survey .ignored;
-      misfit = survey .misfit;
-      whole = whole;
-      complete = complete;
-      devices = getD starts a 0;
-      own = getD starts b 0;
-      further = getD starts c 0;
-      transport = getD starts e 0;
-    })
-    (sortedBy starts row survey whole)
-gathered starts row survey whole complete a b c e qa qb qc qe q =
-    λ i.
-    record {
-      flagged = survey .flagged;
-      ignored = survey .ignored;
-      misfit = survey .misfit;
-      whole = whole;
-      complete = (q ∙ (λ j. allStand (getD starts (qa j) 0) (getD starts (qb j) 0) (getD starts (qc j) 0))) i;
-      devices = getD starts (qa i) 0;
-      own = getD starts (qb i) 0;
-      further = getD starts (qc i) 0;
-      transport = getD starts (qe i) 0;
-    }
-
 -- where no object is left, what was met is what stands
 module _
     {s counts starts : List ℕ} {v : Survey} {at : ℕ} (w : Sorting s counts starts v at) {first : ℕ} (g : Headed s first)
@@ -321,11 +289,13 @@ module _
     all : w .before ≡ walk s .objects
     all = sym (w .objects ∙ ap (λ (l : List Object). w .before ++ l) none ∙ append-nil (w .before))
 
-    stands : (n : ℕ) → has-slot n ≡ true → StandsAt (getD starts (slotOf n) 0) s n
+    stands : (n : ℕ) → has-slot n ≡ true → StandsAt (getD starts n 0) s n
     stands n h =
-        let m = subst (λ (os : List Object). Met s os at (w .fuel) n (getD counts (slotOf n) 0) (getD starts (slotOf n) 0)) all (w .met n h) in
+        let m =
+        subst (λ (j : ℕ). Met s (walk s .objects) at (w .fuel) n (getD counts j 0) (getD starts j 0)) (slot-self n h)
+        (subst (λ (os : List Object). Met s os at (w .fuel) n (getD counts (slotOf n) 0) (getD starts (slotOf n) 0)) all (w .met n h)) in
         let there = m .there ∙ ap (λ (k : ℕ). eqb k 0) (m .counted) ∙ occurs-present n (walk s .objects) in
-        let some : present n (walk s .objects) ≡ true → eqb (getD counts (slotOf n) 0) 0 ≡ false = λ e. sym (m .there) ∙ there ∙ ap not e in
+        let some : present n (walk s .objects) ≡ true → eqb (getD counts n 0) 0 ≡ false = λ e. sym (m .there) ∙ there ∙ ap not e in
         record {
           there = there;
           value = m .value;
@@ -334,14 +304,11 @@ module _
           place = λ e. sym (m .place ∙ skip _ _ _ (some e));
         }
 
-    needs-slot : (n : ℕ) → member n (needed row) ≡ true → has-slot n ≡ true
-    needs-slot n e = required-slot (theDetails s) n (every-member (λ k. member k (rowOf (theDetails s) .required)) n (needed row) (r .required) e)
-
     sorts : (whole : Bool) → whole ≡ not (isFault (walk s .ending)) → Sorts (sortedBy starts row v whole) s row
     unfolding member some-of
     sorts whole e =
-        let own = needs-slot (row .own) (own-needed (row .own) (row .further)) in
-        let further = needs-slot (row .further) (further-needed (row .own) (row .further)) in
+        let own = needed-slot s r (row .own) (own-needed (row .own) (row .further)) in
+        let further = needed-slot s r (row .further) (further-needed (row .own) (row .further)) in
         let survey = w .survey ∙ ap (λ (l : List Object). surveyOf (sift (rowOf (theDetails s)) [] l)) all in
         record {
           flagged = ap (λ (y : Survey). y .flagged) survey;

@@ -27,7 +27,7 @@ use Rattle.command.proofs.Keys.{arm, out-keys, run, in-run, Outside, ou
 abbrev pub has-slot : ℕ → Bool
 has-slot n = ltb 0 n && ltb n slots
 
-slot-self : (n : ℕ) → has-slot n ≡ true → slotOf n ≡ n
+pub slot-self : (n : ℕ) → has-slot n ≡ true → slotOf n ≡ n
 unfolding slotOf
 slot-self n h = stop _ _ _ (both-right (ltb 0 n) (ltb n slots) h)
 

@@ -48,9 +48,9 @@ allStand a b c =
 -- what was found, where the first values start there
 abbrev pub sortedBy : List ℕ → Row → Survey → Bool → Sorted
 sortedBy starts row survey whole =
-    let devices = getD starts (slotOf 0x02) 0 in
-    let own = getD starts (slotOf (row .own)) 0 in
-    let further = getD starts (slotOf (row .further)) 0 in
+    let devices = getD starts 0x02 0 in
+    let own = getD starts (row .own) 0 in
+    let further = getD starts (row .further) 0 in
     record {
       flagged = survey .flagged;
       ignored = survey .ignored;
@@ -60,5 +60,5 @@ sortedBy starts row survey whole =
       devices = devices;
       own = own;
       further = further;
-      transport = getD starts (slotOf 0x3C) 0;
+      transport = getD starts 0x3C 0;
     }

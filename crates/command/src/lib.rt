@@ -359,12 +359,12 @@ fn all_stand(a: u16, b: u16, c: u16) -> bool
 
 // What was found, from where the first value of each slot starts.
 fn gather(starts: &[u16; 72], row: Row, survey: Survey, whole: bool) -> Sorted
-    requires { ⌜ length (now starts) ≡ slots ⌝ }
+    requires { ⌜ (length (now starts) ≡ slots) × (row .own < slots) × (row .further < slots) ⌝ }
     ensures { λ r. ⌜ r ≡ sortedBy (now (starts .entry)) row survey whole ⌝ }
 {
-    let devices = starts[slot(DEVICES)];
-    let own = starts[slot(row.own)];
-    let further = starts[slot(row.further)];
+    let devices = starts[DEVICES as usize];
+    let own = starts[row.own as usize];
+    let further = starts[row.further as usize];
     Sorted {
         flagged: survey.flagged,
         ignored: survey.ignored,
@@ -374,7 +374,7 @@ fn gather(starts: &[u16; 72], row: Row, survey: Survey, whole: bool) -> Sorted
         devices,
         own,
         further,
-        transport: starts[slot(TRANSPORT)],
+        transport: starts[TRANSPORT as usize],
     }
 }
 
@@ -484,7 +484,9 @@ fn size_at(s: &[u8], opening: bool, at: usize) -> u16
     if !opening {
         return 0;
     }
-    256 * s[at] as u16 + s[at + 1] as u16
+    let high = s[at] as u16;
+    let low = s[at + 1] as u16;
+    256 * high + low
 }
 
 // The protocol that OPEN CHANNEL asks for, the first byte of 3C; TCP where none stands, and for another type.

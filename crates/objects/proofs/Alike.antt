@@ -2,13 +2,11 @@
 -- Assumes nothing.
 use Prim.Native.Nat.{ℕ, _+_, _-_, _≤_}
 use mathlib.Core.Path.{_≡_, refl, sym, ap, _∙_}
-use mathlib.Core.Bool.{Bool, true, false, true≢false, false≢true}
-use mathlib.Core.List.{List, []}
+use mathlib.Core.Bool.{Bool}
+use mathlib.Core.List.{List}
 use native.Mathlib.Omega.{arith}
 use lib.ListN.{length, drop, length-take, length-drop}
-use Rattle.rules.specs.declared.Ending.{Ending}
-use Rattle.rules.specs.declared.Ending.the-variants.{End}
-use Rattle.rules.specs.Frames.{LengthRead, len, noLength, following, ObjectRead, object, faulty}
+use Rattle.rules.specs.Frames as frames
 use Rattle.octets.specs.Parts.{part}
 use Rattle.objects.specs.declared.Sized.{Sized}
 use Rattle.objects.specs.declared.Sized.the-variants.{By, Not}
@@ -31,75 +29,42 @@ part-size s a n h =
 part-alike : (s : List ℕ) (a b n m : ℕ) → a + n ≤ length s → b + m ≤ length s → part a (a + n) s ≡ part b (b + m) s → n ≡ m
 part-alike s a b n m h k e = sym (part-size s a n h) ∙ ap length e ∙ part-size s b m k
 
--- a length that was read, and that it was
-countIn : LengthRead → ℕ
-countIn noLength = 0
-countIn (len n s) = n
-
-isLength : LengthRead → Bool
-isLength noLength = false
-isLength (len n s) = true
+-- nothing is two things at once
+never : _≡_ {A = ℕ} 0 1 → ⊥
+never z = omega arith
 
 pub sized-alike : (x y : Sized) (s : List ℕ) (at : ℕ) → Measures x s at → Measures y s at → x ≡ y
-unfolding countIn isLength following
 sized-alike (By n a) (By m b) s at p q =
-    let e = sym (p .is) ∙ q .is in
-    λ i. By (ap countIn e i) (drop-alike s a b (p .within) (q .within) (ap following e) i)
-sized-alike (By n a) Not s at p q = absurd (true≢false (ap isLength (sym (p .is) ∙ q)))
-sized-alike Not (By m b) s at p q = absurd (false≢true (ap isLength (sym p ∙ q .is)))
+    let count : n ≡ m = cc (p .is, q .is) in
+    let rest : drop a s ≡ drop b s = cc (p .is, q .is) in
+    λ i. By (count i) (drop-alike s a b (p .within) (q .within) rest i)
+sized-alike (By n a) Not s at p q = absurd (never (cc (p .is, q)))
+sized-alike Not (By m b) s at p q = absurd (never (cc (p, q .is)))
 sized-alike Not Not s at p q = refl
-
--- an object that was read, what stands behind it, and the fault where none was
-numberIn : ObjectRead → ℕ
-numberIn (faulty e) = 0
-numberIn (object o s) = o .number
-
-flagIn : ObjectRead → Bool
-flagIn (faulty e) = false
-flagIn (object o s) = o .flag
-
-valueIn : ObjectRead → List ℕ
-valueIn (faulty e) = []
-valueIn (object o s) = o .value
-
-behind : ObjectRead → List ℕ
-behind (faulty e) = []
-behind (object o s) = s
-
-endingIn : ObjectRead → Ending
-endingIn (faulty e) = e
-endingIn (object o s) = End
-
-isObject : ObjectRead → Bool
-isObject (faulty e) = false
-isObject (object o s) = true
 
 module _
     {s : List ℕ} {at m : ℕ} {f : Bool} {a n k l : ℕ} {g : Bool} {b o j : ℕ} (p : Stands s at m f a n k) (q : Stands s at l g b o j) where
-  same-read : object (objectOf s m f a n) (drop k s) ≡ object (objectOf s l g b o) (drop j s)
-  same-read = sym (p .is) ∙ q .is
+  same-object : objectOf s m f a n ≡ objectOf s l g b o
+  same-object = cc (p .is, q .is)
 
   next-alike : k ≡ j
-  unfolding behind
-  next-alike = drop-alike s k j (p .within) (q .within) (ap behind same-read)
+  next-alike = let rest : drop k s ≡ drop j s = cc (p .is, q .is) in drop-alike s k j (p .within) (q .within) rest
 
   size-alike : n ≡ o
-  unfolding valueIn
-  size-alike = part-alike s a b n o (omega (arith, p .ends, p .within)) (omega (arith, q .ends, q .within)) (ap valueIn same-read)
+  size-alike =
+      part-alike s a b n o (omega (arith, p .ends, p .within)) (omega (arith, q .ends, q .within)) (ap (λ (x : frames.Object). x .value) same-object)
 
   start-alike : a ≡ b
   start-alike = omega (arith, size-alike, next-alike, p .ends, q .ends)
 
   object-alike : _≡_ {A = Found} (Object m f a n (record { at = k })) (Object l g b o (record { at = j }))
-  unfolding numberIn flagIn
-  object-alike = λ i. Object (ap numberIn same-read i) (ap flagIn same-read i) (start-alike i) (size-alike i) (record { at = next-alike i })
+  object-alike = λ i. Object (same-object i .number) (same-object i .flag) (start-alike i) (size-alike i) (record { at = next-alike i })
 
 pub found-alike : (x y : Found) (s : List ℕ) (at : ℕ) → Meets x s at → Meets y s at → x ≡ y
-unfolding isObject endingIn
 found-alike (Object m f a n k) (Object l g b o j) s at p q = object-alike p q
-found-alike (Object m f a n k) (Fault e) s at p q = absurd (true≢false (ap isObject (sym (p .is) ∙ q)))
-found-alike (Fault e) (Object m f a n k) s at p q = absurd (false≢true (ap isObject (sym p ∙ q .is)))
-found-alike (Fault e) (Fault f) s at p q = ap Fault (ap endingIn (sym p ∙ q))
+found-alike (Object m f a n k) (Fault e) s at p q = absurd (never (cc (p .is, q)))
+found-alike (Fault e) (Object m f a n k) s at p q = absurd (never (cc (p, q .is)))
+found-alike (Fault e) (Fault f) s at p q = let same : e ≡ f = cc (p, q) in ap Fault same
 
 pub same-place : (a b r n : ℕ) → a + r ≡ n → b + r ≡ n → a ≡ b
 same-place a b r n e f = omega arith

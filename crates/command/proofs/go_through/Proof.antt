@@ -7,6 +7,7 @@ use lib.ListN.{length}
 use borrow.Author.Needs.{needs}
 use Rattle.objects.proofs.Reading.{object-told, object-missed}
 use Rattle.objects.proofs.Walking.{nearer}
+use Rattle.command.proofs.Needed.{needed-low}
 use Rattle.command.proofs.Sorting.{Sorting, sorting-start, sorting-on, sorted-end, sorted-fault}
 use Rattle.command.proofs.go_through.Statement.{statement}
 use Rattle.command.proofs.go_through.Tie as tie
@@ -60,6 +61,13 @@ loop-again c =
     let z : tie.Start Inv-loop μ-loop = search in
     sorting-on (l .loop .inv) (object-told (n .number .given .1) (o .object .ensures)) (z .pre .2) _ _ _ _ _ (k .slot .ensures .0) (a .first-of .ensures) (t .times .ensures) (f .fits2 .ensures) (c .note .ensures)
 
+gather-requires : tie.Need-gather-requires Inv-loop μ-loop
+gather-requires c κs =
+    let l : tie.At-loop Inv-loop μ-loop = search in
+    let z : tie.Start Inv-loop μ-loop = search in
+    let low = needed-low _ (z .pre .2) in
+    (l .loop .inv .starts-long, low .0, low .1)
+
 returns : tie.Need-returns Inv-loop μ-loop
 returns c =
     let j : tie.Joined1 Inv-loop μ-loop = search in
@@ -99,5 +107,5 @@ go-through-spec =
     loop-less
     loop-again
     (λ c. search needs)
-    (λ c κs. search needs)
+    gather-requires
     returns)

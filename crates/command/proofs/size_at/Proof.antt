@@ -13,10 +13,15 @@ use Rattle.command.proofs.size_at.Tie as tie
 within : (c : tie.Else1) → c .before .args .at + 2 ≤ length (now (c .before .args .s))
 within c = c .before .pre (not-false _ (c .if1 .left))
 
-high : tie.Need-mul-result
-high c = let s : tie.Start = search in omega (arith, c .shared-slice-known .given (s .args .at))
+low : tie.Need-cast-low
+low c = let s : tie.Start = search in omega (arith, c .shared-slice-known2 .given (s .args .at + 1))
 
-both : tie.Need-add-result-2
+times-256 : tie.Need-mul-result
+times-256 c =
+    let s : tie.Start = search in
+    omega (arith, c .shared-slice-known2 .given (s .args .at), c .shared-slice-known2 .given (s .args .at + 1))
+
+both : tie.Need-add-result
 both c =
     let s : tie.Start = search in
     omega (arith, c .shared-slice-known2 .given (s .args .at), c .shared-slice-known2 .given (s .args .at + 1))
@@ -29,9 +34,9 @@ size-at-spec =
     (λ c. search checks)
     (λ c. let e : tie.Else1 = search in omega (arith, within e))
     (λ c. let s : tie.Start = search in omega (arith, c .shared-slice-known .given (s .args .at)))
-    high
     (λ c. let e : tie.Else1 = search in omega (arith, within e))
     (λ c. let e : tie.Else1 = search in omega (arith, within e))
-    (λ c. let s : tie.Start = search in omega (arith, c .shared-slice-known2 .given (s .args .at + 1)))
+    low
+    times-256
     both
     (λ c. search checks))
