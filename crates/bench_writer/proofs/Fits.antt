@@ -22,6 +22,7 @@ use Rattle.bench_writer.specs.declared.Level.the-variants.{Without, With
 use Rattle.bench_writer.specs.declared.Asking.{Asking}
 use Rattle.bench_writer.specs.declared.Asking.the-variants.{MoreTime, EventList, Open, Close, Receive, Send, Status, Other}
 use Rattle.bench_writer.specs.Records.{levelOf, bodyOf}
+use Rattle.bench_writer.specs.Wrote.{valueCap, bodyCap}
 use Rattle.bench_writer.proofs.Writes.{behindBearer, opening-form}
 
 -- from where to where
@@ -110,11 +111,11 @@ unfolding written objectBytes lengthBytes pairBytes transportObjects levelOf _�
 level-sized Without = omega arith
 level-sized (With protocol port) = omega arith
 
-value-sized : (n : ℕ) (v : List ℕ) → leb (length v) 241 ≡ true → length (written (flagged n v ∷ [])) ≤ 244
-value-sized n v e = let l = length-bytes (length v) in omega (arith, value-size n v, leb-true (length v) 241 e)
+value-sized : (n : ℕ) (v : List ℕ) → leb (length v) valueCap ≡ true → length (written (flagged n v ∷ [])) ≤ bodyCap
+value-sized n v e = let l = length-bytes (length v) in omega (arith, value-size n v, leb-true (length v) valueCap e)
 
--- values that the bench writes take at most 244 bytes
-pub body-sized : (a : Asking) (s : List ℕ) → bodyProper (bodyOf a s) ≡ true → length (written (bodyObjects (bodyOf a s))) ≤ 244
+-- values that the bench writes take at most so many bytes
+pub body-sized : (a : Asking) (s : List ℕ) → bodyProper (bodyOf a s) ≡ true → length (written (bodyObjects (bodyOf a s))) ≤ bodyCap
 unfolding bodyProper bodyObjects bodyOf written
 body-sized MoreTime s e = omega arith
 body-sized EventList s e = value-sized 0x19 s e
@@ -123,7 +124,7 @@ body-sized (Open kind size level) s e =
     let l = level-sized level in
     omega (arith, opening-size kind size level s b)
 body-sized Close s e = omega arith
-body-sized (Receive n) s e = value-sized 0x37 (n ∷ []) (le-leb 1 241 (omega arith))
+body-sized (Receive n) s e = value-sized 0x37 (n ∷ []) (le-leb 1 valueCap (omega arith))
 body-sized Send s e = value-sized 0x36 s e
 body-sized Status s e = omega arith
 body-sized (Other kind) s e = omega arith

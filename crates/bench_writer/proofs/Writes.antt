@@ -7,7 +7,7 @@ use mathlib.Core.Bool.{Bool, true, false, not}
 use native.Mathlib.Omega.{arith}
 use native.Mathlib.Nat.{add-zero}
 use lib.ListN.{length, drop, length-append, take, take-append-drop}
-use borrow.Author.Tests.{lt-ltb, le-ltb}
+use borrow.Author.Tests.{lt-ltb, le-ltb, not-true, not-false}
 use Rattle.octets.specs.Parts.{pasted}
 use Rattle.rules.specs.declared.Refusal.{Refusal}
 use Rattle.rules.specs.declared.Refusal.the-variants.{ShortBuffer, UnfitRecord}
@@ -28,7 +28,7 @@ use Rattle.bench_writer.specs.declared.Level.{Level}
 use Rattle.bench_writer.specs.declared.Asking.the-variants.{Open}
 use Rattle.bench_writer.specs.declared.Record.{Record}
 use Rattle.bench_writer.specs.Records.{levelOf, bodyOf, commandOf}
-use Rattle.bench_writer.specs.Wrote.{Wrote, frontBytes}
+use Rattle.bench_writer.specs.Wrote.{bodyCap, bufferSize, Wrote, frontBytes}
 
 -- a write leaves the buffer its length
 pub still : (s : List ℕ) (at end : ℕ) (before after : List ℕ) → Wrote s at end before after → length after ≡ length before
@@ -103,13 +103,13 @@ opening-form kind size level s h =
     ap (λ (n : ℕ). 0xB5 ∷ (lengthBytes n ++ (kind ∷ s)) ++ behindBearer size level) e
     ∙ ap (λ (l : List ℕ). 0xB5 ∷ (l ++ (kind ∷ s)) ++ behindBearer size level) (short-length (1 + length s) (omega arith))
 
-module _ (kind size at : ℕ) (level : Level) (s before d₁ d₂ : List ℕ) (room : at + 244 ≤ length before) (h : length s ≤ 6)
+module _ (kind size at : ℕ) (level : Level) (s before : List ℕ) {d₁ d₂ : List ℕ} (pre : (at + bodyCap ≤ length before) × (length s ≤ 6))
     (p₁ : d₁ ≡ pasted before at (0xB5 ∷ (1 + length s) ∷ kind ∷ [])) (p₂ : d₂ ≡ pasted d₁ (at + 3) s) where
   bearer-wrote : Wrote (0xB5 ∷ (1 + length s) ∷ kind ∷ s) at (at + 3 + length s) before d₂
   bearer-wrote =
       then-put (0xB5 ∷ (1 + length s) ∷ kind ∷ []) s at (at + 3) _ before d₁ d₂ (by-put _ at (at + 3) before d₁ (omega arith) refl p₁) (omega arith) refl p₂
 
-  module _ (m : ℕ) (d₃ : List ℕ) (w₃ : Wrote (objectBytes (flagged 0x39 (pairBytes size))) (at + 3 + length s) m d₂ d₃) where
+  module _ {m : ℕ} {d₃ : List ℕ} (w₃ : Wrote (objectBytes (flagged 0x39 (pairBytes size))) (at + 3 + length s) m d₂ d₃) where
     pub level-room : m + 6 ≤ length d₃
     unfolding objectBytes lengthBytes pairBytes _⇒_else_
     level-room =
@@ -118,16 +118,16 @@ module _ (kind size at : ℕ) (level : Level) (s before d₁ d₂ : List ℕ) (r
         omega (arith, w₃ .behind)
 
     pub opening-wrote :
-        (end : ℕ) (after : List ℕ) → Wrote (written (transportObjects (levelOf level))) m end d₃ after →
+        {end : ℕ} {after : List ℕ} → Wrote (written (transportObjects (levelOf level))) m end d₃ after →
         Wrote (written (bodyObjects (bodyOf (Open kind size level) s))) at end before after
-    opening-wrote end after w₄ =
-        as-form _ _ at end before after (opening-form kind size level s h)
+    opening-wrote {end} {after} w₄ =
+        as-form _ _ at end before after (opening-form kind size level s (pre .1))
         (joined _ _ at (at + 3 + length s) end before d₂ after bearer-wrote (joined _ _ (at + 3 + length s) m end d₂ d₃ after w₃ w₄))
 
 -- behind the front there is room for the values
 pub front-room :
-    (order : Record) (kind size at : ℕ) (before after : List ℕ) → 256 ≤ length before → Wrote (frontBytes order kind size) 0 at before after →
-    at + 244 ≤ length after
+    (order : Record) (kind size at : ℕ) (before after : List ℕ) → bufferSize ≤ length before → Wrote (frontBytes order kind size) 0 at before after →
+    at + bodyCap ≤ length after
 unfolding frontBytes
 front-room order kind size at before after h w =
     let l = still _ _ _ _ _ w in
@@ -149,6 +149,19 @@ wrote-ends o s end before after e w = (
   w .lent ∙ front-over before s ∙ ap (λ (x : Outcome). overlaid (writtenBy x) before) (sym e),
 )
 
+front-frame :
+    (order : Record) (s : List ℕ) (kind : ℕ) → let body = bodyOf (order .asking) s in kind ≡ kindOf body → (size : ℕ) → size ≡ length (written (bodyObjects body)) →
+    frame (commandObjects (commandOf order s)) ≡ frontBytes order kind size ++ written (bodyObjects body)
+unfolding frame commandObjects commandOf detailsOf detailsBytes written objectBytes lengthBytes frontBytes _⇒_else_
+front-frame order s kind k size e =
+    let body = bodyOf (order .asking) s in
+    let n = length (written (bodyObjects body)) in
+    let objects : List ℕ = 0x81 ∷ 0x03 ∷ order .number ∷ kindOf body ∷ order .qualifier ∷ 0x82 ∷ 0x02 ∷ order .source .0 ∷ order .destination .0 ∷ [] in
+    let nine : suc (suc (suc (suc (suc (suc (suc (suc (suc n)))))))) ≡ 9 + n = omega arith in
+    ap (λ (k : ℕ). 0xD0 ∷ lengthBytes k ++ (objects ++ written (bodyObjects body))) nine
+    ∙ sym (append-assoc (0xD0 ∷ lengthBytes (9 + n)) objects (written (bodyObjects body)))
+    ∙ (λ i. frontBytes order (sym k i) (sym e i) ++ written (bodyObjects body))
+
 -- the bench writer, check by check
 module _ (order : Record) (s : List ℕ) (buffer : ℕ) where
   abbrev body : Body
@@ -157,35 +170,25 @@ module _ (order : Record) (s : List ℕ) (buffer : ℕ) where
   abbrev outcome : Outcome
   outcome = benchWrite buffer (commandOf order s)
 
-  pub short-buffer : buffer < 256 → outcome ≡ refused ShortBuffer
+  pub short-buffer : buffer < bufferSize → outcome ≡ refused ShortBuffer
   unfolding benchWrite
-  short-buffer h = stop _ _ _ (lt-ltb buffer 256 h)
+  short-buffer h = stop _ _ _ (lt-ltb buffer bufferSize h)
 
-  module _ (h : 256 ≤ buffer) (kind : ℕ) (k : kind ≡ kindOf body) where
-    not-kind : (t : Bool) → addressed kind (order .source) (order .destination) ≡ t → not (addressed (kindOf body) (order .source) (order .destination)) ≡ not t
-    not-kind t e = ap (λ (x : ℕ). not (addressed x (order .source) (order .destination))) (sym k) ∙ ap not e
+  module _ (h : bufferSize ≤ buffer) {kind : ℕ} (k : (t : List ℕ) → kind ≡ kindOf (bodyOf (order .asking) t)) {b : Bool} (f : b ≡ addressed kind (order .source) (order .destination)) where
+    not-kind : (t : Bool) → b ≡ t → not (addressed (kindOf body) (order .source) (order .destination)) ≡ not t
+    not-kind t e = ap (λ (x : ℕ). not (addressed x (order .source) (order .destination))) (sym (k s)) ∙ ap not (sym f ∙ e)
 
-    pub unaddressed : addressed kind (order .source) (order .destination) ≡ false → outcome ≡ refused UnfitRecord
+    pub unaddressed : not b ≡ true → outcome ≡ refused UnfitRecord
     unfolding benchWrite commandOf
-    unaddressed e = skip _ _ _ (le-ltb buffer 256 h) ∙ stop _ _ _ (not-kind false e)
+    unaddressed n = skip _ _ _ (le-ltb buffer bufferSize h) ∙ stop _ _ _ (not-kind false (not-true b n))
 
-    pub unproper : addressed kind (order .source) (order .destination) ≡ true → bodyProper body ≡ false → outcome ≡ refused UnfitRecord
-    unfolding benchWrite commandOf
-    unproper e p = skip _ _ _ (le-ltb buffer 256 h) ∙ skip _ _ _ (not-kind true e) ∙ stop _ _ _ (ap not p)
+    module _ (n : not b ≡ false) {p : Bool} (e : p ≡ bodyProper body) where
+      pub unproper : not p ≡ true → outcome ≡ refused UnfitRecord
+      unfolding benchWrite commandOf
+      unproper m = skip _ _ _ (le-ltb buffer bufferSize h) ∙ skip _ _ _ (not-kind true (not-false b n)) ∙ stop _ _ _ (ap not (sym e) ∙ m)
 
-    front-frame : (size : ℕ) → size ≡ length (written (bodyObjects body)) → frame (commandObjects (commandOf order s)) ≡ frontBytes order kind size ++ written (bodyObjects body)
-    unfolding frame commandObjects commandOf detailsOf detailsBytes written objectBytes lengthBytes frontBytes _⇒_else_
-    front-frame size e =
-        let n = length (written (bodyObjects body)) in
-        let objects : List ℕ = 0x81 ∷ 0x03 ∷ order .number ∷ kindOf body ∷ order .qualifier ∷ 0x82 ∷ 0x02 ∷ order .source .0 ∷ order .destination .0 ∷ [] in
-        let nine : suc (suc (suc (suc (suc (suc (suc (suc (suc n)))))))) ≡ 9 + n = omega arith in
-        ap (λ (k : ℕ). 0xD0 ∷ lengthBytes k ++ (objects ++ written (bodyObjects body))) nine
-        ∙ sym (append-assoc (0xD0 ∷ lengthBytes (9 + n)) objects (written (bodyObjects body)))
-        ∙ (λ i. frontBytes order (sym k i) (sym e i) ++ written (bodyObjects body))
-
-    pub whole :
-        addressed kind (order .source) (order .destination) ≡ true → bodyProper body ≡ true → (size : ℕ) → size ≡ length (written (bodyObjects body)) →
-        outcome ≡ wrote (frontBytes order kind size ++ written (bodyObjects body))
-    unfolding benchWrite commandOf
-    whole e p size l =
-        skip _ _ _ (le-ltb buffer 256 h) ∙ skip _ _ _ (not-kind true e) ∙ skip _ _ _ (ap not p) ∙ ap wrote (front-frame size l)
+      pub whole : not p ≡ false → {size : ℕ} → size ≡ length (written (bodyObjects body)) → outcome ≡ wrote (frontBytes order kind size ++ written (bodyObjects body))
+      unfolding benchWrite commandOf
+      whole m l =
+          skip _ _ _ (le-ltb buffer bufferSize h) ∙ skip _ _ _ (not-kind true (not-false b n)) ∙ skip _ _ _ (ap not (sym e) ∙ m)
+          ∙ ap wrote (front-frame order s kind (k s) _ l)

@@ -14,7 +14,12 @@ ghost use Rattle.rules.specs.Reading.{kindOf, addressed};
 ghost use Rattle.rules.specs.Bench.{bearerProper, bodyProper, transportObjects, bodyObjects, benchWrite};
 ghost use Rattle.session.specs.Calls.{endedOf, writtenBy, overlaid};
 ghost use Rattle.bench_writer.specs.Records.{levelOf, bodyOf, commandOf};
-ghost use Rattle.bench_writer.specs.Wrote.{Wrote, frontBytes};
+ghost use Rattle.bench_writer.specs.Wrote.{valueCap, bodyCap, Wrote, frontBytes};
+
+// The most bytes that an event list or data has.
+const VALUE_CAP: usize = 241;
+// The least buffer that is not refused.
+const BUFFER: usize = 256;
 
 // The transport level of an OPEN CHANNEL, object 3C, where it has one: its protocol and its port.
 pub enum Level {
@@ -89,11 +94,11 @@ fn is_proper(asking: Asking, bytes: &[u8]) -> bool
 {
     match asking {
         Asking::MoreTime => true,
-        Asking::EventList => bytes.len() <= 241,
+        Asking::EventList => bytes.len() <= VALUE_CAP,
         Asking::Open(kind, _, _) => fits_bearer(kind, bytes),
         Asking::Close => true,
         Asking::Receive(_) => true,
-        Asking::Send => bytes.len() <= 241,
+        Asking::Send => bytes.len() <= VALUE_CAP,
         Asking::Status => true,
         Asking::Other(_) => false,
     }
@@ -101,7 +106,7 @@ fn is_proper(asking: Asking, bytes: &[u8]) -> bool
 
 // How many bytes an object takes whose value has so many.
 fn object_size(len: usize) -> usize
-    requires { ⌜ len ≤ 241 ⌝ }
+    requires { ⌜ len ≤ valueCap ⌝ }
     ensures { λ r. ⌜ r ≡ 1 + length (lengthBytes len) + len ⌝ }
 {
     if len < 0x80 {
@@ -139,7 +144,7 @@ fn body_size(asking: Asking, bytes: &[u8]) -> usize
 
 // Writes an object, and tells the place behind it.
 fn write_object(out: &mut [u8], at: usize, tag: u8, value: &[u8]) -> usize
-    requires { ⌜ (at + 3 + length (now value) ≤ length (now out)) × (length (now value) ≤ 241) ⌝ }
+    requires { ⌜ (at + 3 + length (now value) ≤ length (now out)) × (length (now value) ≤ valueCap) ⌝ }
     ensures { λ r. ⌜ Wrote (tag ∷ lengthBytes (length (now (value .entry))) ++ now (value .entry)) at r (now (out .entry)) (now (out .exit)) ⌝ }
 {
     let start = objects::write_length(out, at, tag, value.len() as u8);
@@ -149,7 +154,7 @@ fn write_object(out: &mut [u8], at: usize, tag: u8, value: &[u8]) -> usize
 
 // Writes D0, the length of the objects, and objects 01 and 02, which so many bytes are to follow; tells the place behind them.
 fn write_front(out: &mut [u8], order: Record, kind: u8, size: usize) -> usize
-    requires { ⌜ (12 ≤ length (now out)) × (size ≤ 244) ⌝ }
+    requires { ⌜ (12 ≤ length (now out)) × (size ≤ bodyCap) ⌝ }
     ensures { λ r. ⌜ Wrote (frontBytes order kind size) 0 r (now (out .entry)) (now (out .exit)) ⌝ }
 {
     let start = objects::write_length(out, 0, 0xD0, (9 + size) as u8);
@@ -191,7 +196,7 @@ fn write_opening(
     level: Level,
     parameters: &[u8],
 ) -> usize
-    requires { ⌜ (at + 244 ≤ length (now out)) × (length (now parameters) ≤ 6) ⌝ }
+    requires { ⌜ (at + bodyCap ≤ length (now out)) × (length (now parameters) ≤ 6) ⌝ }
     ensures { λ r. ⌜ Wrote (written (bodyObjects (bodyOf (Asking.Open kind size level) (now (parameters .entry))))) at r (now (out .entry)) (now (out .exit)) ⌝ }
 {
     let bearer = [0xB5u8, 1 + parameters.len() as u8, kind];
@@ -205,7 +210,7 @@ fn write_opening(
 
 // Writes the objects of the values, and tells the place behind them.
 fn write_body(out: &mut [u8], at: usize, asking: Asking, bytes: &[u8]) -> usize
-    requires { ⌜ (at + 244 ≤ length (now out)) × (bodyProper (bodyOf asking (now bytes)) ≡ true) ⌝ }
+    requires { ⌜ (at + bodyCap ≤ length (now out)) × (bodyProper (bodyOf asking (now bytes)) ≡ true) ⌝ }
     ensures { λ r. ⌜ Wrote (written (bodyObjects (bodyOf asking (now (bytes .entry))))) at r (now (out .entry)) (now (out .exit)) ⌝ }
 {
     match asking {
@@ -228,7 +233,7 @@ pub fn write(order: Record, bytes: &[u8], out: &mut [u8]) -> Ended
     ensures { λ r. ⌜ r ≡ endedOf (benchWrite (length (now (out .entry))) (commandOf order (now (bytes .entry)))) ⌝ }
     ensures { λ r. ⌜ now (out .exit) ≡ overlaid (writtenBy (benchWrite (length (now (out .entry))) (commandOf order (now (bytes .entry))))) (now (out .entry)) ⌝ }
 {
-    if out.len() < 256 {
+    if out.len() < BUFFER {
         return Ended::Refused(Refusal::ShortBuffer);
     }
     let asking = order.asking;
