@@ -15,6 +15,7 @@ use Rattle.rules.proofs.Readings.{value-fits}
 use Rattle.command.specs.declared.Plan.{Plan}
 use Rattle.command.specs.declared.Sorted.{Sorted}
 use Rattle.command.specs.Plans.{needed}
+use Rattle.command.specs.Surveys.{allStand}
 use Rattle.command.specs.Requests.{theDetails, theObjects, theCommand, Typed, Begun, Fitted}
 use Rattle.command.proofs.Keys.{every-member}
 use Rattle.command.proofs.Needed.{needed-required, needed-alike}
@@ -29,12 +30,12 @@ module _ {s : List ℕ} {d : Details} {plan : Plan} {v : Sorted} (b : Begun s d 
   known-flagged e p t = told (read-typed p s t ∙ stop _ _ _ (sym (b .sorted .flagged) ∙ e))
 
   -- step 7
-  pub known-incomplete : v .flagged ≡ false → v .complete ≡ false → (p : List ℕ) → Typed p s → readObjects p s ≡ wrong d 0x36
+  pub known-incomplete : v .flagged ≡ false → allStand (v .devices) (v .own) (v .further) ≡ false → (p : List ℕ) → Typed p s → readObjects p s ≡ wrong d 0x36
   known-incomplete f e p t =
       told (read-typed p s t ∙ skip _ _ _ (sym (b .sorted .flagged) ∙ f) ∙ stop _ _ _ (ap not (sym (b .sorted .complete) ∙ e)))
 
   pub known-misfit :
-      v .flagged ≡ false → v .complete ≡ true → v .misfit ≡ true → (p : List ℕ) → Typed p s → readObjects p s ≡ wrong d 0x32
+      v .flagged ≡ false → allStand (v .devices) (v .own) (v .further) ≡ true → v .misfit ≡ true → (p : List ℕ) → Typed p s → readObjects p s ≡ wrong d 0x32
   known-misfit f c e p t =
       told
       (read-typed p s t ∙ skip _ _ _ (sym (b .sorted .flagged) ∙ f) ∙ skip _ _ _ (ap not (sym (b .sorted .complete) ∙ c))

@@ -263,18 +263,21 @@ places-rule t low high =
     let w = every-member (λ k. eqb (place-of k .byte) 12 && eqb (place-of k .bit) (k - 0x3F)) t (run 0x40 5) refl (in-run t 0x40 5 low (omega arith)) in
     (eqb-true _ _ (both-left byte bit w), eqb-true _ _ (both-right byte bit w))
 
--- the types that have a plan: two, and the range
+-- the types that have a plan: those that have an arm of their own, and the range
+abbrev alone : List ℕ
+alone = 0x02 ∷ 0x05 ∷ []
+
 abbrev planned : ℕ → Bool
-planned t = member t (0x02 ∷ 0x05 ∷ []) || (leb 0x40 t && leb t 0x44)
+planned t = member t alone || (leb 0x40 t && leb t 0x44)
 
 kinds-planned : every planned (map (λ (r : rules.Row). r .kind) table) ≡ true
 unfolding table every member some-of
 kinds-planned = refl
 
-module _ (t : ℕ) (w : Outside t (0x02 ∷ 0x05 ∷ []) (Unit {0})) where
+module _ (t : ℕ) (w : Outside t alone (Unit {0})) where
   unknown : leb 0x40 t && leb t 0x44 ≡ false → known t ≡ false
   unfolding known
-  unknown h = no-member planned t (map (λ (r : rules.Row). r .kind) table) kinds-planned (λ i. outside t (0x02 ∷ 0x05 ∷ []) w i || h i)
+  unknown h = no-member planned t (map (λ (r : rules.Row). r .kind) table) kinds-planned (λ i. outside t alone w i || h i)
 
   pub unknown-below : t < 0x40 → known t ≡ false
   unknown-below h = unknown (ap (λ (b : Bool). b && leb t 0x44) (lt-leb 0x40 t h))

@@ -26,7 +26,7 @@ use Rattle.command.specs.declared.Request.{Request}
 use Rattle.command.specs.declared.Row.{Row}
 use Rattle.command.specs.declared.Sorted.{Sorted}
 use Rattle.command.specs.Plans.{handlerKind, ownNumber, PlanOf}
-use Rattle.command.specs.Surveys.{surveyOf}
+use Rattle.command.specs.Surveys.{surveyOf, allStand}
 
 -- the frame is right, and the objects start there
 pub record FramedAt (s : List ℕ) (start : ℕ) : Type 0 where
@@ -143,7 +143,7 @@ pub record Sorts (v : Sorted) (s : List ℕ) (row : Row) : Type 0 where
   pub ignored : v .ignored ≡ surveyOf (theObjects s) .ignored
   pub misfit : v .misfit ≡ surveyOf (theObjects s) .misfit
   pub whole : v .whole ≡ not (isFault (walk s .ending))
-  pub complete : v .complete ≡ complete (rowOf (theDetails s)) (theObjects s .counting)
+  pub complete : allStand (v .devices) (v .own) (v .further) ≡ complete (rowOf (theDetails s)) (theObjects s .counting)
   pub devices : StandsAt (v .devices) s 0x02
   pub own : StandsAt (v .own) s (row .own)
   pub further : StandsAt (v .further) s (row .further)
@@ -160,7 +160,7 @@ pub record Begun (s : List ℕ) (d : Details) (plan : Plan) (v : Sorted) : Type 
 pub record Fitted (s : List ℕ) (d : Details) (plan : Plan) (v : Sorted) : Type 0 where
   pub begun : Begun s d plan v
   pub unflagged : v .flagged ≡ false
-  pub complete : v .complete ≡ true
+  pub complete : allStand (v .devices) (v .own) (v .further) ≡ true
   pub fit : v .misfit ≡ false
 
 -- the size at a place, and the protocol at one, of an OPEN CHANNEL; 0 and TCP of another type

@@ -37,28 +37,24 @@ slotOf n = ltb n slots ⇒ n else 0
 unfoldable pub firstOf : ℕ → ℕ → ℕ → ℕ
 firstOf seen there now = eqb seen 0 ⇒ now else there
 
--- three values stand somewhere
+-- the required objects besides 01 stand somewhere
 unfoldable pub allStand : ℕ → ℕ → ℕ → Bool
-allStand a b c =
-    eqb a 0 ⇒ false else
-    eqb b 0 ⇒ false else
-    eqb c 0 ⇒ false else
+allStand devices own further =
+    eqb devices 0 ⇒ false else
+    eqb own 0 ⇒ false else
+    eqb further 0 ⇒ false else
     true
 
 -- what was found, where the first values start there
 abbrev pub sortedBy : List ℕ → Row → Survey → Bool → Sorted
 sortedBy starts row survey whole =
-    let devices = getD starts 0x02 0 in
-    let own = getD starts (row .own) 0 in
-    let further = getD starts (row .further) 0 in
     record {
       flagged = survey .flagged;
       ignored = survey .ignored;
       misfit = survey .misfit;
       whole = whole;
-      complete = allStand devices own further;
-      devices = devices;
-      own = own;
-      further = further;
+      devices = getD starts 0x02 0;
+      own = getD starts (row .own) 0;
+      further = getD starts (row .further) 0;
       transport = getD starts 0x3C 0;
     }

@@ -76,6 +76,14 @@ struct Row {
     opening: bool,
 }
 
+// The objects of a type that has 01 and 02 alone.
+const BARE: Row = Row {
+    own: DEVICES,
+    further: DEVICES,
+    named: false,
+    opening: false,
+};
+
 // A type's handler, its place in the profile, its objects, and whether it goes to the modem itself or to a channel.
 struct Plan {
     handler: Handler,
@@ -163,12 +171,7 @@ fn channel_plan(d: Details) -> Plan
         _ => Plan {
             handler: Handler::Status,
             place,
-            row: Row {
-                own: DEVICES,
-                further: DEVICES,
-                named: false,
-                opening: false,
-            },
+            row: BARE,
             modem: true,
         },
     }
@@ -183,12 +186,7 @@ fn plan_of(d: Details) -> Planned
         0x02 => Planned::Of(Plan {
             handler: Handler::MoreTime,
             place: Place { byte: 3, bit: 4 },
-            row: Row {
-                own: DEVICES,
-                further: DEVICES,
-                named: false,
-                opening: false,
-            },
+            row: BARE,
             modem: true,
         }),
         0x05 => Planned::Of(Plan {
@@ -328,33 +326,16 @@ fn first_of(seen: u8, there: u16, now: u16) -> u16
     there
 }
 
-// What a walk over a command's objects found: what their survey did, whether it came to the end, whether every required object is there, and where the values of 02, of the type's own object, of its further one and of 3C start, 0 where none stands.
+// What a walk over a command's objects found: what their survey did, whether it came to the end, and where the values of 02, of the type's own object, of its further one and of 3C start, 0 where none stands.
 struct Sorted {
     flagged: bool,
     ignored: bool,
     misfit: bool,
     whole: bool,
-    complete: bool,
     devices: u16,
     own: u16,
     further: u16,
     transport: u16,
-}
-
-// Whether three values stand somewhere.
-fn all_stand(a: u16, b: u16, c: u16) -> bool
-    ensures { λ r. ⌜ r ≡ allStand a b c ⌝ }
-{
-    if a == 0 {
-        return false;
-    }
-    if b == 0 {
-        return false;
-    }
-    if c == 0 {
-        return false;
-    }
-    true
 }
 
 // What was found, from where the first value of each slot starts.
@@ -362,18 +343,14 @@ fn gather(starts: &[u16; 72], row: Row, survey: Survey, whole: bool) -> Sorted
     requires { ⌜ (length (now starts) ≡ slots) × (row .own < slots) × (row .further < slots) ⌝ }
     ensures { λ r. ⌜ r ≡ sortedBy (now (starts .entry)) row survey whole ⌝ }
 {
-    let devices = starts[DEVICES as usize];
-    let own = starts[row.own as usize];
-    let further = starts[row.further as usize];
     Sorted {
         flagged: survey.flagged,
         ignored: survey.ignored,
         misfit: survey.misfit,
         whole,
-        complete: all_stand(devices, own, further),
-        devices,
-        own,
-        further,
+        devices: starts[DEVICES as usize],
+        own: starts[row.own as usize],
+        further: starts[row.further as usize],
         transport: starts[TRANSPORT as usize],
     }
 }
@@ -431,15 +408,13 @@ pub fn frame_start(s: &[u8]) -> Framed
     if first != 0xD0 {
         return Framed::Not;
     }
-    match length_at(s, 1) {
-        Sized::By(len, start) => {
-            if s.len() - start == len {
-                return Framed::At(start);
-            }
-            Framed::Not
-        }
-        Sized::Not => Framed::Not,
+    let Sized::By(len, start) = length_at(s, 1) else {
+        return Framed::Not;
+    };
+    if s.len() - start == len {
+        return Framed::At(start);
     }
+    Framed::Not
 }
 
 // What is asked: the details, the handler, where it goes, whether an object was ignored, where the type's own value stands, and the size and the protocol of OPEN CHANNEL.
@@ -531,6 +506,22 @@ fn settle(s: &[u8], d: Details, plan: Plan, v: Sorted) -> Read
     })
 }
 
+// Whether the required objects besides 01 stand somewhere.
+fn all_stand(devices: u16, own: u16, further: u16) -> bool
+    ensures { λ r. ⌜ r ≡ allStand devices own further ⌝ }
+{
+    if devices == 0 {
+        return false;
+    }
+    if own == 0 {
+        return false;
+    }
+    if further == 0 {
+        return false;
+    }
+    true
+}
+
 // Steps 6 to 8 of a command whose type has this plan.
 fn read_known(s: &[u8], d: Details, plan: Plan, v: Sorted) -> Read
     requires { ⌜ Begun (now s) d plan v ⌝ }
@@ -539,7 +530,7 @@ fn read_known(s: &[u8], d: Details, plan: Plan, v: Sorted) -> Read
     if v.flagged {
         return Read::Wrong(d, 0x32);
     }
-    if !v.complete {
+    if !all_stand(v.devices, v.own, v.further) {
         return Read::Wrong(d, 0x36);
     }
     if v.misfit {

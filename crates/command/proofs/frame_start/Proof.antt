@@ -6,14 +6,14 @@ use Rattle.command.proofs.Framing.{frame-empty, frame-other, frame-unsi
 use Rattle.command.proofs.frame_start.Statement.{statement}
 use Rattle.command.proofs.frame_start.Tie as tie
 
-right : tie.Need-returns-3
+right : tie.Need-returns-4
 right c =
     let l : tie.After-len = search in
     let m : tie.After-length-at = search in
     let e : tie.Else2 = search in
     frame-right _ _ _ (length-told (l .len .given .1) (m .length-at .ensures)) (e .if2 .left) (c .if3 .taken)
 
-miscounted : tie.Need-returns-4
+miscounted : tie.Need-returns-5
 miscounted c =
     let l : tie.After-len = search in
     let m : tie.After-length-at = search in
@@ -28,8 +28,8 @@ frame-start-spec =
     (λ c. search frame-other)
     (λ c κs. search needs)
     (λ c. search needs)
+    (λ c. search needs)
+    (λ c. search (frame-unsized, length-missed))
     (λ c. search length-within)
     right
-    (λ c. search needs)
-    miscounted
-    (λ c. search (frame-unsized, length-missed)))
+    miscounted)
