@@ -17,6 +17,7 @@ use Rattle.rules.specs.declared.Link.the-variants.{NotYet, Established, Dropped
 use Rattle.rules.specs.Checks.{_⇒_else_, isEmpty, some-of, member}
 use Rattle.rules.specs.Frames.{walk}
 use Rattle.rules.specs.State.{isDropped}
+use Rattle.rules.specs.Pool.{grantCap}
 use Rattle.rules.specs.Reading.{pairIn, bearerIn}
 use Rattle.rules.specs.Own.{Status, opened, received, nothing, done}
 use Rattle.rules.specs.Written.{unflagged, pairBytes, bearerBytes, statusObject, furtherObjects}
@@ -39,7 +40,7 @@ use Rattle.bench_reader.specs.declared.Verdict.the-variants.{Done}
 use Rattle.bench_reader.specs.declared.Heard.{Heard}
 use Rattle.bench_reader.specs.declared.Heard.the-variants.{Silence}
 use Rattle.bench_reader.specs.Heard.{furtherOf, resultOf}
-use Rattle.bench_reader.specs.Tails.{Holder, Single, Double, ShownAt, sized, checked, followed, borne, Hears}
+use Rattle.bench_reader.specs.Tails.{Holder, Single, Double, ShownAt, sized, dataCap, checked, followed, borne, Hears}
 use Rattle.bench_reader.proofs.Standing.{named, object-there, object-absent, byte-there, byte-missed, pair-there, pair-missed, value-long, behind-one, behind-two, silent, hears-as, step-on}
 use Rattle.bench_reader.proofs.Rising.{status-shown, status-hidden, rising-first}
 
@@ -76,7 +77,7 @@ module _ (d : Details) (x : ℕ) (st : Status) (s : List ℕ) (at : ℕ) {r : Va
     bearer-on :
         let g = pairIn (valueAt (walk (drop (next .at) s) .objects) 0) in
         borne d x st (drop at s) ≡
-        checked (bearerProper (bearerIn v) && leb 1 g && leb g 1500) (unflagged 0x35 (bearerBytes (bearerIn v)) ∷ unflagged 0x39 (pairBytes g) ∷ []) (drop at s) (record { details = d; result = done x (opened st (bearerIn v) g) })
+        checked (bearerProper (bearerIn v) && leb 1 g && leb g grantCap) (unflagged 0x35 (bearerBytes (bearerIn v)) ∷ unflagged 0x39 (pairBytes g) ∷ []) (drop at s) (record { details = d; result = done x (opened st (bearerIn v) g) })
     unfolding borne valueAt
     bearer-on = rw (object-there e m .holds .walked)
 
@@ -100,7 +101,7 @@ module _ (d : Details) (x : ℕ) (st : Status) (s : List ℕ) (at : ℕ) {r : Va
       bearer-fits :
           let g = pairIn (valueAt (walk (drop (next .at) s) .objects) 0) in
           not b ≡ false → borne d x st (drop at s) ≡
-          checked (leb 1 g && leb g 1500) (unflagged 0x39 (pairBytes g) ∷ []) (drop (next .at) s) (record { details = d; result = done x (opened st (bearerIn v) g) })
+          checked (leb 1 g && leb g grantCap) (unflagged 0x39 (pairBytes g) ∷ []) (drop (next .at) s) (record { details = d; result = done x (opened st (bearerIn v) g) })
       bearer-fits fits =
           bearer-on ∙ step-on (object-there e m .holds) (named (omega arith)) _ _ _ (sized-proper v (omega (arith, value-long s at 0x35 false m e)) .1)
           ∙ rw (proper-sized ∙ not-false b fits)
@@ -111,21 +112,21 @@ module _ (d : Details) (x : ℕ) (st : Status) (s : List ℕ) (at : ℕ) {r : Va
         grant-missed c = hears-as (bearer-fits fits) (silent _ _ _ _ (λ _ o. pair-missed c w .never _ _ refl o))
 
         module _ {a b₂ : ℕ} {end : Cursor} (c : q ≡ two.Bytes a b₂ end) {g : ℕ} (p : (g ≡ pairIn (a ∷ b₂ ∷ [])) × (pairBytes g ≡ a ∷ b₂ ∷ [])) where
-          grant-on : borne d x st (drop at s) ≡ checked (leb 1 g && leb g 1500) [] (drop (end .at) s) (record { details = d; result = done x (opened st (bearerIn v) g) })
+          grant-on : borne d x st (drop at s) ≡ checked (leb 1 g && leb g grantCap) [] (drop (end .at) s) (record { details = d; result = done x (opened st (bearerIn v) g) })
           unfolding valueAt
           grant-on = let h₂ = pair-there c w in bearer-fits fits ∙ rw (h₂ .walked) (rw (← p .0) (step-on h₂ (named (omega arith)) _ _ _ (p .1)))
 
           pub grant-low : g < 1 → Hears (borne d x st (drop at s)) s Silence
           grant-low o = hears-as grant-on (silent _ _ _ _ (λ t _. omega (arith, leb-true 1 g (both-left _ _ t))))
 
-          pub grant-high : 1500 < g → Hears (borne d x st (drop at s)) s Silence
-          grant-high o = hears-as grant-on (silent _ _ _ _ (λ t _. omega (arith, leb-true g 1500 (both-right (leb 1 g) _ t))))
+          pub grant-high : grantCap < g → Hears (borne d x st (drop at s)) s Silence
+          grant-high o = hears-as grant-on (silent _ _ _ _ (λ t _. omega (arith, leb-true g grantCap (both-right (leb 1 g) _ t))))
 
           pub grant-fits :
-              {y : Heard} → 1 ≤ g → g ≤ 1500 →
+              {y : Heard} → 1 ≤ g → g ≤ grantCap →
               Hears (checked true [] (drop (end .at) s) (record { details = d; result = resultOf (Done x (Opened (st .number) (st .link) start k g)) s })) s y → Hears (borne d x st (drop at s)) s y
           unfolding resultOf furtherOf
-          grant-fits o u = hears-as (grant-on ∙ rw (le-leb 1 g o, le-leb g 1500 u))
+          grant-fits o u = hears-as (grant-on ∙ rw (le-leb 1 g o, le-leb g grantCap u))
 
         pub grant-place : {a b₂ : ℕ} {end : Cursor} → q ≡ two.Bytes a b₂ end → length s ≤ end .at → start + k + 4 ≡ length s
         grant-place c o = let h₂ = pair-there c w in omega (arith, object-there e m .ends, behind-two h₂, h₂ .within)
@@ -145,7 +146,7 @@ module _ (d : Details) (x : ℕ) (s : List ℕ) (at : ℕ) {r : Shown} (m : Show
         let b = bearerIn (valueAt os 0) in
         let g = pairIn (valueAt os 1) in
         followed d 0x40 x (drop at s) ≡
-        checked (rising 0 (st ∷ []) && not (isDropped l) && bearerProper b && leb 1 g && leb g 1500) (statusObject n l ∷ unflagged 0x35 (bearerBytes b) ∷ unflagged 0x39 (pairBytes g) ∷ []) (drop at s)
+        checked (rising 0 (st ∷ []) && not (isDropped l) && bearerProper b && leb 1 g && leb g grantCap) (statusObject n l ∷ unflagged 0x35 (bearerBytes b) ∷ unflagged 0x39 (pairBytes g) ∷ []) (drop at s)
         (record { details = d; result = done x (opened st b g) })
     unfolding followed furtherIn furtherProper furtherObjects _⇒_else_ valueAt statusObject
     opened-on = let h = status-shown e m in rw (h .holds .walked) (rw (status-back n l (rising-first 0 st [] (h .numbered) .1)))
@@ -178,16 +179,16 @@ module _ (d : Details) (x : ℕ) (s : List ℕ) (at : ℕ) {r : Value} (m : Hold
     data-on :
         let v = part start (start + k) s in
         let n = getD (valueAt (walk (drop (next .at) s) .objects) 0) 0 0 in
-        followed d 0x42 x (drop at s) ≡ checked (leb k 237) (unflagged 0x37 (n ∷ []) ∷ []) (drop (next .at) s) (record { details = d; result = done x (received v n) })
+        followed d 0x42 x (drop at s) ≡ checked (leb k dataCap) (unflagged 0x37 (n ∷ []) ∷ []) (drop (next .at) s) (record { details = d; result = done x (received v n) })
     unfolding followed furtherIn furtherProper furtherObjects _⇒_else_ valueAt
     data-on =
         let h = object-there e m .holds in
         rw (h .walked) (step-on h (named (omega arith)) _ _ _ refl ∙ rw (value-long s at 0x36 false m e))
 
-    pub data-long : 237 < k → Hears (followed d 0x42 x (drop at s)) s Silence
-    data-long h = hears-as data-on (silent _ _ _ _ (λ t _. omega (arith, leb-true k 237 t)))
+    pub data-long : dataCap < k → Hears (followed d 0x42 x (drop at s)) s Silence
+    data-long h = hears-as data-on (silent _ _ _ _ (λ t _. omega (arith, leb-true k dataCap t)))
 
-    module _ (h : k ≤ 237) {q : One} (w : Single q s (next .at) 0x37 false) where
+    module _ (h : k ≤ dataCap) {q : One} (w : Single q s (next .at) 0x37 false) where
       pub count-missed : q ≡ one.Not → Hears (followed d 0x42 x (drop at s)) s Silence
       count-missed c = hears-as data-on (silent _ _ _ _ (λ _ o. byte-missed c w .never _ _ refl o))
 
@@ -198,7 +199,7 @@ module _ (d : Details) (x : ℕ) (s : List ℕ) (at : ℕ) {r : Value} (m : Hold
         pub count-fits :
             {z : Heard} → Hears (checked true [] (drop (end .at) s) (record { details = d; result = resultOf (Done x (Received start k y)) s })) s z → Hears (followed d 0x42 x (drop at s)) s z
         unfolding valueAt resultOf furtherOf
-        count-fits = let f = byte-there c w in hears-as (data-on ∙ rw (le-leb k 237 h) (rw (f .walked) (step-on f (named (omega arith)) _ _ _ refl)))
+        count-fits = let f = byte-there c w in hears-as (data-on ∙ rw (le-leb k dataCap h) (rw (f .walked) (step-on f (named (omega arith)) _ _ _ refl)))
 
 -- room
 module _ (d : Details) (x : ℕ) (s : List ℕ) (at : ℕ) {r : One} (m : Single r s at 0x37 false) where

@@ -9,6 +9,7 @@ use Rattle.rules.specs.declared.Details.{Details}
 use Rattle.rules.specs.declared.Refusal.the-variants.{NoResponse}
 use Rattle.rules.specs.Checks.{_⇒_else_, same}
 use Rattle.rules.specs.Frames.{Object, object, objectAt, walk, objectBytes, written}
+use Rattle.rules.specs.Pool.{grantCap}
 use Rattle.rules.specs.Reading.{pairIn, bearerIn}
 use Rattle.rules.specs.Own.{Status, opened, statuses, done}
 use Rattle.rules.specs.Written.{Response, flagged, unflagged, pairBytes, bearerBytes, statusObject, furtherObjects, resultBytes, resultObjects}
@@ -82,6 +83,10 @@ ShownAt shown.Not s at = Hidden s at
 unfoldable pub sized : ℕ → ℕ → Bool
 sized kind n = (eqb kind 0x02 && eqb n 7) || (eqb kind 0x03 && eqb n 1)
 
+-- the most bytes of data
+abbrev pub dataCap : ℕ
+dataCap = 237
+
 -- the response, if a test is true and the objects stand in the bytes up to their end
 unfoldable pub checked : Bool → List Object → List ℕ → Response → Told
 checked b os t r = b && same (written os) t ⇒ told r else untold NoResponse
@@ -105,7 +110,7 @@ borne d x st t =
     let os = walk t .objects in
     let b = bearerIn (valueAt os 0) in
     let g = pairIn (valueAt os 1) in
-    checked (bearerProper b && leb 1 g && leb g 1500) (unflagged 0x35 (bearerBytes b) ∷ unflagged 0x39 (pairBytes g) ∷ []) t
+    checked (bearerProper b && leb 1 g && leb g grantCap) (unflagged 0x35 (bearerBytes b) ∷ unflagged 0x39 (pairBytes g) ∷ []) t
     (record { details = d; result = done x (opened st b g) })
 
 -- statuses, at least one, that rise

@@ -18,6 +18,11 @@ ghost use Rattle.rules.specs.Bench.{errorProper, causeProper, successProper, be
 ghost use Rattle.bench_reader.specs.Heard.{resultOf, VerdictAt};
 ghost use Rattle.bench_reader.specs.Tails.{Tag, Misfit, Holder, Single, Double, ShownAt, sized, Hears, checked, resulted, followed, borne, listed};
 
+// The most bytes of data.
+const DATA_CAP: usize = 237;
+// The greatest grant.
+const GRANT_CAP: u16 = 1500;
+
 // What follows the result of a response. A bearer and data stand in the bytes that were read, from a place on and so long; statuses from a place on, four bytes each.
 pub enum Further {
     Plain,
@@ -244,15 +249,11 @@ fn read_bearer(s: &[u8], c: Cursor, d: Details, result: u8, n: ChannelNumber, li
     if grant < 1 {
         return Heard::Silence;
     }
-    if 1500 < grant {
+    if GRANT_CAP < grant {
         return Heard::Silence;
     }
-    last(
-        s,
-        end,
-        d,
-        Verdict::Done(result, Further::Opened(n, link, start, len, grant)),
-    )
+    let further = Further::Opened(n, link, start, len, grant);
+    last(s, end, d, Verdict::Done(result, further))
 }
 
 // Reads an answer to OPEN CHANNEL: a status that is not dropped, and what follows.
@@ -276,18 +277,14 @@ fn read_received(s: &[u8], c: Cursor, d: Details, result: u8) -> Heard
     let Value::At(start, len, next) = object_of(s, c, 0x36) else {
         return Heard::Silence;
     };
-    if 237 < len {
+    if DATA_CAP < len {
         return Heard::Silence;
     }
     let One::Byte(left, end) = byte_of(s, next, 0x37) else {
         return Heard::Silence;
     };
-    last(
-        s,
-        end,
-        d,
-        Verdict::Done(result, Further::Received(start, len, left)),
-    )
+    let further = Further::Received(start, len, left);
+    last(s, end, d, Verdict::Done(result, further))
 }
 
 // Reads an answer to SEND DATA: the room that is left.
