@@ -24,6 +24,14 @@ ghost use mathlib.Core.Path.{_≡_};
 ghost use Prim.Native.Nat.{_+_, _-_, _*_, _≤_, _<_};
 ghost use lib.ListN.{length};
 ghost use Rattle.bench_reader.specs.Heard.{FurtherAt, VerdictAt};
+ghost use Rattle.bench_lines.specs.Sizes.{lineSize, frameSize, outSize, answerSize, commandSize};
+
+// The bytes of a line that are kept, enough to see that it is too long.
+const LINE: usize = 3201;
+// The most bytes of a frame.
+const FRAME: usize = 1600;
+// The most bytes that the answer to a line takes as print.
+const ANSWER: usize = 3230;
 
 // How far a piece of the input was read: how many bytes of a line are kept, the place behind what was read, and where the output goes on.
 struct Progress {
@@ -200,8 +208,8 @@ fn wide(n: u8) -> usize
 
 // Writes the command of a record, whose number, qualifier, source and destination stand in the frame, and prints it, or R7.
 fn print_command(frame: &[u8], asking: Asking, bytes: &[u8], out: &mut [u8], at: usize) -> usize
-    requires { ⌜ (6 ≤ length (now frame)) × (at + 515 ≤ length (now out)) ⌝ }
-    ensures { λ r. ⌜ r ≤ at + 515 ⌝ }
+    requires { ⌜ (6 ≤ length (now frame)) × (at + commandSize ≤ length (now out)) ⌝ }
+    ensures { λ r. ⌜ r ≤ at + commandSize ⌝ }
 {
     let order = Record {
         number: frame[1],
@@ -217,8 +225,8 @@ fn print_command(frame: &[u8], asking: Asking, bytes: &[u8], out: &mut [u8], at:
 
 // Prints the command of a record whose values are the rest of the frame.
 fn print_rest(frame: &[u8], asking: Asking, out: &mut [u8], at: usize) -> usize
-    requires { ⌜ (6 ≤ length (now frame)) × (at + 515 ≤ length (now out)) ⌝ }
-    ensures { λ r. ⌜ r ≤ at + 515 ⌝ }
+    requires { ⌜ (6 ≤ length (now frame)) × (at + commandSize ≤ length (now out)) ⌝ }
+    ensures { λ r. ⌜ r ≤ at + commandSize ⌝ }
 {
     print_command(frame, asking, &frame[6..], out, at)
 }
@@ -235,8 +243,8 @@ fn bare(kind: u8) -> Asking {
 
 // Prints the command of a record that has no values, or R9.
 fn print_bare(frame: &[u8], out: &mut [u8], at: usize) -> usize
-    requires { ⌜ (6 ≤ length (now frame)) × (at + 515 ≤ length (now out)) ⌝ }
-    ensures { λ r. ⌜ r ≤ at + 515 ⌝ }
+    requires { ⌜ (6 ≤ length (now frame)) × (at + commandSize ≤ length (now out)) ⌝ }
+    ensures { λ r. ⌜ r ≤ at + commandSize ⌝ }
 {
     if frame.len() != 6 {
         return print_refusal(Refusal::Unreadable, out, at);
@@ -246,8 +254,8 @@ fn print_bare(frame: &[u8], out: &mut [u8], at: usize) -> usize
 
 // Prints the command of a RECEIVE DATA, whose value is one byte, or R9.
 fn print_receive(frame: &[u8], out: &mut [u8], at: usize) -> usize
-    requires { ⌜ (6 ≤ length (now frame)) × (at + 515 ≤ length (now out)) ⌝ }
-    ensures { λ r. ⌜ r ≤ at + 515 ⌝ }
+    requires { ⌜ (6 ≤ length (now frame)) × (at + commandSize ≤ length (now out)) ⌝ }
+    ensures { λ r. ⌜ r ≤ at + commandSize ⌝ }
 {
     if frame.len() != 7 {
         return print_refusal(Refusal::Unreadable, out, at);
@@ -257,16 +265,16 @@ fn print_receive(frame: &[u8], out: &mut [u8], at: usize) -> usize
 
 // Prints the command of an OPEN CHANNEL with its parameters, from place 8 up to `end`.
 fn print_open(frame: &[u8], end: usize, asking: Asking, out: &mut [u8], at: usize) -> usize
-    requires { ⌜ (8 ≤ end) × (end ≤ length (now frame)) × (at + 515 ≤ length (now out)) ⌝ }
-    ensures { λ r. ⌜ r ≤ at + 515 ⌝ }
+    requires { ⌜ (8 ≤ end) × (end ≤ length (now frame)) × (at + commandSize ≤ length (now out)) ⌝ }
+    ensures { λ r. ⌜ r ≤ at + commandSize ⌝ }
 {
     print_command(frame, asking, &frame[8..end], out, at)
 }
 
 // Reads the size and the transport level of an OPEN CHANNEL behind its parameters, and prints its command, or R9.
 fn print_sized(frame: &[u8], kind: u8, end: usize, out: &mut [u8], at: usize) -> usize
-    requires { ⌜ (8 ≤ end) × (end < 264) × (6 ≤ length (now frame)) × (at + 515 ≤ length (now out)) ⌝ }
-    ensures { λ r. ⌜ r ≤ at + 515 ⌝ }
+    requires { ⌜ (8 ≤ end) × (end < 264) × (6 ≤ length (now frame)) × (at + commandSize ≤ length (now out)) ⌝ }
+    ensures { λ r. ⌜ r ≤ at + commandSize ⌝ }
 {
     if frame.len() < end + 2 {
         return print_refusal(Refusal::Unreadable, out, at);
@@ -286,8 +294,8 @@ fn print_sized(frame: &[u8], kind: u8, end: usize, out: &mut [u8], at: usize) ->
 
 // Prints the command of an OPEN CHANNEL: bearer type, count of parameters, parameters, size, and perhaps a transport level; or R9.
 fn print_opening(frame: &[u8], out: &mut [u8], at: usize) -> usize
-    requires { ⌜ (6 ≤ length (now frame)) × (at + 515 ≤ length (now out)) ⌝ }
-    ensures { λ r. ⌜ r ≤ at + 515 ⌝ }
+    requires { ⌜ (6 ≤ length (now frame)) × (at + commandSize ≤ length (now out)) ⌝ }
+    ensures { λ r. ⌜ r ≤ at + commandSize ⌝ }
 {
     if frame.len() < 8 {
         return print_refusal(Refusal::Unreadable, out, at);
@@ -298,8 +306,8 @@ fn print_opening(frame: &[u8], out: &mut [u8], at: usize) -> usize
 
 // Prints the command of a record by its type, or R9.
 fn print_record(frame: &[u8], out: &mut [u8], at: usize) -> usize
-    requires { ⌜ at + 515 ≤ length (now out) ⌝ }
-    ensures { λ r. ⌜ r ≤ at + 515 ⌝ }
+    requires { ⌜ at + commandSize ≤ length (now out) ⌝ }
+    ensures { λ r. ⌜ r ≤ at + commandSize ⌝ }
 {
     if frame.len() < 6 {
         return print_refusal(Refusal::Unreadable, out, at);
@@ -315,8 +323,8 @@ fn print_record(frame: &[u8], out: &mut [u8], at: usize) -> usize
 
 // Prints the answer to a frame: 81 a response, B0 a record, else R9.
 fn answer(frame: &[u8], out: &mut [u8], at: usize) -> usize
-    requires { ⌜ (length (now frame) ≤ 1600) × (at + 3230 ≤ length (now out)) ⌝ }
-    ensures { λ r. ⌜ r ≤ at + 3230 ⌝ }
+    requires { ⌜ (length (now frame) ≤ frameSize) × (at + answerSize ≤ length (now out)) ⌝ }
+    ensures { λ r. ⌜ r ≤ at + answerSize ⌝ }
 {
     if frame.len() == 0 {
         return print_refusal(Refusal::Unreadable, out, at);
@@ -330,10 +338,10 @@ fn answer(frame: &[u8], out: &mut [u8], at: usize) -> usize
 
 // Prints the answer to a line.
 fn perform(line: &[u8], out: &mut [u8], at: usize) -> usize
-    requires { ⌜ at + 3230 ≤ length (now out) ⌝ }
-    ensures { λ r. ⌜ r ≤ at + 3230 ⌝ }
+    requires { ⌜ at + answerSize ≤ length (now out) ⌝ }
+    ensures { λ r. ⌜ r ≤ at + answerSize ⌝ }
 {
-    let mut frame = [0u8; 1600];
+    let mut frame = [0u8; FRAME];
     match read_frame(line, &mut frame) {
         Frame::Bytes(n) => answer(&frame[..n], out, at),
         Frame::Unreadable => print_refusal(Refusal::Unreadable, out, at),
@@ -342,8 +350,8 @@ fn perform(line: &[u8], out: &mut [u8], at: usize) -> usize
 
 // Prints the answer to a line that stands at the front of a buffer.
 fn perform_front(line: &[u8], len: usize, out: &mut [u8], at: usize) -> usize
-    requires { ⌜ (len ≤ length (now line)) × (at + 3230 ≤ length (now out)) ⌝ }
-    ensures { λ r. ⌜ r ≤ at + 3230 ⌝ }
+    requires { ⌜ (len ≤ length (now line)) × (at + answerSize ≤ length (now out)) ⌝ }
+    ensures { λ r. ⌜ r ≤ at + answerSize ⌝ }
 {
     perform(&line[..len], out, at)
 }
@@ -357,8 +365,8 @@ fn feed(
     out: &mut [u8],
     at: usize,
 ) -> Progress
-    requires { ⌜ (length (now line) ≡ 3201) × (len ≤ 3201) × (from < length (now piece)) × (at + 3230 ≤ length (now out)) ⌝ }
-    ensures { λ r. ⌜ (r .len ≤ 3201) × (from < r .next) × (r .next ≤ length (now (piece .entry))) × (r .at ≤ at + 3230) ⌝ }
+    requires { ⌜ (length (now line) ≡ lineSize) × (len ≤ lineSize) × (from < length (now piece)) × (at + answerSize ≤ length (now out)) ⌝ }
+    ensures { λ r. ⌜ (r .len ≤ lineSize) × (from < r .next) × (r .next ≤ length (now (piece .entry))) × (r .at ≤ at + answerSize) ⌝ }
 {
     let gathered = gather(line, len, piece, from);
     let next = gathered.next;
@@ -386,14 +394,14 @@ fn write_out(out: &[u8], at: usize) -> bool
 
 // Answers the lines of a piece of the input. The output is written where a further line might not fit, and at the end.
 fn feed_all(len: usize, line: &mut [u8], piece: &[u8], out: &mut [u8]) -> Turn
-    requires { ⌜ (length (now line) ≡ 3201) × (len ≤ 3201) × (length (now out) ≡ 65536) ⌝ }
-    ensures { λ r. ⌜ r .len ≤ 3201 ⌝ }
+    requires { ⌜ (length (now line) ≡ lineSize) × (len ≤ lineSize) × (length (now out) ≡ outSize) ⌝ }
+    ensures { λ r. ⌜ r .len ≤ lineSize ⌝ }
 {
     let mut kept = len;
     let mut next: usize = 0;
     let mut at: usize = 0;
     while next < piece.len() {
-        if out.len() - at < 3230 {
+        if out.len() - at < ANSWER {
             if !write_out(out, at) {
                 return Turn {
                     len: kept,
@@ -415,7 +423,7 @@ fn feed_all(len: usize, line: &mut [u8], piece: &[u8], out: &mut [u8]) -> Turn
 
 // The input ended: what is left of it is a line, if there is anything.
 fn finish(len: usize, line: &[u8], out: &mut [u8])
-    requires { ⌜ (len ≤ length (now line)) × (length (now out) ≡ 65536) ⌝ }
+    requires { ⌜ (len ≤ length (now line)) × (length (now out) ≡ outSize) ⌝ }
 {
     if len < 1 {
         return;
@@ -426,8 +434,8 @@ fn finish(len: usize, line: &[u8], out: &mut [u8])
 
 // Reads a piece of the input and answers its lines. More is to come unless the input ended, or reading or writing failed.
 fn take_turn(len: usize, line: &mut [u8], piece: &mut [u8], out: &mut [u8]) -> Turn
-    requires { ⌜ (length (now line) ≡ 3201) × (len ≤ 3201) × (length (now out) ≡ 65536) ⌝ }
-    ensures { λ r. ⌜ r .len ≤ 3201 ⌝ }
+    requires { ⌜ (length (now line) ≡ lineSize) × (len ≤ lineSize) × (length (now out) ≡ outSize) ⌝ }
+    ensures { λ r. ⌜ r .len ≤ lineSize ⌝ }
 {
     let got = libc::read(STDIN_FILENO, piece);
     if got < 0 {
@@ -443,7 +451,7 @@ fn take_turn(len: usize, line: &mut [u8], piece: &mut [u8], out: &mut [u8]) -> T
 
 // Answers the whole input, turn by turn, until one is the last. Their number is bounded by one that no input uses up.
 fn run(line: &mut [u8], piece: &mut [u8], out: &mut [u8])
-    requires { ⌜ (length (now line) ≡ 3201) × (length (now out) ≡ 65536) ⌝ }
+    requires { ⌜ (length (now line) ≡ lineSize) × (length (now out) ≡ outSize) ⌝ }
 {
     let mut len: usize = 0;
     let mut turns = u64::MAX;
@@ -459,7 +467,7 @@ fn run(line: &mut [u8], piece: &mut [u8], out: &mut [u8])
 
 // The program, with the memory that it ever uses.
 fn main() {
-    let mut line = [0u8; 3201];
+    let mut line = [0u8; LINE];
     let mut piece = io::large_buffer();
     let mut out = io::large_buffer();
     run(&mut line, &mut piece, &mut out);

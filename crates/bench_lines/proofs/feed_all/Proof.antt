@@ -6,24 +6,26 @@ use mathlib.Core.Logic.{⊎-elim}
 use native.Mathlib.Omega.{arith}
 use lib.ListN.{length}
 use borrow.Author.Needs.{needs}
+use Rattle.bench_lines.specs.Sizes.{lineSize, outSize}
 use Rattle.bench_lines.proofs.feed_all.Statement.{statement}
 use Rattle.bench_lines.proofs.feed_all.Tie as tie
 
 abbrev Inv-loop : tie.InvT-loop
-Inv-loop len line₀ piece out₀ kept₀ next₀ at₀ line out kept next at = (length line ≡ 3201) × (kept ≤ 3201) × (next ≤ length piece) × (at ≤ length out) × (length out ≡ 65536)
+Inv-loop len line₀ piece out₀ kept₀ next₀ at₀ line out kept next at = (length line ≡ lineSize) × (kept ≤ lineSize) × (next ≤ length piece) × (at ≤ length out) × (length out ≡ outSize)
 
 abbrev μ-loop : tie.MeasureT-loop
 μ-loop len line₀ piece out₀ kept₀ next₀ at₀ line out kept next at = length piece - next
 
 feed-requires : tie.Need-feed-requires Inv-loop μ-loop
 feed-requires c κs =
-    let at-loop : tie.At-loop Inv-loop μ-loop = search in
-    let w = at-loop .loop .inv in (omega arith, omega arith, omega arith, ⊎-elim (λ u. let e = u .4 in omega arith) (λ u. let e = u .1 in let f = u .0 .left in omega arith) (c .before .before .if1 .came))
+    let l : tie.At-loop Inv-loop μ-loop = search in
+    let w = l .loop .inv in
+    (omega arith, omega arith, omega arith, ⊎-elim (λ u. let e = u .4 in omega arith) (λ u. let e = u .1 in let f = u .0 .left in omega arith) (c .before .before .if1 .came))
 
 loop-again : tie.Need-loop-again Inv-loop μ-loop
 loop-again c =
-    let at-joined1 : tie.Joined1 Inv-loop μ-loop = search in
-    (omega arith, omega arith, omega arith, (⊎-elim (λ u. let e = u .4 in omega arith) (λ u. let e = u .1 in omega arith) (at-joined1 .if1 .came)), omega arith)
+    let j : tie.Joined1 Inv-loop μ-loop = search in
+    (omega arith, omega arith, omega arith, (⊎-elim (λ u. let e = u .4 in omega arith) (λ u. let e = u .1 in omega arith) (j .if1 .came)), omega arith)
 
 pub feed-all-spec : {M : Type 1} → statement M
 feed-all-spec =

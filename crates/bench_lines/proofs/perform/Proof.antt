@@ -11,19 +11,20 @@ use Rattle.bench_lines.proofs.perform.Tie as tie
 
 array-share-prefix-frame : tie.Need-array-share-prefix-frame
 array-share-prefix-frame c =
-    let after-read-frame : tie.After-read-frame = search in
-    (frame-read _ _ _ _ _ (after-read-frame .read-frame .ensures) (c .before .n .given .1)) .fits
+    let r : tie.After-read-frame = search in
+    (frame-read _ _ _ _ _ (r .read-frame .ensures) (c .before .n .given .1)) .fits
 
 slice-aggregate-answer : tie.Need-slice-aggregate-answer
 slice-aggregate-answer c =
-    let after-read-frame : tie.After-read-frame = search in
-    sym (length-take-le _ _ ((frame-read _ _ _ _ _ (after-read-frame .read-frame .ensures) (c .before .before .n .given .1)) .fits))
+    let r : tie.After-read-frame = search in
+    sym (length-take-le _ _ ((frame-read _ _ _ _ _ (r .read-frame .ensures) (c .before .before .n .given .1)) .fits))
 
 answer-requires : tie.Need-answer-requires
 answer-requires c κs =
-    let after-n : tie.After-n = search in
-    let after-read-frame : tie.After-read-frame = search in
-    let few = length-take (after-n .n .given .0 .0) (after-read-frame .read-frame .last .1 .0) in (omega arith, omega arith)
+    let n : tie.After-n = search in
+    let r : tie.After-read-frame = search in
+    let few = length-take (n .n .given .0 .0) (r .read-frame .last .1 .0) in
+    (omega arith, omega arith)
 
 pub perform-spec : {M : Type 1} → statement M
 perform-spec =

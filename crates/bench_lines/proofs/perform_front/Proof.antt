@@ -8,8 +8,8 @@ use Rattle.bench_lines.proofs.perform_front.Tie as tie
 
 slice-aggregate-perform : tie.Need-slice-aggregate-perform
 slice-aggregate-perform c =
-    let at-start : tie.Start = search in
-    sym (length-take-le _ _ (at-start .pre .0))
+    let s : tie.Start = search in
+    sym (length-take-le _ _ (s .pre .0))
 
 pub perform-front-spec : {M : Type 1} → statement M
 perform-front-spec =

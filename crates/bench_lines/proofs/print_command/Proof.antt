@@ -8,8 +8,8 @@ use Rattle.bench_lines.proofs.print_command.Tie as tie
 
 print-requires : tie.Need-print-requires
 print-requires c κs =
-    let after-write : tie.After-write = search in
-    (count-within _ _ _ _ (after-write .write .ensures), omega arith)
+    let w : tie.After-write = search in
+    (count-within _ _ _ _ (w .write .ensures), omega arith)
 
 pub print-command-spec : {M : Type 1} → statement M
 print-command-spec =

@@ -1,53 +1,52 @@
 -- `bench_lines::print_further` prints what stands in its place: the places told lie within the bytes.
 -- Assumes nothing.
-use mathlib.Core.Path.{subst}
+use mathlib.Core.Path.{_≡_, subst}
+use mathlib.Core.List.{List}
 use native.Mathlib.Omega.{arith}
-use denote.Ref.{now}
+use Prim.Native.Nat.{ℕ}
 use Rattle.bench_reader.specs.declared.Further.{Further}
 use Rattle.bench_reader.specs.Heard.{FurtherAt}
 use borrow.Author.Needs.{needs}
 use Rattle.bench_lines.proofs.print_further.Statement.{statement}
 use Rattle.bench_lines.proofs.print_further.Tie as tie
 
-print-status-requires : tie.Need-print-status-requires
-print-status-requires c κs = search needs
-
--- the function's start, from the place that the needs name next to it
-abbrev start : tie.After-further → tie.Start
-start c = c .before .before .before .before
+-- where what follows stands, by the case that it is
+told : {f g : Further} (s : List ℕ) → f ≡ g → FurtherAt f s → FurtherAt g s
+told s e h = subst (λ (x : Further). FurtherAt x s) e h
 
 add-print-grant : tie.Need-add-print-grant
 add-print-grant c =
-    let after-further : tie.After-further = search in
-    let at-start = start after-further in
-    let h = subst (λ (f : Further). FurtherAt f (now (at-start .args .s))) (after-further .further .given .1) (at-start .pre .0) in omega (arith, h .1)
+    let f : tie.After-further = search in
+    let s : tie.Start = search in
+    omega (arith, told _ (f .further .given .1) (s .pre .0) .1)
 
 print-grant-requires : tie.Need-print-grant-requires
 print-grant-requires c κs =
-    let after-further : tie.After-further = search in
-    let at-start = start after-further in
-    let h = subst (λ (f : Further). FurtherAt f (now (at-start .args .s))) (after-further .further .given .1) (at-start .pre .0) in (omega arith, omega (arith, h .1), omega arith, omega (arith, h .1))
+    let f : tie.After-further = search in
+    let s : tie.Start = search in
+    let h = told _ (f .further .given .1) (s .pre .0) in
+    (omega arith, omega (arith, h .1), omega arith, omega (arith, h .1))
 
 add-print-data : tie.Need-add-print-data
 add-print-data c =
-    let at-start : tie.Start = search in
-    let h = subst (λ (f : Further). FurtherAt f (now (at-start .args .s))) (c .before .further2 .given .1) (at-start .pre .0) in omega (arith, h)
+    let s : tie.Start = search in
+    omega (arith, told _ (c .before .further2 .given .1) (s .pre .0))
 
 print-data-requires : tie.Need-print-data-requires
 print-data-requires c κs =
-    let at-start : tie.Start = search in
-    let h = subst (λ (f : Further). FurtherAt f (now (at-start .args .s))) (c .before .before .further2 .given .1) (at-start .pre .0) in (omega arith, omega (arith, h), omega arith, omega arith)
+    let s : tie.Start = search in
+    (omega arith, omega (arith, told _ (c .before .before .further2 .given .1) (s .pre .0)), omega arith, omega arith)
 
 print-statuses-requires : tie.Need-print-statuses-requires
 print-statuses-requires c κs =
-    let at-start : tie.Start = search in
-    (subst (λ (f : Further). FurtherAt f (now (at-start .args .s))) (c .before .before .further4 .given .1) (at-start .pre .0), omega arith, omega arith)
+    let s : tie.Start = search in
+    (told _ (c .before .before .further4 .given .1) (s .pre .0), omega arith, omega arith)
 
-returns-2 : tie.Need-returns-2
-returns-2 c =
-    let after-further : tie.After-further = search in
-    let at-start = start after-further in
-    let h = subst (λ (f : Further). FurtherAt f (now (at-start .args .s))) (after-further .further .given .1) (at-start .pre .0) in omega (arith, h .1)
+opened-fits : tie.Need-returns-2
+opened-fits c =
+    let f : tie.After-further = search in
+    let s : tie.Start = search in
+    omega (arith, told _ (f .further .given .1) (s .pre .0) .1)
 
 pub print-further-spec : {M : Type 1} → statement M
 print-further-spec =
@@ -55,7 +54,7 @@ print-further-spec =
     (tie.spec
     (λ c. search needs)
     (λ c. search needs)
-    print-status-requires
+    (λ c κs. search needs)
     add-print-grant
     print-grant-requires
     (λ c. search needs)
@@ -67,7 +66,7 @@ print-further-spec =
     print-statuses-requires
     (λ c. search needs)
     (λ c. search needs)
-    returns-2
+    opened-fits
     (λ c. search needs)
     (λ c. search needs)
     (λ c. search needs)

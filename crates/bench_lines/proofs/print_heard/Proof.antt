@@ -11,10 +11,10 @@ use Rattle.bench_lines.proofs.print_heard.Tie as tie
 
 print-verdict-requires : tie.Need-print-verdict-requires
 print-verdict-requires c κs =
-    let after-d : tie.After-d = search in
-    let after-read : tie.After-read = search in
-    let at-start : tie.Start = search in
-    (subst (λ (r : Heard). PlacesAt r (now (at-start .args .s))) (after-d .d .given .1) (after-read .read .ensures .at), (omega arith, omega arith))
+    let d : tie.After-d = search in
+    let r : tie.After-read = search in
+    let s : tie.Start = search in
+    (subst (λ (r : Heard). PlacesAt r (now (s .args .s))) (d .d .given .1) (r .read .ensures .at), (omega arith, omega arith))
 
 pub print-heard-spec : {M : Type 1} → statement M
 print-heard-spec =

@@ -10,8 +10,8 @@ use Rattle.bench_lines.proofs.print_more.Tie as tie
 
 same-length : tie.Need-same-length
 same-length c =
-    let at-start : tie.Start = search in
-    let l = length-set (now (at-start .args .out)) (at-start .args .at - 1) 32 in omega arith
+    let s : tie.Start = search in
+    let l = length-set (now (s .args .out)) (s .args .at - 1) 32 in omega arith
 
 pub print-more-spec : {M : Type 1} → statement M
 print-more-spec =

@@ -14,8 +14,8 @@ print-requires c κs = (omega arith, omega arith)
 
 returns : tie.Need-returns
 returns c =
-    let at-start : tie.Start = search in
-    line-within _ (now (at-start .args .value)) _ _ (c .before .before .print .ensures .1)
+    let s : tie.Start = search in
+    line-within _ (now (s .args .value)) _ _ (c .before .before .print .ensures .1)
 
 pub print-value-spec : {M : Type 1} → statement M
 print-value-spec =

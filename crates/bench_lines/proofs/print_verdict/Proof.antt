@@ -11,9 +11,9 @@ use Rattle.bench_lines.proofs.print_verdict.Tie as tie
 
 print-further-requires : tie.Need-print-further-requires
 print-further-requires c κs =
-    let after-verdict3 : tie.After-verdict3 = search in
-    let at-start : tie.Start = search in
-    (subst (λ (v : Verdict). VerdictAt v (now (at-start .args .s))) (after-verdict3 .verdict3 .given .1) (at-start .pre .0), (omega arith, omega arith))
+    let v : tie.After-verdict3 = search in
+    let s : tie.Start = search in
+    (subst (λ (v : Verdict). VerdictAt v (now (s .args .s))) (v .verdict3 .given .1) (s .pre .0), (omega arith, omega arith))
 
 pub print-verdict-spec : {M : Type 1} → statement M
 print-verdict-spec =

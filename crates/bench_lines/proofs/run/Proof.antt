@@ -4,11 +4,12 @@ use Prim.Native.Nat.{_≤_}
 use mathlib.Core.Path.{_≡_}
 use lib.ListN.{length}
 use borrow.Author.Needs.{needs}
+use Rattle.bench_lines.specs.Sizes.{lineSize, outSize}
 use Rattle.bench_lines.proofs.run.Statement.{statement}
 use Rattle.bench_lines.proofs.run.Tie as tie
 
 abbrev Inv-loop : tie.InvT-loop
-Inv-loop line₀ piece₀ out₀ len₀ turns₀ line piece out len turns = (length line ≡ 3201) × (length piece ≡ length piece₀) × (length out ≡ 65536) × (len ≤ 3201)
+Inv-loop line₀ piece₀ out₀ len₀ turns₀ line piece out len turns = (length line ≡ lineSize) × (length piece ≡ length piece₀) × (length out ≡ outSize) × (len ≤ lineSize)
 
 abbrev μ-loop : tie.MeasureT-loop
 μ-loop line₀ piece₀ out₀ len₀ turns₀ line piece out len turns = turns
