@@ -30,7 +30,7 @@ pub fn clear(d: &mut [u8], at: usize, end: usize)
 }
 
 // Moves the bytes from `from` up to `end` down to `to`; what stood above them stays.
-pub fn move_down(d: &mut [u8], to: usize, from: usize, end: usize)
+fn move_down(d: &mut [u8], to: usize, from: usize, end: usize)
     requires { ⌜ (to ≤ from) × (from ≤ end) × (end ≤ length (now d)) ⌝ }
     ensures { λ _. ⌜ now (d .exit) ≡ moved (now (d .entry)) to from end ⌝ }
 {
@@ -43,7 +43,7 @@ pub fn move_down(d: &mut [u8], to: usize, from: usize, end: usize)
 }
 
 // Moves the bytes from `from` up to `end` up to `to`; what stood below them stays.
-pub fn move_up(d: &mut [u8], to: usize, from: usize, end: usize)
+fn move_up(d: &mut [u8], to: usize, from: usize, end: usize)
     requires { ⌜ (from ≤ to) × (from ≤ end) × (to + (end - from) ≤ length (now d)) ⌝ }
     ensures { λ _. ⌜ now (d .exit) ≡ moved (now (d .entry)) to from end ⌝ }
 {

@@ -32,7 +32,7 @@ impl Pool {
     }
 
     // What a request can be granted at most.
-    pub fn within_cap(request: u16) -> u16
+    fn within_cap(request: u16) -> u16
         ensures { λ r. ⌜ r ≡ min request 1500 ⌝ }
     {
         if request < Pool::GRANT_CAP {

@@ -160,7 +160,7 @@ pub fn put_entry(ledger: &mut [u16; Ledger::SIZE], n: ChannelNumber, c: Channel)
 }
 
 // Where the region of channel k begins: the regions of the channels before it stand one after the other.
-pub fn base(ledger: &[u16; Ledger::SIZE], k: usize) -> usize
+fn base(ledger: &[u16; Ledger::SIZE], k: usize) -> usize
     requires { ⌜ (k ≤ 7) × (length (now ledger) ≡ ledgerSize) ⌝ }
     ensures { λ r. ⌜ r ≡ baseIn (now (ledger .entry)) k ⌝ }
     ensures { λ r. ⌜ r ≤ 131072 * k ⌝ }
