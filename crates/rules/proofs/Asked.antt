@@ -1,27 +1,28 @@
 -- What the bench writes, the modem reads as the same record.
 -- Assumes nothing.
-use Prim.Native.Nat.{ℕ, suc}
+use Prim.Native.Nat.{ℕ, suc, _+_, _≤_}
 use mathlib.Core.Path.{_≡_, refl, ap, subst, _∙_}
 use mathlib.Core.Logic.{⊎-elim}
 use mathlib.Core.Bool.{Bool, true, false, not, _&&_, false≢true}
-use mathlib.Core.List.{List, [], _∷_}
-use mathlib.Core.Option.{none, some}
+use mathlib.Core.List.{List, [], _∷_, _++_}
+use mathlib.Core.Option.{Option, none, some}
 use native.Mathlib.Omega.{arith}
-use lib.ListN.{length, drop}
+use lib.ListN.{length, drop, length-append}
 use lib.Dec.{eqb}
-use borrow.Author.Tests.{eq-eqb, eqb-true}
+use borrow.Author.Tests.{eq-eqb, eqb-true, leb-true}
 use Rattle.rules.specs.declared.Details.{Details}
 use Rattle.rules.specs.declared.Refusal.{Refusal}
 use Rattle.rules.specs.Checks.{_⇒_else_, isEmpty, every, some-of, occurrences, member}
-use Rattle.rules.specs.Frames.{Object, len, lengthAt, objectBytes, written, fills, following, framed, contents, frame}
+use Rattle.rules.specs.Frames.{Object, len, lengthAt, lengthBytes, objectBytes, written, fills, following, framed, contents, frame}
 use Rattle.rules.specs.Table.{table, known, rowAmong, rowOf, times, sift, present, valueOf, complete, bearerFits, lengthFits, measured}
 use Rattle.rules.specs.Profile.{allowsType}
-use Rattle.rules.specs.Reading.{wrong, asked, reading, readObjects, Command, Body, Bearer, moreTime, eventList, openChannel, closeChannel, receiveData, sendData, channelStatus, other, kindOf, detailsOf, detailsIn, bodyIn, commandIn, addressed, isFault, startsWithDetails}
-use Rattle.rules.specs.Written.{flagged, detailsBytes, bearerBytes, pairBytes}
+use Rattle.rules.specs.Reading.{wrong, asked, reading, readObjects, Command, Body, Bearer, Transport, moreTime, eventList, openChannel, closeChannel, receiveData, sendData, channelStatus, other, kindOf, detailsOf, detailsIn, bodyIn, commandIn, addressed, isFault, startsWithDetails}
+use Rattle.rules.specs.Written.{flagged, unflagged, detailsBytes, bearerBytes, pairBytes}
 use Rattle.rules.specs.Command.{Outcome, wrote, refused}
 use Rattle.rules.specs.Bench.{bearerProper, bodyProper, transportObjects, bodyObjects, commandObjects, benchWrite}
 use Rattle.rules.specs.Sound.{Each}
 use Rattle.rules.proofs.Laws.{branch, stop, skip, not-not, both-left, both-right, either, by-equal}
+use Rattle.rules.proofs.Sizes.{length-bytes}
 use Rattle.rules.proofs.Forms.{length-back, Named, walk-written, pair-back, bearer-back, transport-back}
 
 -- a frame is read as the bytes of its objects
@@ -119,24 +120,74 @@ objects-read p c a e =
     rw (walk-written (commandObjects c) (k .named), k .kind, k .counts, k .whole, k .lengths, k .values, a)
     (turned (allowsType p (detailsOf c)) (wrong (detailsOf c) 0x30) (asked c false))
 
+-- the bytes that the bench writes: at most 256
+object-short : (o : Object) → length (objectBytes o) ≤ 3 + length (o .value)
+unfolding objectBytes
+object-short o =
+    let n = length (o .value) in
+    let few = length-bytes n in
+    let e = length-append (lengthBytes n) (o .value) in
+    omega (arith, few, e)
+
+last-short : (o : Object) → length (written (o ∷ [])) ≤ 3 + length (o .value)
+unfolding written
+last-short o = let e = length-append (objectBytes o) [] in omega (arith, object-short o, e)
+
+bearer-short : (b : Bearer) → bearerProper b ≡ true → length (bearerBytes b) ≤ 7
+unfolding bearerProper bearerBytes
+bearer-short b e =
+    let two = eqb (b .kind) 0x02 in
+    let three = eqb (b .kind) 0x03 in
+    ⊎-elim (λ q. let n = eqb-true (length (b .parameters)) 6 (both-right two _ q) in omega arith)
+    (λ q. let n = empty-length (b .parameters) (both-right three _ q) in omega arith) (either (two && eqb (length (b .parameters)) 6) (three && isEmpty (b .parameters)) e)
+
+transport-short : (t : Option Transport) → length (written (transportObjects t)) ≤ 6
+unfolding transportObjects written pairBytes
+transport-short none = omega arith
+transport-short (some t) = omega (arith, last-short (unflagged 0x3C (t .protocol ∷ pairBytes (t .port))))
+
+body-short : (b : Body) → bodyProper b ≡ true → length (written (bodyObjects b)) ≤ 244
+unfolding bodyProper bodyObjects written pairBytes
+body-short moreTime e = omega arith
+body-short (eventList es) e = omega (arith, last-short (flagged 0x19 es), leb-true (length es) 241 e)
+body-short (openChannel b size t) e =
+    let three = object-short (flagged 0x35 (bearerBytes b)) in
+    let two = object-short (flagged 0x39 (pairBytes size)) in
+    let p = length-append (objectBytes (flagged 0x35 (bearerBytes b))) (objectBytes (flagged 0x39 (pairBytes size)) ++ written (transportObjects t)) in
+    let q = length-append (objectBytes (flagged 0x39 (pairBytes size))) (written (transportObjects t)) in
+    omega (arith, three, two, p, q, bearer-short b e, transport-short t)
+body-short closeChannel e = omega arith
+body-short (receiveData n) e = omega (arith, last-short (flagged 0x37 (n ∷ [])))
+body-short (sendData s) e = omega (arith, last-short (flagged 0x36 s), leb-true (length s) 241 e)
+body-short channelStatus e = omega arith
+body-short (other t) e = absurd (false≢true e)
+
+frame-short : (c : Command) → bodyProper (c .body) ≡ true → length (frame (commandObjects c)) ≤ 256
+unfolding frame commandObjects written objectBytes lengthBytes detailsBytes _⇒_else_
+frame-short c e =
+    let s = written (commandObjects c) in
+    let few = length-bytes (length s) in
+    let p = length-append (lengthBytes (length s)) s in
+    omega (arith, few, p, body-short (c .body) e)
+
 -- a refusal writes nothing
 unwritten : (r : Refusal) (s : List ℕ) → refused r ≡ wrote s → ⊥
 unwritten r s e = false≢true (cc)
 
--- the modem's reading of what the bench writes is the same record, with nothing ignored; a type that the profile forbids is told 30
+-- the modem's reading of what the bench writes is the same record, with nothing ignored; a type that the profile forbids is told 30; and the command is not too long
 pub read-back :
     (p : List ℕ) (buffer : ℕ) (c : Command) (s : List ℕ) → benchWrite buffer c ≡ wrote s →
-    reading p s ≡ (allowsType p (detailsOf c) ⇒ asked c false else wrong (detailsOf c) 0x30)
+    (reading p s ≡ (allowsType p (detailsOf c) ⇒ asked c false else wrong (detailsOf c) 0x30)) × (length s ≤ 256)
 unfolding benchWrite
 read-back p buffer c s =
     branch P _ _ _ (λ _ e. absurd (unwritten _ s e)) (λ _.
     branch P _ _ _ (λ _ e. absurd (unwritten _ s e)) (λ a.
     branch P _ _ _ (λ _ e. absurd (unwritten _ s e)) (λ b e.
     let is : frame (commandObjects c) ≡ s = cc in
-    subst R is (frame-read p (commandObjects c) ∙ objects-read p c (not-not _ a) (not-not _ b)))))
+    subst R is (frame-read p (commandObjects c) ∙ objects-read p c (not-not _ a) (not-not _ b), frame-short c (not-not _ b)))))
   where
     R : List ℕ → Type 0
-    R x = reading p x ≡ (allowsType p (detailsOf c) ⇒ asked c false else wrong (detailsOf c) 0x30)
+    R x = (reading p x ≡ (allowsType p (detailsOf c) ⇒ asked c false else wrong (detailsOf c) 0x30)) × (length x ≤ 256)
 
     P : Outcome → Type 0
     P x = x ≡ wrote s → R s

@@ -1,36 +1,42 @@
--- What the histories promise, over any list of calls: order, bounds, what is accepted, the counts told, and what ends.
+-- What the histories promise, over any list of calls: order, bounds, what is accepted and what is done, the counts told, and what ends.
 -- Assumes nothing.
 use Prim.Native.Nat.{ℕ, _-_, _≤_, min}
 use mathlib.Core.Path.{_≡_, refl, sym, ap, subst, _∙_}
-use mathlib.Core.Bool.{Bool, true, false, not}
-use mathlib.Core.List.{List, _++_}
+use mathlib.Core.Bool.{Bool, true, false, not, _&&_, _||_, true≢false, false≢true}
+use mathlib.Core.List.{List, [], _∷_, _++_}
+use mathlib.Core.Option.{some}
 use native.Mathlib.Omega.{arith}
-use lib.ListN.{length, take, drop, length-append}
+use lib.ListN.{length, take, drop, length-append, length-drop}
 use lib.Seq.{drop-append-seam}
-use lib.Dec.{leb}
-use borrow.Author.Tests.{le-leb, lt-leb, eq-eqb}
+use lib.Dec.{ltb, leb}
+use borrow.Author.Tests.{le-leb, lt-leb, leb-true, eq-eqb}
 use Rattle.rules.specs.declared.ChannelNumber.{ChannelNumber}
 use Rattle.rules.specs.declared.Link.{Link}
+use Rattle.rules.specs.Checks.{_⇒_else_, isEmpty, some-of, member}
 use Rattle.rules.specs.Words.{channelOf}
 use Rattle.rules.specs.declared.Way.{Way}
 use Rattle.rules.specs.declared.Way.the-variants.{Receive, Send}
-use Rattle.rules.specs.State.{State, closed, isOpen, isEstablished, isDropped, chan, withChan, room, Chan, held}
-use Rattle.rules.specs.Reading.{asked, reading, kindOf, Command, Bearer, closeChannel, receiveData, sendData}
-use Rattle.rules.specs.Own.{Reply, reply, Result, nothing, opened, received, sent, done, capped, plain, closing, receiving, sending, own}
-use Rattle.rules.specs.Command.{Answer, Outcome, wrote, meantBy}
-use Rattle.rules.specs.Run.{Call, starting, commanding, arriving, takingOut, step}
-use Rattle.rules.specs.History.{History, ended, openedWith, commandSeen, closes, answerTells, tells, oldestReady, untouched, side, heldBy}
-use Rattle.rules.specs.Demands.{Tells, Follows, reached, told-of, accepted, isDone}
-use Rattle.rules.proofs.Laws.{by-way, stop, skip}
-use Rattle.rules.proofs.Cases.{taking-cases, receiving-cases}
+use Rattle.rules.specs.State.{State, closed, isOpen, isEstablished, isDropped, chan, withChan, room, Chan, Queue, queue, held, without, withQueue, removed, appended, fresh}
+use Rattle.rules.specs.Reading.{asked, reading, kindOf, toModem, Command, Body, Bearer, closeChannel, receiveData, sendData}
+use Rattle.rules.specs.Own.{Reply, reply, Result, Further, nothing, opened, received, sent, statuses, error, problem, done, capped, plain, closing, receiving, sending, own}
+use Rattle.rules.specs.Written.{unflagged, statusObject, eventBytes}
+use Rattle.rules.specs.Command.{Answer, answered, Outcome, wrote, refused, meantBy}
+use Rattle.rules.specs.Radio.{numbered, arrivalEvent, taking}
+use Rattle.rules.specs.Run.{Call, starting, commanding, arriving, takingOut, droppingLink, step}
+use Rattle.rules.specs.Bench.{Told, told, untold, benchRead}
+use Rattle.rules.specs.History.{History, ended, openedWith, commandSeen, closes, sameNumber, answerTells, heardTells, tells, oldestReady, side, heldBy}
+use Rattle.rules.specs.Demands.{Tells, Follows, reached, told-of, next, latest, accepted, isDone, resultTold, heard, heardDone, answerTo, Passed, opensNumber, touches}
+use Rattle.rules.proofs.Laws.{by-way, branch, stop, skip, either-left, either-right}
+use Rattle.rules.proofs.Cases.{arrival-cases, taking-cases, receiving-cases}
 use Rattle.rules.proofs.Soundness.{chan-sound, reached-sound}
 use Rattle.rules.proofs.Told.{open-changed}
-use Rattle.rules.proofs.Matching.{numbered-of}
-use Rattle.rules.proofs.Answers.{arrival-last, sending-last, replied, meant-own, seen-read, commanded-state, Counts, meant-counts}
-use Rattle.rules.proofs.Histories.{command-tells, step-follows, follows}
+use Rattle.rules.proofs.Matching.{closed-told, fresh-told, numbered-of}
+use Rattle.rules.proofs.Answers.{arrival-last, sending-last, meant-own, seen-read, Counts, meant-counts, unaccepted-stays, undone-stays}
+use Rattle.rules.proofs.Histories.{follows}
+use Rattle.rules.proofs.Outside.{reached-next, told-next, Answered, answer-meant, answer-tells, done-asked, read-reached, own-heard, own-next, aimed-number}
 
 -- what a history leaves held for a way is what the channel holds
-held-told : (c : Chan) (h : History) → Tells c h → (w : Way) → heldBy h w ≡ length (held c w)
+pub held-told : (c : Chan) (h : History) → Tells c h → (w : Way) → heldBy h w ≡ length (held c w)
 unfolding heldBy
 held-told c h f w =
     let e = sym (ap (λ (l : List ℕ). length l) (f .order w)) ∙ length-append (side h w .out) (held c w) in
@@ -39,6 +45,79 @@ held-told c h f w =
 -- what follows the bytes handed out is what is held
 rest-is : (x y z : List ℕ) → x ++ y ≡ z → drop (length x) z ≡ y
 rest-is x y z e = ap (λ (l : List ℕ). drop (length x) l) (sym e) ∙ drop-append-seam x y
+
+pub rest-told : (c : Chan) (h : History) → Tells c h → (w : Way) → drop (length (side h w .out)) (side h w .accepted) ≡ held c w
+rest-told c h f w = rest-is (side h w .out) (held c w) (side h w .accepted) (f .order w)
+
+-- an event that tells a channel, as the history has it
+event-same :
+    (n : ChannelNumber) (c : Chan) (h : History) → Tells c h →
+    eventBytes 0x09 (statusObject n (c .link) ∷ unflagged 0x37 (capped (length (held c Receive)) ∷ []) ∷ []) ≡
+    eventBytes 0x09 (statusObject n (h .link) ∷ unflagged 0x37 (capped (heldBy h Receive) ∷ []) ∷ [])
+event-same n c h f =
+    λ i. eventBytes 0x09 (statusObject n (sym (f .link) i) ∷ unflagged 0x37 (capped (sym (held-told c h f Receive) i) ∷ []) ∷ [])
+
+-- a history tells one channel
+pub one-told : (c d : Chan) (h : History) → Tells c h → Tells d h → c ≡ d
+unfolding queue
+one-told c d h f g =
+    let grant = sym (f .grant) ∙ g .grant in
+    let link = sym (f .link) ∙ g .link in
+    let bytes : (w : Way) → held c w ≡ held d w = λ w. sym (rest-told c h f w) ∙ rest-told d h g w in
+    let ready : c .ready ≡ d .ready = omega (arith, f .ready, g .ready) in
+    λ i. record { grant = grant i; link = link i; receive = record { bytes = bytes Receive i }; send = record { bytes = bytes Send i }; ready = ready i }
+
+closed-only : (c : Chan) → Tells c ended → c ≡ closed
+closed-only c f = one-told c closed ended f closed-told
+
+fresh-only : (c : Chan) (g : ℕ) (l : Link) → Tells c (openedWith g l) → c ≡ fresh g l
+unfolding openedWith isOpen
+fresh-only c g l f = one-told c (fresh g l) (openedWith g l) f (fresh-told g l (leb-true 1 g (ap (leb 1) (f .grant) ∙ sym (f .stands))))
+
+-- a call that does not touch a channel tells nothing of it
+untouched-answer :
+    (n : ChannelNumber) (h : History) (c : Command) (r : Result) → sameNumber n (channelOf (c .destination)) ≡ false → opensNumber n (some r) ≡ false →
+    answerTells n h c r ≡ h
+unfolding answerTells opensNumber
+untouched-answer n h c (done x (opened s b g)) e f = skip _ _ _ f
+untouched-answer n h c (done x (received d left)) e f = skip _ _ _ e
+untouched-answer n h c (done x (sent space)) e f = skip _ _ _ e
+untouched-answer n h c (done x nothing) e f = branch (λ (k : History). k ≡ h) (closes (c .body)) _ _ (λ _. skip _ _ _ e) (λ _. refl)
+untouched-answer n h c (done x (statuses ss)) e f = refl
+untouched-answer n h c (error x) e f = refl
+untouched-answer n h c (problem cause) e f = refl
+
+untouched-heard :
+    (n : ChannelNumber) (h : History) (c : Command) (t : Told) → sameNumber n (channelOf (c .destination)) || opensNumber n (resultTold t) ≡ false →
+    heardTells n h c t ≡ h
+unfolding heardTells resultTold
+untouched-heard n h c (told r) e =
+    let to = sameNumber n (channelOf (c .destination)) in
+    untouched-answer n h c (r .result) (either-left to _ e) (either-right to _ e)
+untouched-heard n h c (untold why) e = refl
+
+untouched-tells : (n : ChannelNumber) (h : History) (c : Call) (o : Outcome) → touches n c o ≡ false → tells n h c o ≡ h
+unfolding tells touches heard
+untouched-tells n h (starting p) o e = absurd (true≢false e)
+untouched-tells n h (commanding buffer s) (wrote t) e = untouched-heard n h (commandSeen s) (benchRead t) e
+untouched-tells n h (arriving buffer m s) (wrote t) e = skip _ _ _ e
+untouched-tells n h (takingOut buffer m) (wrote t) e = skip _ _ _ e
+untouched-tells n h (droppingLink buffer m) (wrote t) e = skip _ _ _ e
+untouched-tells n h (commanding buffer s) (refused r) e = refl
+untouched-tells n h (arriving buffer m s) (refused r) e = refl
+untouched-tells n h (takingOut buffer m) (refused r) e = refl
+untouched-tells n h (droppingLink buffer m) (refused r) e = refl
+
+-- a call that was not accepted, and a command that was not done, change nothing
+pub refused-stays : (p : List ℕ) (cs : List Call) (c : Call) → accepted (step (reached p cs) c .outcome) ≡ false → reached p (next cs c) ≡ reached p cs
+refused-stays p cs c e = reached-next p cs c ∙ unaccepted-stays (reached p cs) c e
+
+pub undone-keeps :
+    (p : List ℕ) (cs : List Call) (buffer : ℕ) (s : List ℕ) (x : Result) → answerTo p cs buffer s ≡ some x → isDone x ≡ false →
+    reached p (next cs (commanding buffer s)) ≡ reached p cs
+undone-keeps p cs buffer s x e u =
+    let w = answer-meant p cs buffer s x e in
+    w .state ∙ undone-stays (reached p cs) (reading (reached p cs .profile) s) (ap isDone (sym (w .result)) ∙ u)
 
 module _ (n : ChannelNumber) (from : 1 ≤ n .0) (upto : n .0 ≤ 7) (p : List ℕ) (cs : List Call) where
   -- the state after the calls, and what was seen of the channel
@@ -77,102 +156,169 @@ module _ (n : ChannelNumber) (from : 1 ≤ n .0) (upto : n .0 ≤ 7) (p : List �
       (λ f. sym (lt-leb (length s) space (omega (arith, f, seen .grant, held-is Receive))))
       (λ f. sym (le-leb (length s) space (omega (arith, f, seen .grant, held-is Receive))))
 
-  -- a SEND DATA on a link that was not dropped is done exactly when its data fits the grant less what is held
-  pub send-accepted :
-      (s : List ℕ) (c : Command) (i : Bool) (d : List ℕ) → reading (a .profile) s ≡ asked c i → c .body ≡ sendData d →
-      channelOf (c .destination) ≡ n → h .stands ≡ true → isDropped (h .link) ≡ false →
-      isDone (meantBy a (reading (a .profile) s) .response .result) ≡ leb (length d) (h .grant - heldBy h Send)
-  unfolding own isDone room
-  send-accepted s c i d eʳ eᵇ eⁿ o l =
-      let space = h .grant - heldBy h Send in
-      ap (λ (r : Reply). isDone (r .result)) (meant-own a (reading (a .profile) s) c i (sendData d) eʳ eᵇ) ∙
-      ap (λ (m : ChannelNumber). isDone (sending a (c .qualifier) m d i .result)) eⁿ ∙
-      sending-last (λ (r : Result). isDone r ≡ leb (length d) space) a (c .qualifier) n d i (sym (seen .stands) ∙ o) (ap isDropped (sym (seen .link)) ∙ l)
-      (λ f. sym (lt-leb (length d) space (omega (arith, f, seen .grant, held-is Send))))
-      (λ f _ _. sym (le-leb (length d) space (omega (arith, f, seen .grant, held-is Send))))
+  -- the event that an arrival raises tells the link and the count of bytes held behind it, up to FF
+  pub event-told :
+      (buffer : ℕ) (s t : List ℕ) → step a (arriving buffer n s) .outcome ≡ wrote t → isEmpty t ≡ false →
+      let h′ = told-of n p (next cs (arriving buffer n s)) in
+      t ≡ eventBytes 0x09 (statusObject n (h′ .link) ∷ unflagged 0x37 (capped (heldBy h′ Receive) ∷ []) ∷ [])
+  unfolding step arrivalEvent isEmpty
+  event-told buffer s t e f =
+      let h′ = told-of n p (next cs (arriving buffer n s)) in
+      let E : List ℕ = eventBytes 0x09 (statusObject n (h′ .link) ∷ unflagged 0x37 (capped (heldBy h′ Receive) ∷ []) ∷ []) in
+      let after : Tells (chan (step a (arriving buffer n s) .state) n) h′ = subst (λ (b : State). Follows n b h′) (reached-next p cs (arriving buffer n s)) (follows n p (next cs (arriving buffer n s)) from) in
+      arrival-cases (λ (r : Answer). r .outcome ≡ wrote t → Tells (chan (r .state) n) h′ → t ≡ E) a (λ _ q _. absurd (false≢true (cc))) buffer n s
+      (λ _ l _ q k.
+      let c = appended (chan a n) Receive s in
+      let now : Tells c h′ = subst (λ (d : Chan). Tells d h′) (open-changed a n c (l .stands)) k in
+      branch (λ (x : List ℕ). wrote x ≡ wrote t → t ≡ E) (not (isEmpty s) && a .events .available) _ _
+      (λ _ g. let is : _ ≡ t = cc in sym is ∙ event-same n c h′ now)
+      (λ _ g. let none-told : t ≡ [] = cc in absurd (false≢true (sym f ∙ ap (λ (l : List ℕ). isEmpty l) none-told))) q)
+      e after
+
+  ready-bytes : (buffer : ℕ) → take (min buffer (chan a n .ready)) (held (chan a n) Send) ≡ oldestReady h buffer
+  unfolding oldestReady side
+  ready-bytes buffer =
+      let many : chan a n .ready ≡ h .readied - length (h .send .out) = omega (arith, seen .ready) in
+      λ i. take (min buffer (many i)) (sym (rest-told (chan a n) h seen Send) i)
 
   -- what a take hands out is the oldest bytes that are ready, as many as fit
   pub ready : (buffer : ℕ) (t : List ℕ) → step a (takingOut buffer n) .outcome ≡ wrote t → t ≡ oldestReady h buffer
-  unfolding step oldestReady side
+  unfolding step
   ready buffer t =
-      let many : h .readied - length (h .send .out) ≡ chan a n .ready = omega (arith, seen .ready) in
-      taking-cases (λ (r : Answer). r .outcome ≡ wrote t → t ≡ oldestReady h buffer) a (λ _ e. cc) buffer n
-      (λ _ e. rw (rest-is (h .send .out) (held (chan a n) Send) (h .send .accepted) (seen .order Send)) (rw many (cc)))
+      taking-cases (λ (r : Answer). r .outcome ≡ wrote t → t ≡ oldestReady h buffer) a (λ _ e. absurd (false≢true (cc))) buffer n
+      (λ _ e. let is : take (min buffer (chan a n .ready)) (held (chan a n) Send) ≡ t = cc in sym is ∙ ready-bytes buffer)
+
+  -- and on an open channel with an established link a take hands them out
+  pub take-done :
+      (buffer : ℕ) → h .stands ≡ true → isEstablished (h .link) ≡ true → step a (takingOut buffer n) .outcome ≡ wrote (oldestReady h buffer)
+  unfolding step taking
+  take-done buffer o l =
+      ap (λ (r : Answer). r .outcome)
+      (skip _ _ _ (ap not (numbered-of n from upto)) ∙ skip _ _ _ (ap not (sym (seen .stands) ∙ o)) ∙ skip _ _ _ (ap not (ap isEstablished (sym (seen .link)) ∙ l)))
+      ∙ ap wrote (ready-bytes buffer)
 
   -- what a RECEIVE DATA hands out is the oldest bytes held: the least of the request, those held and 237
   pub oldest :
-      (s : List ℕ) (c : Command) (i : Bool) (request x : ℕ) (d : List ℕ) (left : ℕ) → reading (a .profile) s ≡ asked c i →
-      c .body ≡ receiveData request → channelOf (c .destination) ≡ n →
-      meantBy a (reading (a .profile) s) .response .result ≡ done x (received d left) →
+      (buffer : ℕ) (s : List ℕ) (request x : ℕ) (d : List ℕ) (left : ℕ) → channelOf (commandSeen s .destination) ≡ n →
+      commandSeen s .body ≡ receiveData request → answerTo p cs buffer s ≡ some (done x (received d left)) →
       d ≡ take (min request (min (heldBy h Receive) 237)) (drop (length (h .receive .out)) (h .receive .accepted))
   unfolding own side
-  oldest s c i request x d left eʳ eᵇ eⁿ e =
-      let some = take (min request (min (heldBy h Receive) 237)) (drop (length (h .receive .out)) (h .receive .accepted)) in
-      let meant = meant-own a (reading (a .profile) s) c i (receiveData request) eʳ eᵇ ∙ ap (λ (k : ChannelNumber). receiving a k request i) eⁿ in
-      receiving-cases (λ (r : Reply). r .result ≡ done x (received d left) → d ≡ some) a (λ _ _ q. cc) n request i
-      (λ k eᵏ _ q. rw (rest-is (h .receive .out) (held (chan a n) Receive) (h .receive .accepted) (seen .order Receive)) (rw (held-is Receive) (cc)))
-      (sym (ap (λ (r : Reply). r .result) meant) ∙ e)
+  oldest buffer s request x d left eⁿ eᵇ e =
+      let w = answer-meant p cs buffer s (done x (received d left)) e in
+      let c = done-asked a (reading (a .profile) s) x (received d left) (sym (w .result)) in
+      let k = seen-read (a .profile) s (c .0) (c .1) (c .2) in
+      let meant =
+      meant-own a (reading (a .profile) s) (c .0) (c .1) (receiveData request) (c .2) (ap (λ (j : Command). j .body) (sym k) ∙ eᵇ)
+      ∙ ap (λ (j : Command). receiving a (channelOf (j .destination)) request (c .1)) (sym k)
+      ∙ ap (λ (m : ChannelNumber). receiving a m request (c .1)) eⁿ
+      in
+      receiving-cases (λ (r : Reply). done x (received d left) ≡ r .result → d ≡ take (min request (min (heldBy h Receive) 237)) (drop (length (h .receive .out)) (h .receive .accepted))) a
+      (λ _ _ q. absurd (false≢true (cc))) n request (c .1)
+      (λ k eᵏ _ q. rw (rest-told (chan a n) h seen Receive, held-is Receive) (cc))
+      (w .result ∙ ap (λ (r : Reply). r .result) meant)
 
-  -- what is seen of one more call, by how it ended
-  seen-next : (c : Call) (u : Outcome) → step a c .outcome ≡ u → Follows n (step a c .state) (tells n h c u)
-  seen-next c u e = subst (λ (v : Outcome). Follows n (step a c .state) (tells n h c v)) e (step-follows n from a h (reached-sound p cs) seen c)
-
-  -- the count that an answer tells is what the history leaves held, or the room that it leaves, up to FF
+  -- the count that an answer tells is what the history behind it leaves held, or the room that it leaves, up to FF
   pub counts :
-      (buffer : ℕ) (s t : List ℕ) (c : Command) (i : Bool) (x : ℕ) → step a (commanding buffer s) .outcome ≡ wrote t →
-      reading (a .profile) s ≡ asked c i → channelOf (c .destination) ≡ n →
-      ((d : List ℕ) (left : ℕ) → meantBy a (reading (a .profile) s) .response .result ≡ done x (received d left) →
-      left ≡ capped (heldBy (tells n h (commanding buffer s) (wrote t)) Receive)) ×
-      ((space : ℕ) → meantBy a (reading (a .profile) s) .response .result ≡ done x (sent space) →
-      space ≡ capped (tells n h (commanding buffer s) (wrote t) .grant - heldBy (tells n h (commanding buffer s) (wrote t)) Send))
-  unfolding step room
-  counts buffer s t c i x eᵗ eʳ eⁿ =
-      let m = meantBy a (reading (a .profile) s) in
-      let h′ = tells n h (commanding buffer s) (wrote t) in
-      let next : Follows n (m .state) h′ = subst (λ (b : State). Follows n b h′) (commanded-state a buffer s t eᵗ) (seen-next (commanding buffer s) (wrote t) eᵗ) in
-      let left = held-told (chan (m .state) n) h′ next in
-      let told = meant-counts a (reading (a .profile) s) c i n eʳ eⁿ in (
-        λ d k e. subst (Counts (chan (m .state) n)) e told ∙ ap capped (sym (left Receive)),
-        λ space e.
-            let roomy : room (chan (m .state) n) Send ≡ h′ .grant - heldBy h′ Send = omega (arith, next .grant, left Send) in
-            subst (Counts (chan (m .state) n)) e told ∙ ap capped roomy,
-      )
+      (buffer : ℕ) (s : List ℕ) (x : ℕ) → channelOf (commandSeen s .destination) ≡ n →
+      let h′ = told-of n p (next cs (commanding buffer s)) in
+      ((d : List ℕ) (left : ℕ) → answerTo p cs buffer s ≡ some (done x (received d left)) → left ≡ capped (heldBy h′ Receive)) ×
+      ((space : ℕ) → answerTo p cs buffer s ≡ some (done x (sent space)) → space ≡ capped (h′ .grant - heldBy h′ Send))
+  unfolding room
+  counts buffer s x eⁿ =
+      let c = commanding buffer s in
+      let h′ = told-of n p (next cs c) in
+      let now = follows n p (next cs c) from in
+      let left = held-told (chan (reached p (next cs c)) n) h′ now in
+      let roomy : room (chan (reached p (next cs c)) n) Send ≡ h′ .grant - heldBy h′ Send = omega (arith, now .grant, left Send) in
+      (λ d k e. told-count (received d k) e ∙ ap capped (sym (left Receive)), λ k e. told-count (sent k) e ∙ ap capped roomy)
+    where
+      told-count : (f : Further) → answerTo p cs buffer s ≡ some (done x f) → Counts (chan (reached p (next cs (commanding buffer s))) n) (done x f)
+      told-count f e =
+          let w = answer-meant p cs buffer s (done x f) e in
+          let c = done-asked a (reading (a .profile) s) x f (sym (w .result)) in
+          let k = seen-read (a .profile) s (c .0) (c .1) (c .2) in
+          subst (λ (b : State). Counts (chan b n) (done x f)) (sym (w .state))
+          (subst (Counts (chan (meantBy a (reading (a .profile) s) .state) n)) (sym (w .result))
+          (meant-counts a (reading (a .profile) s) (c .0) (c .1) n (c .2) (ap (λ (j : Command). channelOf (j .destination)) (sym k) ∙ eⁿ)))
 
-  -- starting anew ends every channel
-  pub start-ends : (q : List ℕ) (u : Outcome) → tells n h (starting q) u ≡ ended
-  unfolding tells
-  start-ends q u = refl
+  -- starting anew ends every channel: nothing of it is left, in the history and in the session
+  pub start-ends : (q : List ℕ) → (told-of n p (next cs (starting q)) ≡ ended) × (chan (reached p (next cs (starting q))) n ≡ closed)
+  unfolding tells step
+  start-ends q =
+      let e = told-next n p cs (starting q) in
+      (e, closed-only (chan (reached p (next cs (starting q))) n) (subst (Tells (chan (reached p (next cs (starting q))) n)) e (follows n p (next cs (starting q)) from)))
 
-  -- a CLOSE CHANNEL of an open channel ends it, in the history and in the state
-  pub close-ends :
-      (buffer : ℕ) (s t : List ℕ) (c : Command) (i : Bool) → reading (a .profile) s ≡ asked c i → c .body ≡ closeChannel → channelOf (c .destination) ≡ n →
-      isOpen (chan a n) ≡ true → step a (commanding buffer s) .outcome ≡ wrote t →
-      (tells n h (commanding buffer s) (wrote t) ≡ ended) × (chan (step a (commanding buffer s) .state) n ≡ closed)
-  unfolding step own closing answerTells closes kindOf
-  close-ends buffer s t c i eʳ eᵇ eⁿ o eᵗ =
-      let m = channelOf (c .destination) in
-      let meant : replied (meantBy a (reading (a .profile) s)) ≡ reply (withChan a n closed) (done (plain i) nothing) =
-      meant-own a (reading (a .profile) s) c i closeChannel eʳ eᵇ ∙ ap (λ (k : ChannelNumber). closing a k i) eⁿ ∙ skip _ _ _ (ap not o)
-      in (
-        command-tells n a h (reached-sound p cs) buffer s t eᵗ ∙
-            ap (λ (r : Reply). answerTells n h (commandSeen s) (r .result)) meant ∙
-            ap (λ (k : Command). answerTells n h k (done (plain i) nothing)) (seen-read (a .profile) s c i eʳ) ∙
-            stop _ _ _ (ap closes eᵇ) ∙ stop _ _ _ (eq-eqb (n .0) (m .0) (ap (λ (k : ChannelNumber). k .0) (sym eⁿ))),
-        ap (λ (b : State). chan b n) (commanded-state a buffer s t eᵗ) ∙ ap (λ (r : Reply). chan (r .state) n) meant ∙ open-changed a n closed o,
-      )
-
-  -- an answer that tells of an opening begins the channel's history anew
+  -- an answer that tells of an opening begins the channel anew: it holds nothing either way, and nothing is ready
   pub opening-begins :
-      (buffer : ℕ) (s t : List ℕ) (x : ℕ) (l : Link) (b : Bearer) (g : ℕ) → step a (commanding buffer s) .outcome ≡ wrote t →
-      meantBy a (reading (a .profile) s) .response .result ≡ done x (opened (record { number = n; link = l }) b g) →
-      tells n h (commanding buffer s) (wrote t) ≡ openedWith g l
-  unfolding step answerTells
-  opening-begins buffer s t x l b g eᵗ e =
-      command-tells n a h (reached-sound p cs) buffer s t eᵗ ∙ ap (answerTells n h (commandSeen s)) e ∙ stop _ _ _ (eq-eqb (n .0) (n .0) refl)
+      (buffer : ℕ) (s : List ℕ) (x : ℕ) (l : Link) (b : Bearer) (g : ℕ) → answerTo p cs buffer s ≡ some (done x (opened (record { number = n; link = l }) b g)) →
+      (told-of n p (next cs (commanding buffer s)) ≡ openedWith g l) × (chan (reached p (next cs (commanding buffer s))) n ≡ fresh g l)
+  unfolding answerTells
+  opening-begins buffer s x l b g e =
+      let c = commanding buffer s in
+      let told = answer-tells n p cs buffer s _ e ∙ stop _ _ _ (eq-eqb (n .0) (n .0) refl) in
+      (told, fresh-only (chan (reached p (next cs c)) n) g l (subst (Tells (chan (reached p (next cs c)) n)) told (follows n p (next cs c) from)))
 
--- an opening begins with nothing
-pub begins-empty :
-    (g : ℕ) (l : Link) →
-    ((w : Way) → side (openedWith g l) w ≡ untouched) × (openedWith g l .readied ≡ 0)
-unfolding openedWith side
-begins-empty g l = (by-way _ refl refl, refl)
+  -- a call that does not touch a channel leaves it as it was
+  pub others-keep : (c : Call) → touches n c (step a c .outcome) ≡ false → chan (reached p (next cs c)) n ≡ chan a n
+  others-keep c e =
+      let same = told-next n p cs c ∙ untouched-tells n h c (step a c .outcome) e in
+      one-told (chan (reached p (next cs c)) n) (chan a n) h (subst (Tells (chan (reached p (next cs c)) n)) same (follows n p (next cs c) from)) seen
+
+module _ (p : List ℕ) (cs : List Call) (buffer : ℕ) (s : List ℕ) (c : Command) (i : Bool) (w : Passed (latest p cs) buffer s c i) where
+  -- of a command that passed steps 1 to 8: the channel that it goes to, and its history
+  abbrev to : ChannelNumber
+  to = channelOf (c .destination)
+
+  abbrev of : History
+  of = told-of to p cs
+
+  pub follows-to : toModem (kindOf (c .body)) ≡ false → Follows to (reached p cs) of
+  follows-to e = follows to p cs (aimed-number p cs buffer s c i w e .0)
+
+  -- a SEND DATA on an open channel whose link was not dropped is done exactly when its data fits the grant less what is held
+  pub send-accepted :
+      (d : List ℕ) → c .body ≡ sendData d → of .stands ≡ true → isDropped (of .link) ≡ false →
+      heardDone (answerTo p cs buffer s) ≡ leb (length d) (of .grant - heldBy of Send)
+  unfolding own heardDone isDone room kindOf toModem member some-of
+  send-accepted d e o l =
+      let f = follows-to (ap (λ (b : Body). toModem (kindOf b)) e) in
+      let space = of .grant - heldBy of Send in
+      let left = held-told (chan (reached p cs) to) of f Send in
+      ap heardDone (own-heard p cs buffer s c i w (sendData d) e)
+      ∙ sending-last (λ (r : Result). isDone r ≡ leb (length d) space) (reached p cs) (c .qualifier) to d i (sym (f .stands) ∙ o) (ap isDropped (sym (f .link)) ∙ l)
+      (λ g. sym (lt-leb (length d) space (omega (arith, g, f .grant, left))))
+      (λ g _ _. sym (le-leb (length d) space (omega (arith, g, f .grant, left))))
+
+  -- a RECEIVE DATA on an open channel is done: it hands out the oldest bytes, and tells what is left
+  pub receive-done :
+      (request : ℕ) → c .body ≡ receiveData request → of .stands ≡ true →
+      let k = min request (min (heldBy of Receive) 237) in
+      answerTo p cs buffer s ≡
+      some (done (ltb k request ⇒ 0x02 else plain i) (received (take k (drop (length (of .receive .out)) (of .receive .accepted))) (capped (heldBy of Receive - k))))
+  unfolding own receiving removed withQueue without queue side kindOf toModem member some-of
+  receive-done request e o =
+      let f = follows-to (ap (λ (b : Body). toModem (kindOf b)) e) in
+      let x = chan (reached p cs) to in
+      own-heard p cs buffer s c i w (receiveData request) e
+      ∙ ap (λ (r : Reply). some (r .result)) (skip _ _ _ (ap not (sym (f .stands) ∙ o)))
+      ∙ rw (held-told x of f Receive, rest-told x of f Receive, length-drop (min request (min (length (held x Receive)) 237)) (held x Receive)) refl
+
+  -- a CLOSE CHANNEL of an open channel is done, and ends it, in the history and in the session
+  pub close-done :
+      c .body ≡ closeChannel → of .stands ≡ true →
+      (answerTo p cs buffer s ≡ some (done (plain i) nothing)) × (told-of to p (next cs (commanding buffer s)) ≡ ended) ×
+      (chan (reached p (next cs (commanding buffer s))) to ≡ closed)
+  unfolding own closing kindOf toModem member some-of answerTells closes
+  close-done e o =
+      let to-channel = ap (λ (b : Body). toModem (kindOf b)) e in
+      let f = follows-to to-channel in
+      let stands = sym (f .stands) ∙ o in
+      let done-so = skip _ _ _ (ap not stands) in
+      let answer = own-heard p cs buffer s c i w closeChannel e ∙ ap (λ (r : Reply). some (r .result)) done-so in
+      let gone = ap (λ (b : State). chan b to) (own-next p cs buffer s c i w closeChannel e ∙ ap (λ (r : Reply). r .state) done-so) in (
+        answer,
+        answer-tells to p cs buffer s _ answer
+            ∙ ap (λ (k : Command). answerTells to of k (done (plain i) nothing)) (seen-read (reached p cs .profile) s c i (read-reached p cs buffer s c i w))
+            ∙ stop _ _ _ (ap closes e) ∙ stop _ _ _ (eq-eqb (to .0) (to .0) refl),
+        gone ∙ open-changed (reached p cs) to closed stands,
+      )

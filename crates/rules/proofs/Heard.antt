@@ -92,8 +92,8 @@ further-back t (opened s b g) e =
     let first = rising-first 0 s [] (both-right (eqb t 0x40) (rising 0 (s ∷ [])) fit) in
     rw (eqb-true t 0x40 (both-left (eqb t 0x40) (rising 0 (s ∷ [])) fit))
     (λ i. opened (status-back (s .number) (s .link) (first .1) i) (bearer-back b i) (pair-back g i))
-further-back t (received s left) e = rw (eqb-true t 0x42 (both-left (eqb t 0x42) _ e)) refl
-further-back t (sent room) e = rw (eqb-true t 0x43 e) refl
+further-back t (received s left) e = rw (eqb-true t 0x42 (both-left (eqb t 0x42) _ (both-left _ (leb left 255) e))) refl
+further-back t (sent room) e = rw (eqb-true t 0x43 (both-left (eqb t 0x43) _ e)) refl
 further-back t (statuses ss) e =
     rw (eqb-true t 0x44 (both-left (eqb t 0x44) _ e)) (ap statuses (list-back ss (both-right (eqb t 0x44) _ e)))
 

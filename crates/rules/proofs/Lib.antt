@@ -14,6 +14,7 @@ pub mod Bounds
 pub mod Matching
 pub mod Histories
 pub mod Answers
+pub mod Outside
 pub mod Demands
 pub mod Openings
 pub mod Input

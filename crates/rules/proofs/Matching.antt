@@ -82,7 +82,7 @@ module _ (c : Chan) (h : History) (m : Tells c h) where
       record { stands = m .stands; grant = m .grant; link = refl; order = by-way _ (m .order Receive) (m .order Send); ready = m .ready }
 
 -- the channels 1 to 7, as a call tests them
-numbered-from : (n : ChannelNumber) → numbered n ≡ true → (1 ≤ n .0) × (n .0 ≤ 7)
+pub numbered-from : (n : ChannelNumber) → numbered n ≡ true → (1 ≤ n .0) × (n .0 ≤ 7)
 unfolding numbered
 numbered-from n e = (leb-true 1 (n .0) (both-left _ _ e), leb-true (n .0) 7 (both-right (leb 1 (n .0)) _ e))
 

@@ -1,6 +1,6 @@
 -- The response that the command call means is one that the paper lists.
 -- Assumes nothing.
-use Prim.Native.Nat.{ℕ, suc, _+_, _≤_, _<_}
+use Prim.Native.Nat.{ℕ, suc, _+_, _≤_, _<_, min}
 use mathlib.Core.Path.{_≡_, refl, sym, subst}
 use mathlib.Core.Bool.{Bool, true, false, not, _&&_}
 use mathlib.Core.List.{List, [], _∷_}
@@ -21,7 +21,7 @@ use Rattle.rules.specs.Profile.{allowsBearer}
 use Rattle.rules.specs.State.{State, Chan, chan, isDropped, held}
 use Rattle.rules.specs.Pool.{unpromised}
 use Rattle.rules.specs.Reading.{Reading, reading, Command, Body, Bearer, moreTime, eventList, openChannel, closeChannel, receiveData, sendData, channelStatus, other, bodyIn, commandIn, kindOf, detailsOf}
-use Rattle.rules.specs.Own.{Reply, Status, bit1, plain, opened, statusesFrom, own, protocolOf}
+use Rattle.rules.specs.Own.{Reply, Status, bit1, capped, plain, opened, statusesFrom, own, protocolOf}
 use Rattle.rules.specs.Written.{bearerBytes}
 use Rattle.rules.specs.Command.{meantBy}
 use Rattle.rules.specs.Bench.{bearerProper, errorProper, successProper, furtherProper, resultProper, rising, proper}
@@ -102,6 +102,11 @@ Listed d r = resultProper d (r .result) ≡ true
 few-handed : (k : ℕ) (s : List ℕ) → k ≤ 237 → leb (length (take k s)) 237 ≡ true
 few-handed k s h = let e = length-take k s in le-leb (length (take k s)) 237 (omega arith)
 
+-- a count is told up to FF
+capped-fits : (n : ℕ) → leb (capped n) 255 ≡ true
+unfolding capped
+capped-fits n = le-leb (min n 255) 255 (omega arith)
+
 -- every command's result is one that the paper lists for its type
 own-proper : (a : State) (c : Command) (b : Body) (i : Bool) → Sound a → BearerMeasured b → OtherUnknown b → Listed (detailsWith c b) (own a c b i)
 unfolding own kindOf resultProper errorProper successProper furtherProper known table member some-of _⇒_else_
@@ -119,10 +124,10 @@ own-proper a c closeChannel i h m u =
     closing-cases (Listed (detailsWith c closeChannel)) a (λ _ e. e) (channelOf (c .destination)) i (λ _. both _ _ (plain-proper 0x41 i refl) refl)
 own-proper a c (receiveData r) i h m u =
     receiving-cases (Listed (detailsWith c (receiveData r))) a (λ _ e. e) (channelOf (c .destination)) r i
-    (λ k e _. both _ _ (or-plain-proper 0x42 0x02 (ltb k r) i refl refl) (few-handed k (held (chan a (channelOf (c .destination))) Receive) (omega arith)))
+    (λ k e _. both _ _ (or-plain-proper 0x42 0x02 (ltb k r) i refl refl) (both _ _ (few-handed k (held (chan a (channelOf (c .destination))) Receive) (omega arith)) (capped-fits _)))
 own-proper a c (sendData s) i h m u =
     sending-cases (Listed (detailsWith c (sendData s))) a (λ _ e. e) (c .qualifier) (channelOf (c .destination)) s i
-    (λ _ _ _ _ _. both _ _ (plain-proper 0x43 i refl) refl)
+    (λ _ _ _ _ _. both _ _ (plain-proper 0x43 i refl) (capped-fits _))
 own-proper a c channelStatus i h m u =
     both _ _ (plain-proper 0x44 i refl) (statuses-rise 0 1 (a .chans) (omega arith) (omega (arith, h .seven)))
 own-proper a c (other t) i h m u = rw u

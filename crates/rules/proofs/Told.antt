@@ -60,7 +60,7 @@ padded-get [] m k = zero-get m k
 padded-get (x ∷ p) m zero = refl
 padded-get (x ∷ p) m (suc k) = padded-get p m k
 
-kept-byte : (p : List ℕ) (k : ℕ) → k < 13 → getD (kept p) k 0 ≡ getD p k 0
+pub kept-byte : (p : List ℕ) (k : ℕ) → k < 13 → getD (kept p) k 0 ≡ getD p k 0
 unfolding kept
 kept-byte p k h = getD-take 13 (p ++ replicate 13 0) k 0 h ∙ padded-get p 13 k
 

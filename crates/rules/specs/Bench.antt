@@ -104,8 +104,8 @@ unfoldable pub furtherProper : ℕ → Further → Bool
 furtherProper t nothing = member t bare
 furtherProper t (opened s b g) =
     eqb t 0x40 && rising 0 (s ∷ []) && not (isDropped (s .link)) && bearerProper b && leb 1 g && leb g 1500
-furtherProper t (received s left) = eqb t 0x42 && leb (length s) 237
-furtherProper t (sent room) = eqb t 0x43
+furtherProper t (received s left) = eqb t 0x42 && leb (length s) 237 && leb left 255
+furtherProper t (sent room) = eqb t 0x43 && leb room 255
 furtherProper t (statuses ss) = eqb t 0x44 && rising 0 ss
 
 unfoldable pub resultProper : Details → Result → Bool

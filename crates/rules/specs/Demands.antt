@@ -1,18 +1,22 @@
 -- What the histories promise, in the words of demand 3.
-use Prim.Native.Nat.{ℕ, _+_, _-_, _≤_, _<_}
+use Prim.Native.Nat.{ℕ, zero, suc, _+_, _-_, _*_, _≤_, _<_}
 use mathlib.Core.Path.{_≡_}
-use mathlib.Core.Bool.{Bool, true, false}
-use mathlib.Core.List.{List, _++_}
+use mathlib.Core.Bool.{Bool, true, false, _||_}
+use mathlib.Core.List.{List, [], _∷_, _++_}
+use mathlib.Core.Option.{Option, none, some}
 use lib.ListN.{length}
 use Rattle.rules.specs.declared.ChannelNumber.{ChannelNumber}
 use Rattle.rules.specs.declared.Way.{Way}
+use Rattle.rules.specs.Words.{channelOf}
 use Rattle.rules.specs.State.{State, Chan, chan, isOpen, held}
-use Rattle.rules.specs.Profile.{channels}
-use Rattle.rules.specs.Own.{Result, error, problem, done}
+use Rattle.rules.specs.Pool.{cellCount, cells}
+use Rattle.rules.specs.Reading.{Command, asked, reading}
+use Rattle.rules.specs.Own.{Result, Further, nothing, opened, received, sent, statuses, error, problem, done}
 use Rattle.rules.specs.Command.{Outcome, wrote, refused}
-use Rattle.rules.specs.Run.{Call, after}
+use Rattle.rules.specs.Bench.{Told, told, untold, benchRead}
+use Rattle.rules.specs.Run.{Call, starting, commanding, arriving, takingOut, droppingLink, step, after}
 use Rattle.rules.specs.State as state
-use Rattle.rules.specs.History.{History, side, history, seenFrom}
+use Rattle.rules.specs.History.{History, side, history, seenFrom, commandSeen, sameNumber}
 
 -- the state after a list of calls from the start, and the history of a channel that was seen on the way
 abbrev pub reached : List ℕ → List Call → State
@@ -20,6 +24,10 @@ reached p cs = after (state.start p) cs
 
 abbrev pub told-of : ChannelNumber → List ℕ → List Call → History
 told-of n p cs = history n (seenFrom (state.start p) cs)
+
+-- the calls, and one more
+abbrev pub next : List Call → Call → List Call
+next cs c = cs ++ c ∷ []
 
 -- the history tells the channel: the grant, the link, and each way accepted is handed out followed by held
 pub record Tells (c : Chan) (h : History) : Type 0 where
@@ -33,10 +41,35 @@ pub record Tells (c : Chan) (h : History) : Type 0 where
 abbrev pub Follows : ChannelNumber → State → History → Type 0
 Follows n a h = Tells (chan a n) h
 
+-- the profile of the latest start
+unfoldable pub begun : List ℕ → Call → List ℕ
+begun p (starting q) = q
+begun p (commanding buffer s) = p
+begun p (arriving buffer n s) = p
+begun p (takingOut buffer n) = p
+begun p (droppingLink buffer n) = p
+
+unfoldable pub latest : List ℕ → List Call → List ℕ
+latest p [] = p
+latest p (c ∷ cs) = latest (begun p c) cs
+
 -- a call was not refused
 unfoldable pub accepted : Outcome → Bool
 accepted (wrote s) = true
 accepted (refused r) = false
+
+-- the result that the bench hears in an answer; a refusal says nothing
+unfoldable pub resultTold : Told → Option Result
+resultTold (told r) = some (r .result)
+resultTold (untold why) = none
+
+unfoldable pub heard : Outcome → Option Result
+heard (wrote t) = resultTold (benchRead t)
+heard (refused r) = none
+
+-- what the bench hears in the answer to a command behind these calls
+abbrev pub answerTo : List ℕ → List Call → ℕ → List ℕ → Option Result
+answerTo p cs buffer s = heard (step (reached p cs) (commanding buffer s) .outcome)
 
 -- a command was done
 unfoldable pub isDone : Result → Bool
@@ -44,13 +77,58 @@ isDone (error e) = false
 isDone (problem cause) = false
 isDone (done r f) = true
 
--- every number from 1 to N is open
-abbrev pub AllOpen : State → Type 0
-AllOpen a = (k : ℕ) → 1 ≤ k → k ≤ channels (a .profile) → isOpen (chan a (record { 0 = k })) ≡ true
+unfoldable pub heardDone : Option Result → Bool
+heardDone none = false
+heardDone (some r) = isDone r
 
--- k is the lowest unused number from 1 to N
-pub record Lowest (a : State) (k : ℕ) : Type 0 where
+-- a command passed steps 1 to 8: the buffer and the bytes have their sizes, and with that profile the bytes are read as the command c
+pub record Passed (p : List ℕ) (buffer : ℕ) (s : List ℕ) (c : Command) (ignored : Bool) : Type 0 where
+  pub roomy : 255 ≤ buffer
+  pub few : length s ≤ 256
+  pub read : reading p s ≡ asked c ignored
+
+-- the cells that the grants told promise, both ways, to so many channels from number k on
+unfoldable pub cellsFrom : (ChannelNumber → History) → ℕ → ℕ → ℕ
+cellsFrom h k zero = 0
+cellsFrom h k (suc m) = 2 * cells (h (record { 0 = k }) .grant) + cellsFrom h (k + 1) m
+
+-- the cells that are free, by the histories of the seven channels
+unfoldable pub freeBy : (ChannelNumber → History) → ℕ
+freeBy h = cellCount - cellsFrom h 1 7
+
+abbrev pub freeCells : List ℕ → List Call → ℕ
+freeCells p cs = freeBy (λ (n : ChannelNumber). told-of n p cs)
+
+-- the channel of a number stands open, by its history
+abbrev pub standing : List ℕ → List Call → ℕ → Bool
+standing p cs k = told-of (record { 0 = k }) p cs .stands
+
+-- of the numbers that stand open: every one from 1 to N does
+abbrev pub AllOpen : ℕ → (ℕ → Bool) → Type 0
+AllOpen n stands = (k : ℕ) → 1 ≤ k → k ≤ n → stands k ≡ true
+
+-- k is the lowest unused one from 1 to N
+pub record Lowest (n : ℕ) (stands : ℕ → Bool) (k : ℕ) : Type 0 where
   pub from : 1 ≤ k
-  pub upto : k ≤ channels (a .profile)
-  pub unused : isOpen (chan a (record { 0 = k })) ≡ false
-  pub below : (j : ℕ) → 1 ≤ j → j < k → isOpen (chan a (record { 0 = j })) ≡ true
+  pub upto : k ≤ n
+  pub unused : stands k ≡ false
+  pub below : (j : ℕ) → 1 ≤ j → j < k → stands j ≡ true
+
+-- an answer tells of an opening of the channel n
+unfoldable pub opensNumber : ChannelNumber → Option Result → Bool
+opensNumber n none = false
+opensNumber n (some (error e)) = false
+opensNumber n (some (problem cause)) = false
+opensNumber n (some (done x nothing)) = false
+opensNumber n (some (done x (opened s b g))) = sameNumber n (s .number)
+opensNumber n (some (done x (received d left))) = false
+opensNumber n (some (done x (sent room))) = false
+opensNumber n (some (done x (statuses ss))) = false
+
+-- a call may change the channel n: a start, a call of that number, a command to it, and one whose answer opens it
+unfoldable pub touches : ChannelNumber → Call → Outcome → Bool
+touches n (starting p) o = true
+touches n (commanding buffer s) o = sameNumber n (channelOf (commandSeen s .destination)) || opensNumber n (heard o)
+touches n (arriving buffer m s) o = sameNumber n m
+touches n (takingOut buffer m) o = sameNumber n m
+touches n (droppingLink buffer m) o = sameNumber n m

@@ -1,10 +1,11 @@
 -- "Frames and objects": lengths, tags, an object, the walk and its first fault, the outer frame; and how an object is written.
 use Prim.Native.Nat.{ℕ, zero, suc, _+_, _%_}
+use mathlib.Core.Path.{_≡_, refl}
 use mathlib.Core.Bool.{Bool, false, _&&_, _||_}
 use mathlib.Core.List.{List, [], _∷_, _++_}
 use lib.ListN.{length, getD, take, drop}
 use lib.Dec.{ltb, leb, eqb}
-use Rattle.rules.specs.Checks.{_⇒_else_}
+use Rattle.rules.specs.Checks.{_⇒_else_, some-of}
 use Rattle.rules.specs.declared.Ending.{Ending}
 use Rattle.rules.specs.declared.Ending.the-variants.{End, BadTag, BadLength, CutValue}
 
@@ -122,3 +123,8 @@ contents s = following (lengthAt (drop 1 s))
 -- a command as bytes
 unfoldable pub frame : List Object → List ℕ
 frame os = let s = written os in 0xD0 ∷ lengthBytes (length s) ++ s
+
+-- what is no frame: another first byte, a length that is none, a byte too many
+pub no-frame : some-of framed ((0xCF ∷ 0x00 ∷ []) ∷ (0xD0 ∷ 0x82 ∷ []) ∷ (0xD0 ∷ 0x00 ∷ 0x00 ∷ []) ∷ []) ≡ false
+unfolding some-of framed fills lengthAt longLength _⇒_else_
+no-frame = refl

@@ -1,7 +1,8 @@
 -- "Order of checks on a command", step 9: the own checks, what each command does to the state, and the results 00, 01, 02, 07.
 use Prim.Native.Nat.{ℕ, zero, suc, _+_, _%_, min}
-use mathlib.Core.Bool.{Bool, not}
-use mathlib.Core.List.{List, [], _∷_}
+use mathlib.Core.Path.{_≡_, refl}
+use mathlib.Core.Bool.{Bool, true, false, not}
+use mathlib.Core.List.{List, [], _∷_, map}
 use mathlib.Core.Option.{Option, none, some}
 use lib.ListN.{length, take}
 use lib.Dec.{ltb, eqb}
@@ -46,6 +47,10 @@ reply a r = record { state = a; result = r }
 -- bit 1 of the qualifier
 unfoldable pub bit1 : ℕ → Bool
 bit1 q = eqb (q % 2) 1
+
+pub bit1-of : map bit1 (0 ∷ 1 ∷ 2 ∷ 3 ∷ 4 ∷ []) ≡ false ∷ true ∷ false ∷ true ∷ false ∷ []
+unfolding bit1
+bit1-of = refl
 
 -- counts are told up to FF
 unfoldable pub capped : ℕ → ℕ

@@ -1,7 +1,8 @@
 -- "Profile": the bits, every place that the paper names, and the number of channels.
 use Prim.Native.Nat.{ℕ, _-_, _/_, _%_, _^_}
+use mathlib.Core.Path.{_≡_, refl}
 use mathlib.Core.Bool.{Bool, true, false}
-use mathlib.Core.List.{List, _++_}
+use mathlib.Core.List.{List, [], _∷_, _++_, map}
 use lib.ListN.{getD, take, replicate}
 use lib.Dec.{eqb}
 use Rattle.rules.specs.declared.Details.{Details}
@@ -24,6 +25,14 @@ allowsType p d =
     eqb (d .kind) 0x02 ⇒ bit p 3 4 else
     eqb (d .kind) 0x05 ⇒ bit p 5 1 else
     bit p 12 (d .kind - 0x3F)
+
+-- a profile with the first of byte 12's bits alone, and one with the fifth alone, against the five types
+pub types-by-bit :
+    map (λ (p : List ℕ). map (λ (t : ℕ). allowsType p (record { number = 1; kind = t; qualifier = 0 })) (0x40 ∷ 0x41 ∷ 0x42 ∷ 0x43 ∷ 0x44 ∷ []))
+    ((replicate 11 0 ++ 0x01 ∷ []) ∷ (replicate 11 0 ++ 0x10 ∷ []) ∷ []) ≡
+    (true ∷ false ∷ false ∷ false ∷ false ∷ []) ∷ (false ∷ false ∷ false ∷ false ∷ true ∷ []) ∷ []
+unfolding allowsType bit _⇒_else_
+types-by-bit = refl
 
 -- the events: byte 6 bits 3 and 4 for 09 and 0A
 unfoldable pub allowsEvent : List ℕ → ℕ → Bool

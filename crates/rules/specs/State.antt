@@ -1,5 +1,6 @@
 -- The state of a session: the profile, the event list and seven channels.
 use Prim.Native.Nat.{ℕ, _-_}
+use mathlib.Core.Path.{_≡_, refl}
 use mathlib.Core.Bool.{Bool, true, false}
 use mathlib.Core.List.{List, [], _++_}
 use lib.ListN.{length, getD, drop, set, replicate}
@@ -60,6 +61,10 @@ isOpen c = leb 1 (c .grant)
 unfoldable pub start : List ℕ → State
 start p =
     record { profile = kept p; events = record { available = false; status = false }; chans = replicate 7 closed }
+
+pub start-fresh : (p : List ℕ) → start p .events ≡ record { available = false; status = false }
+unfolding start
+start-fresh p = refl
 
 -- the channel of a number
 unfoldable pub chan : State → ChannelNumber → Chan

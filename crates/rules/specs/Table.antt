@@ -1,11 +1,12 @@
 -- "Frames and objects", the table of the seven types: what is required, what may also stand, how often; the lengths.
 use Prim.Native.Nat.{ℕ}
+use mathlib.Core.Path.{_≡_, refl}
 use mathlib.Core.Bool.{Bool, true, false, _||_}
 use mathlib.Core.List.{List, [], _∷_, map}
 use lib.ListN.{length, getD}
 use lib.Dec.{ltb, eqb}
 use Rattle.rules.specs.declared.Details.{Details}
-use Rattle.rules.specs.Checks.{_⇒_else_, isEmpty, every, occurrences, member}
+use Rattle.rules.specs.Checks.{_⇒_else_, isEmpty, every, some-of, occurrences, member}
 use Rattle.rules.specs.Frames.{Object}
 
 -- a row: the type, the objects required, those that may also stand, and those of which two may stand
@@ -49,6 +50,11 @@ times r n =
     member n (r .twice) ⇒ 2 else
     member n (r .required) || member n (r .also) ⇒ 1 else
     0
+
+-- in an OPEN CHANNEL: a required object, one that may also stand, one that may stand twice, and one that may not stand
+pub times-40 : map (times (rowAmong 0x40 table)) (0x39 ∷ 0x3C ∷ 0x04 ∷ 0x37 ∷ []) ≡ 1 ∷ 1 ∷ 2 ∷ 0 ∷ []
+unfolding times rowAmong table member some-of _⇒_else_
+times-40 = refl
 
 -- the objects that count, and those that are unexpected
 pub record Sifted : Type 0 where
