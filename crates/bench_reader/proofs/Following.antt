@@ -179,14 +179,14 @@ module _ (d : Details) (x : ℕ) (s : List ℕ) (at : ℕ) {r : Value} (m : Hold
     data-on :
         let v = part start (start + k) s in
         let n = getD (valueAt (walk (drop (next .at) s) .objects) 0) 0 0 in
-        followed d 0x42 x (drop at s) ≡ checked (leb k dataCap) (unflagged 0x37 (n ∷ []) ∷ []) (drop (next .at) s) (record { details = d; result = done x (received v n) })
+        followed d 0x42 x (drop at s) ≡ checked (leb k dataCap && leb n 255) (unflagged 0x37 (n ∷ []) ∷ []) (drop (next .at) s) (record { details = d; result = done x (received v n) })
     unfolding followed furtherIn furtherProper furtherObjects _⇒_else_ valueAt
     data-on =
         let h = object-there e m .holds in
         rw (h .walked) (step-on h (named (omega arith)) _ _ _ refl ∙ rw (value-long s at 0x36 false m e))
 
     pub data-long : dataCap < k → Hears (followed d 0x42 x (drop at s)) s Silence
-    data-long h = hears-as data-on (silent _ _ _ _ (λ t _. omega (arith, leb-true k dataCap t)))
+    data-long h = hears-as data-on (silent _ _ _ _ (λ t _. omega (arith, leb-true k dataCap (both-left _ _ t))))
 
     module _ (h : k ≤ dataCap) {q : One} (w : Single q s (next .at) 0x37 false) where
       pub count-missed : q ≡ one.Not → Hears (followed d 0x42 x (drop at s)) s Silence
@@ -197,9 +197,9 @@ module _ (d : Details) (x : ℕ) (s : List ℕ) (at : ℕ) {r : Value} (m : Hold
         count-place o = let f = byte-there c w in omega (arith, object-there e m .ends, behind-one f, f .within)
 
         pub count-fits :
-            {z : Heard} → Hears (checked true [] (drop (end .at) s) (record { details = d; result = resultOf (Done x (Received start k y)) s })) s z → Hears (followed d 0x42 x (drop at s)) s z
+            {z : Heard} → y ≤ 255 → Hears (checked true [] (drop (end .at) s) (record { details = d; result = resultOf (Done x (Received start k y)) s })) s z → Hears (followed d 0x42 x (drop at s)) s z
         unfolding valueAt resultOf furtherOf
-        count-fits = let f = byte-there c w in hears-as (data-on ∙ rw (le-leb k dataCap h) (rw (f .walked) (step-on f (named (omega arith)) _ _ _ refl)))
+        count-fits u = let f = byte-there c w in hears-as (data-on ∙ rw (le-leb k dataCap h) (rw (f .walked) (rw (le-leb y 255 u) (step-on f (named (omega arith)) _ _ _ refl))))
 
 -- room
 module _ (d : Details) (x : ℕ) (s : List ℕ) (at : ℕ) {r : One} (m : Single r s at 0x37 false) where
@@ -208,10 +208,10 @@ module _ (d : Details) (x : ℕ) (s : List ℕ) (at : ℕ) {r : One} (m : Single
   room-missed e = silent _ _ _ _ (λ _ q. byte-missed e m .never _ _ refl q)
 
   pub room-fits :
-      {y : ℕ} {next : Cursor} {z : Heard} → r ≡ one.Byte y next →
+      {y : ℕ} {next : Cursor} {z : Heard} → r ≡ one.Byte y next → y ≤ 255 →
       Hears (checked true [] (drop (next .at) s) (record { details = d; result = resultOf (Done x (Sent y)) s })) s z → Hears (followed d 0x43 x (drop at s)) s z
   unfolding followed furtherIn furtherProper furtherObjects _⇒_else_ valueAt resultOf furtherOf
-  room-fits e = let h = byte-there e m in hears-as (rw (h .walked) (step-on h (named (omega arith)) _ _ _ refl))
+  room-fits {y} e u = let h = byte-there e m in hears-as (rw (h .walked) (rw (le-leb y 255 u) (step-on h (named (omega arith)) _ _ _ refl)))
 
 -- nothing, and a type that is none of the seven
 module _ (d : Details) (x : ℕ) (s t : List ℕ) where

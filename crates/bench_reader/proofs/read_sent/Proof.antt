@@ -1,5 +1,7 @@
 -- `bench_reader::read_sent` meets its contract: the bytes end behind the room.
 -- Assumes nothing.
+use Prim.Native.Nat.{_≤_}
+use native.Mathlib.Omega.{arith}
 use borrow.Author.Needs.{needs}
 use Rattle.bench_reader.proofs.Following.{room-missed, room-fits}
 use Rattle.bench_reader.proofs.read_sent.Statement.{statement}
@@ -12,4 +14,8 @@ read-sent-spec =
     (λ c κs. search needs) (λ c. search needs) (λ c. search needs)
     (λ c. search room-missed)
     (λ c κs _. tt)
-    (λ c. search room-fits))
+    (λ c.
+    let k : tie.After-known-told = search in
+    let r : tie.After-room = search in
+    let few : r .room .given .0 .0 ≤ 255 = omega (arith, k .known-told .given) in
+    search room-fits))
