@@ -22,7 +22,7 @@ use Rattle.rules.specs.Demands.{accepted, isDone}
 use Rattle.rules.proofs.Laws.{branch, skip}
 use Rattle.rules.proofs.Cases.{Linked, command-cases, listing-cases, opening-cases, closing-cases, receiving-cases, sending-cases}
 use Rattle.rules.proofs.Readings.{reading-cases}
-use Rattle.rules.proofs.Soundness.{refusal-stays}
+use Rattle.rules.proofs.Refusals.{refusal-stays}
 use Rattle.rules.proofs.Told.{open-changed}
 
 -- an arrival on an established link, and a SEND DATA on a link that was not dropped: only the room is left to test

@@ -13,7 +13,7 @@ use Rattle.rules.specs.Frames.{longLength, lengthAt, lengthBytes, tagAt,
 use Rattle.rules.specs.Table.{table, known}
 use Rattle.rules.specs.State.{isDropped}
 use Rattle.rules.specs.Reading.{Command, Bearer, openChannel, kindOf, detailsOf, detailsIn, pairIn, bearerIn, toModem, addressed, zeros}
-use Rattle.rules.specs.Own.{Status, Result, opened, received, statuses, error, problem, done, nothing}
+use Rattle.rules.specs.Own.{Status, Result, opened, received, sent, statuses, error, problem, done, nothing}
 use Rattle.rules.specs.Written.{Response, pairBytes, detailsBytes, bearerBytes, statusBytes, statusObject, statusObjects, furtherObjects, resultBytes, resultObjects, responseObjects, responseBytes}
 use Rattle.rules.specs.Command.{wrote}
 use Rattle.rules.specs.Bench.{bearerProper, bodyProper, transportObjects, bodyObjects, commandObjects, benchWrite, errorProper, causeProper, successProper, rising, furtherProper, resultProper, proper, valueAt, statusIn, statusesIn, furtherIn, resultIn, responseIn, Told, told, untold, benchRead}
@@ -60,6 +60,11 @@ bounds =
     data-row 0 true ∷
     data-row 237 true ∷
     data-row 238 false ∷
+    -- counts up to FF
+    row 0x42 (done 0x00 (received [] 255)) true ∷
+    row 0x42 (done 0x00 (received [] 256)) false ∷
+    row 0x43 (done 0x00 (sent 255)) true ∷
+    row 0x43 (done 0x00 (sent 256)) false ∷
     -- one to seven rising statuses or 00 00, 05 never with 80
     status-row [] true ∷
     status-row (status 7 Dropped ∷ []) true ∷

@@ -9,7 +9,7 @@ use native.Mathlib.Omega.{arith}
 use lib.ListN.{length, take, drop, length-append, length-drop}
 use lib.Seq.{drop-append-seam}
 use lib.Dec.{ltb, leb}
-use borrow.Author.Tests.{le-leb, lt-leb, leb-true, eq-eqb}
+use borrow.Author.Tests.{le-leb, lt-leb, eq-eqb}
 use Rattle.rules.specs.declared.ChannelNumber.{ChannelNumber}
 use Rattle.rules.specs.declared.Link.{Link}
 use Rattle.rules.specs.Checks.{_⇒_else_, isEmpty, some-of, member}
@@ -30,7 +30,7 @@ use Rattle.rules.proofs.Laws.{by-way, branch, stop, skip, either-left, 
 use Rattle.rules.proofs.Cases.{arrival-cases, taking-cases, receiving-cases}
 use Rattle.rules.proofs.Soundness.{chan-sound, reached-sound}
 use Rattle.rules.proofs.Told.{open-changed}
-use Rattle.rules.proofs.Matching.{closed-told, fresh-told, numbered-of}
+use Rattle.rules.proofs.Matching.{closed-told, numbered-of}
 use Rattle.rules.proofs.Answers.{arrival-last, sending-last, meant-own, seen-read, Counts, meant-counts, unaccepted-stays, undone-stays}
 use Rattle.rules.proofs.Histories.{follows}
 use Rattle.rules.proofs.Outside.{reached-next, told-next, Answered, answer-meant, answer-tells, done-asked, read-reached, own-heard, own-next, aimed-number}
@@ -69,10 +69,6 @@ one-told c d h f g =
 
 closed-only : (c : Chan) → Tells c ended → c ≡ closed
 closed-only c f = one-told c closed ended f closed-told
-
-fresh-only : (c : Chan) (g : ℕ) (l : Link) → Tells c (openedWith g l) → c ≡ fresh g l
-unfolding openedWith isOpen
-fresh-only c g l f = one-told c (fresh g l) (openedWith g l) f (fresh-told g l (leb-true 1 g (ap (leb 1) (f .grant) ∙ sym (f .stands))))
 
 -- a call that does not touch a channel tells nothing of it
 untouched-answer :
@@ -248,15 +244,17 @@ module _ (n : ChannelNumber) (from : 1 ≤ n .0) (upto : n .0 ≤ 7) (p : List �
       let e = told-next n p cs (starting q) in
       (e, closed-only (chan (reached p (next cs (starting q))) n) (subst (Tells (chan (reached p (next cs (starting q))) n)) e (follows n p (next cs (starting q)) from)))
 
-  -- an answer that tells of an opening begins the channel anew: it holds nothing either way, and nothing is ready
+  -- an answer that tells of an opening begins the channel anew: it has the grant and the link told, holds nothing either way, and nothing is ready
   pub opening-begins :
       (buffer : ℕ) (s : List ℕ) (x : ℕ) (l : Link) (b : Bearer) (g : ℕ) → answerTo p cs buffer s ≡ some (done x (opened (record { number = n; link = l }) b g)) →
-      (told-of n p (next cs (commanding buffer s)) ≡ openedWith g l) × (chan (reached p (next cs (commanding buffer s))) n ≡ fresh g l)
-  unfolding answerTells
+      let c = chan (reached p (next cs (commanding buffer s))) n in
+      (told-of n p (next cs (commanding buffer s)) ≡ openedWith g l) × (c .grant ≡ g) × (c .link ≡ l) × ((w : Way) → held c w ≡ []) × (c .ready ≡ 0)
+  unfolding answerTells openedWith side
   opening-begins buffer s x l b g e =
-      let c = commanding buffer s in
+      let c = chan (reached p (next cs (commanding buffer s))) n in
       let told = answer-tells n p cs buffer s _ e ∙ stop _ _ _ (eq-eqb (n .0) (n .0) refl) in
-      (told, fresh-only (chan (reached p (next cs c)) n) g l (subst (Tells (chan (reached p (next cs c)) n)) told (follows n p (next cs c) from)))
+      let f : Tells c (openedWith g l) = subst (Tells c) told (follows n p (next cs (commanding buffer s)) from) in
+      (told, sym (f .grant), sym (f .link), by-way (λ (w : Way). held c w ≡ []) (f .order Receive) (f .order Send), omega (arith, f .ready))
 
   -- a call that does not touch a channel leaves it as it was
   pub others-keep : (c : Call) → touches n c (step a c .outcome) ≡ false → chan (reached p (next cs c)) n ≡ chan a n

@@ -1,5 +1,6 @@
 pub mod Laws
 pub mod Cases
+pub mod Refusals
 pub mod Readings
 pub mod Grants
 pub mod Soundness

@@ -1,4 +1,4 @@
--- The state stays sound, from the start through any list of calls; and a refusal leaves it.
+-- The state stays sound, from the start through any list of calls.
 -- Assumes nothing.
 use Prim.Native.Nat.{ℕ, zero, suc, _+_, _-_, _*_, _≤_, _<_, min}
 use mathlib.Core.Path.{_≡_, refl, sym, ap, subst, _∙_}
@@ -212,22 +212,3 @@ after-sound a (c ∷ cs) h = after-sound (step a c .state) cs (step-sound a c h)
 -- the state stays sound, from the start through any list of calls
 pub reached-sound : (p : List ℕ) (cs : List Call) → Sound (after (start p) cs)
 reached-sound p cs = after-sound (start p) cs (start-sound p)
-
--- of an answer that is a refusal: the state is as it was
-abbrev Stays : State → Answer → Type 0
-Stays a r = (why : Refusal) → r .outcome ≡ refused why → r .state ≡ a
-
-answered-stays : (a b : State) (s : List ℕ) → Stays a (answered b s)
-answered-stays a b s why e = cc
-
--- a refusal leaves the state
-pub refusal-stays : (a : State) (c : Call) → Stays a (step a c)
-unfolding step
-refusal-stays a (starting p) = answered-stays a (start p) []
-refusal-stays a (commanding buffer s) =
-    command-cases (Stays a) a (λ _ _ _. refl) buffer s (λ _ _. answered-stays a _ _)
-refusal-stays a (arriving buffer n s) =
-    arrival-cases (Stays a) a (λ _ _ _. refl) buffer n s (λ _ _ _. answered-stays a _ _)
-refusal-stays a (takingOut buffer n) = taking-cases (Stays a) a (λ _ _ _. refl) buffer n (λ _. answered-stays a _ _)
-refusal-stays a (droppingLink buffer n) =
-    dropping-cases (Stays a) a (λ _ _ _. refl) buffer n (λ _ _. answered-stays a _ _)

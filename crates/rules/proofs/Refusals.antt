@@ -1,0 +1,29 @@
+-- A refusal changes nothing.
+-- Assumes nothing.
+use mathlib.Core.Path.{_≡_, refl}
+use mathlib.Core.List.{List, []}
+use Prim.Native.Nat.{ℕ}
+use Rattle.rules.specs.declared.Refusal.{Refusal}
+use Rattle.rules.specs.State.{State, start}
+use Rattle.rules.specs.Command.{Answer, refused, answered}
+use Rattle.rules.specs.Run.{Call, starting, commanding, arriving, takingOut, droppingLink, step}
+use Rattle.rules.proofs.Cases.{arrival-cases, taking-cases, dropping-cases, command-cases}
+
+-- of an answer that is a refusal: the state is as it was
+abbrev Stays : State → Answer → Type 0
+Stays a r = (why : Refusal) → r .outcome ≡ refused why → r .state ≡ a
+
+answered-stays : (a b : State) (s : List ℕ) → Stays a (answered b s)
+answered-stays a b s why e = cc
+
+-- a refusal leaves the state
+pub refusal-stays : (a : State) (c : Call) → Stays a (step a c)
+unfolding step
+refusal-stays a (starting p) = answered-stays a (start p) []
+refusal-stays a (commanding buffer s) =
+    command-cases (Stays a) a (λ _ _ _. refl) buffer s (λ _ _. answered-stays a _ _)
+refusal-stays a (arriving buffer n s) =
+    arrival-cases (Stays a) a (λ _ _ _. refl) buffer n s (λ _ _ _. answered-stays a _ _)
+refusal-stays a (takingOut buffer n) = taking-cases (Stays a) a (λ _ _ _. refl) buffer n (λ _. answered-stays a _ _)
+refusal-stays a (droppingLink buffer n) =
+    dropping-cases (Stays a) a (λ _ _ _. refl) buffer n (λ _ _. answered-stays a _ _)
