@@ -1,8 +1,10 @@
 -- How a call ended, in one number, and what a call over a lent record leaves.
-use Prim.Native.Nat.{ℕ, _+_, _≤_}
+use Prim.Native.Nat.{ℕ, _+_, _-_, _≤_}
 use mathlib.Core.Path.{_≡_}
 use mathlib.Core.List.{List}
-use Rattle.rules.specs.Words.{numberOf}
+use lib.Dec.{ltb}
+use Rattle.rules.specs.Checks.{_⇒_else_}
+use Rattle.rules.specs.Words.{numberOf, refusalOf}
 use Rattle.rules.specs.Pool.{grantCap}
 use Rattle.rules.specs.Command.{Answer}
 use Rattle.session.specs.declared.Ended.{Ended}
@@ -14,6 +16,10 @@ use Rattle.session.specs.Calls.{endedOf, Answers}
 unfoldable pub packed : Ended → ℕ
 packed (Wrote count) = count
 packed (Refused r) = 0x1000000 + numberOf r
+
+-- how the call ended, read back from that number
+unfoldable pub unpacked : ℕ → Ended
+unpacked r = ltb r 0x1000000 ⇒ Wrote r else Refused (refusalOf (r - 0x1000000))
 
 -- a count that is told apart from every refusal
 unfoldable pub Fits : Ended → Type 0

@@ -10,8 +10,10 @@ use lib.Seq.{getD-set-same, getD-set-other, getD-take}
 use Rattle.rules.specs.declared.ChannelNumber.{ChannelNumber}
 use Rattle.rules.specs.declared.DeviceIdentity.{DeviceIdentity}
 use Rattle.rules.specs.declared.Ending.{Ending}
-use Rattle.rules.specs.Checks.{isEmpty}
-use Rattle.rules.specs.Words.{identityOf, channelOf}
+use Rattle.rules.specs.declared.Refusal.{Refusal}
+use Rattle.rules.specs.declared.Refusal.the-variants.{ShortBuffer, CommandSize, NoChannel, Unopened, Unlinked, Overfull, UnfitRecord, NoResponse, Unreadable}
+use Rattle.rules.specs.Checks.{_⇒_else_, isEmpty}
+use Rattle.rules.specs.Words.{numberOf, refusalOf, identityOf, channelOf}
 use Rattle.rules.specs.Frames.{ObjectRead, faulty, objectAt, onward, walkUpTo, walk}
 use Rattle.rules.specs.Profile.{bit, kept}
 use Rattle.rules.specs.declared.Way.the-variants.{Receive}
@@ -22,6 +24,19 @@ use Rattle.rules.specs.Radio.{arrival}
 use Rattle.rules.proofs.Laws.{stop, skip}
 use Rattle.rules.proofs.Cases.{arrival-cases}
 use Rattle.rules.proofs.Soundness.{open-place}
+
+-- a refusal and its number, there and back
+pub refusal-back : (r : Refusal) → refusalOf (numberOf r) ≡ r
+unfolding refusalOf _⇒_else_
+refusal-back ShortBuffer = refl
+refusal-back CommandSize = refl
+refusal-back NoChannel = refl
+refusal-back Unopened = refl
+refusal-back Unlinked = refl
+refusal-back Overfull = refl
+refusal-back UnfitRecord = refl
+refusal-back NoResponse = refl
+refusal-back Unreadable = refl
 
 -- a channel's number and its identity, there and back
 pub number-back : (c : ChannelNumber) → c .0 < 256 → channelOf (identityOf c) ≡ c

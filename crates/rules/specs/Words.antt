@@ -1,5 +1,7 @@
 -- The words of src/lib.rt: the paper's number of each refusal, and a channel's number beside its device identity.
 use Prim.Native.Nat.{ℕ, _+_, _%_}
+use lib.Dec.{eqb}
+use Rattle.rules.specs.Checks.{_⇒_else_}
 use Rattle.rules.specs.declared.Refusal.{Refusal}
 use Rattle.rules.specs.declared.Refusal.the-variants.{ShortBuffer, CommandSize, NoChannel, Unopened, Unlinked, Overfull, UnfitRecord, NoResponse, Unreadable}
 use Rattle.rules.specs.declared.ChannelNumber.{ChannelNumber}
@@ -16,6 +18,19 @@ numberOf Overfull = 6
 numberOf UnfitRecord = 7
 numberOf NoResponse = 8
 numberOf Unreadable = 9
+
+-- the refusal of a number
+unfoldable pub refusalOf : ℕ → Refusal
+refusalOf n =
+    eqb n 1 ⇒ ShortBuffer else
+    eqb n 2 ⇒ CommandSize else
+    eqb n 3 ⇒ NoChannel else
+    eqb n 4 ⇒ Unopened else
+    eqb n 5 ⇒ Unlinked else
+    eqb n 6 ⇒ Overfull else
+    eqb n 7 ⇒ UnfitRecord else
+    eqb n 8 ⇒ NoResponse else
+    Unreadable
 
 -- identity is 20 plus number, as bytes
 abbrev pub identityOf : ChannelNumber → DeviceIdentity
