@@ -1,6 +1,6 @@
 -- Each held byte lies in a cell promised to its channel and way, and no cell is promised to two.
 -- Assumes nothing.
-use Prim.Native.Nat.{ℕ, zero, suc, _+_, _-_, _*_, _/_, _≤_, _<_, min}
+use Prim.Native.Nat.{ℕ, zero, suc, _+_, _-_, _*_, _/_, _≤_, _<_}
 use mathlib.Core.Path.{_≡_, refl, sym, ap, _∙_}
 use mathlib.Core.Bool.{Bool, true, false}
 use mathlib.Core.List.{List, [], _∷_}
@@ -13,13 +13,11 @@ use borrow.Author.Tests.{ltb-true, ltb-false}
 use Rattle.rules.specs.declared.ChannelNumber.{ChannelNumber}
 use Rattle.rules.specs.declared.Way.{Way}
 use Rattle.rules.specs.declared.Way.the-variants.{Receive, Send}
-use Rattle.rules.specs.State.{State, Chan, closed, chan, withChan, held}
-use Rattle.rules.specs.Pool.{cellSize, grantCap, cells, promisedTo, promised, unpromised, grantFor}
+use Rattle.rules.specs.State.{State, Chan, closed, chan, held}
+use Rattle.rules.specs.Pool.{cellSize, cells, promisedTo, promised}
 use Rattle.rules.specs.Sound.{SoundChan, Sound}
 use Rattle.rules.proofs.Laws.{each-take}
-use Rattle.rules.proofs.Grants.{promised-set, grant-whole}
 use Rattle.rules.proofs.Soundness.{chan-sound}
-use Rattle.rules.proofs.Told.{chan-other}
 use Rattle.octets.proofs.Copies.{part-get}
 use Rattle.session.specs.Picture.{space, poolOf, offset}
 use Rattle.session.specs.Cells.{firstCell, Promised}
@@ -106,22 +104,3 @@ one-way a n Receive Receive j p q = refl
 one-way a n Send Send j p q = refl
 one-way a n Receive Send j p q = absurd (omega (arith, p .upto, q .from))
 one-way a n Send Receive j p q = absurd (omega (arith, p .from, q .upto))
-
--- closing gives the channel's cells back
-pub closing-frees :
-    (a : State) (n : ChannelNumber) → Sound a → n .0 - 1 < length (a .chans) →
-    unpromised (withChan a n closed) ≡ unpromised a + 2 * cells (chan a n .grant)
-unfolding unpromised promised withChan chan closed cells
-closing-frees a n h place = let e = promised-set (a .chans) (n .0 - 1) closed place in omega (arith, h .within)
-
--- and whatever becomes of one channel, the others hold what they held
-pub others-keep : (a : State) (n m : ChannelNumber) (c : Chan) (w : Way) → (m .0 - 1 ≡ n .0 - 1 → ⊥) → held (chan (withChan a n c) m) w ≡ held (chan a m) w
-others-keep a n m c w h = ap (λ (d : Chan). held d w) (chan-other a n m c h)
-
--- so a later opening can have them: it is granted in full what fits the free cells and those of the closed channel together
-pub freed-granted :
-    (a : State) (n : ChannelNumber) (size : ℕ) → Sound a → n .0 - 1 < length (a .chans) →
-    2 * cells (min size grantCap) ≤ unpromised a + 2 * cells (chan a n .grant) → grantFor size (unpromised (withChan a n closed)) ≡ min size grantCap
-freed-granted a n size h place fit =
-    let e = closing-frees a n h place in
-    grant-whole size (unpromised (withChan a n closed)) (omega arith)
