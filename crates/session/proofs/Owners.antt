@@ -19,8 +19,8 @@ use Rattle.rules.specs.Sound.{SoundChan, Sound}
 use Rattle.rules.proofs.Laws.{each-take}
 use Rattle.rules.proofs.Soundness.{chan-sound}
 use Rattle.octets.proofs.Copies.{part-get}
-use Rattle.session.specs.Picture.{space, poolOf, offset}
-use Rattle.session.specs.Cells.{firstCell, Promised}
+use Rattle.session.specs.Picture.{space, poolOf, offset, shown, GoodIn}
+use Rattle.session.specs.Cells.{firstCell, Promised, heldPlace}
 use Rattle.session.proofs.Regions.{front, length-regions, held-space}
 use Rattle.session.proofs.Changes.{held-part}
 
@@ -31,13 +31,13 @@ module _ (a : State) (n : ChannelNumber) (h : Sound a) (low : 1 ≤ n .0) (high 
   front-cells : length (front a n h place) ≡ cellSize * promisedTo (take (n .0 - 1) (a .chans))
   front-cells = length-regions (take (n .0 - 1) (a .chans)) (each-take SoundChan (n .0 - 1) (a .chans) (h .each))
 
-  first-start : (w : Way) → cellSize * firstCell a n w ≡ cellSize * promisedTo (take (n .0 - 1) (a .chans)) + offset (chan a n .grant) w
+  pub first-start : (w : Way) → cellSize * firstCell a n w ≡ cellSize * promisedTo (take (n .0 - 1) (a .chans)) + offset (chan a n .grant) w
   unfolding firstCell offset space
   first-start Receive = omega arith
   first-start Send = omega arith
 
   -- the byte at index i of what is held stands in the pool, i bytes behind the first cell
-  pub held-byte : (w : Way) (i : ℕ) → i < length (held (chan a n) w) → getD (poolOf a) (cellSize * firstCell a n w + i) 0 ≡ getD (held (chan a n) w) i 0
+  held-byte : (w : Way) (i : ℕ) → i < length (held (chan a n) w) → getD (poolOf a) (heldPlace a n w i) 0 ≡ getD (held (chan a n) w) i 0
   held-byte w i f =
       let at = cellSize * promisedTo (take (n .0 - 1) (a .chans)) in
       let start = at + offset (chan a n .grant) w in
@@ -46,9 +46,18 @@ module _ (a : State) (n : ChannelNumber) (h : Sound a) (low : 1 ≤ n .0) (high 
       ∙ ap (λ (l : List ℕ). getD l i 0) (held-part a n h place at front-cells w k (omega arith)) ∙ getD-take k (held (chan a n) w) i 0 f
 
   -- and the cell in which it stands is promised to its channel and way
-  pub held-promised : (w : Way) (i : ℕ) → i < length (held (chan a n) w) → Promised a n w ((cellSize * firstCell a n w + i) / cellSize)
+  held-promised : (w : Way) (i : ℕ) → i < length (held (chan a n) w) → Promised a n w (heldPlace a n w i / cellSize)
   unfolding space
   held-promised w i f = let c = held-space (chan a n .grant) (length (held (chan a n) w)) (chan-sound a n h .fits w) in record { from = omega arith; upto = omega arith }
+
+-- each byte held in a good session stands in its pool, in a cell promised to the channel and way of the byte
+pub held-stands :
+    (t p : List ℕ) → GoodIn t p → (n : ChannelNumber) → 1 ≤ n .0 → n .0 ≤ 7 →
+    (w : Way) (i : ℕ) → i < length (held (chan (shown t p) n) w) →
+    (getD p (heldPlace (shown t p) n w i) 0 ≡ getD (held (chan (shown t p) n) w) i 0) × Promised (shown t p) n w (heldPlace (shown t p) n w i / cellSize)
+held-stands t p g n low high w i f =
+    let a = shown t p in
+    (ap (λ (l : List ℕ). getD l (heldPlace a n w i) 0) (g .shows .pool) ∙ held-byte a n (g .sound) low high w i f, held-promised a n (g .sound) low high w i f)
 
 -- a channel's cells end before those of a later channel begin
 later : (cs : List Chan) (j k : ℕ) → j < k → promisedTo (take j cs) + 2 * cells (getD cs j closed .grant) ≤ promisedTo (take k cs)
