@@ -1,4 +1,4 @@
--- Held bytes stand in the pool where they are counted, and nowhere else: every other byte of it is 0, and the ledger has their counts alone.
+-- Nothing of a held byte stands outside its place in the pool: every other byte there is 0, and the ledger has no more than the counts.
 -- Assumes nothing.
 use Prim.Native.Nat.{ℕ, zero, suc, _+_, _-_, _*_, _≤_, _<_}
 use mathlib.Core.Path.{_≡_, refl, sym, ap, subst, _∙_}
@@ -48,11 +48,17 @@ region-zero c fits j h =
     (λ _. pad-zero sp (held c Receive) j (λ f. absurd (h Receive j f (sym (zero-add j)))))
     (λ i e. pad-zero sp (held c Send) i (λ f. absurd (h Send i f (e ∙ ap (λ (k : ℕ). k + i) (length-way c fits Receive)))))
 
--- and the regions are where no channel does
+-- what the channel at a place of a list holds for a way, and where in the regions of the list its bytes stand
+abbrev bytes : List Chan → ℕ → Way → List ℕ
+bytes cs k w = held (getD cs k closed) w
+
+abbrev standing : List Chan → ℕ → Way → ℕ → ℕ
+standing cs k w i = cellSize * promisedTo (take k cs) + offset (getD cs k closed .grant) w + i
+
+-- the regions are 0 where no channel holds a byte
 regions-zero :
     (cs : List Chan) → Each SoundChan cs → (j : ℕ) →
-    ((k : ℕ) (w : Way) (i : ℕ) → k < length cs → i < length (held (getD cs k closed) w) →
-    j ≡ cellSize * promisedTo (take k cs) + offset (getD cs k closed .grant) w + i → ⊥) →
+    ((k : ℕ) (w : Way) (i : ℕ) → k < length cs → i < length (bytes cs k w) → j ≡ standing cs k w i → ⊥) →
     getD (regions cs) j 0 ≡ 0
 unfolding regions promisedTo space
 regions-zero [] s j h = refl
@@ -62,18 +68,16 @@ regions-zero (c ∷ cs) s j h =
     (λ _. region-zero c (s .0 .fits) j (λ w i f e. h 0 w i (omega arith) f (omega arith)))
     (λ i e. regions-zero cs (s .1) i (λ k w m b f q. h (suc k) w m (omega arith) f (omega arith)))
 
--- a byte that the channel at a place in the list holds is held at its place in the pool
+-- a byte that a channel of the state holds is held at its place in the pool
 held-at :
-    (a : State) → Sound a → (k : ℕ) (w : Way) (i j : ℕ) → k < length (a .chans) → i < length (held (getD (a .chans) k closed) w) →
-    j ≡ cellSize * promisedTo (take k (a .chans)) + offset (getD (a .chans) k closed .grant) w + i → HeldAt a j
+    (a : State) → Sound a → (k : ℕ) (w : Way) (i j : ℕ) → k < length (a .chans) →
+    i < length (bytes (a .chans) k w) → j ≡ standing (a .chans) k w i → HeldAt a j
 unfolding chan
 held-at a s k w i j b =
     let n : ChannelNumber = record { 0 = suc k } in
     let seven = s .seven in
     let at : n .0 - 1 ≡ k = omega arith in
-    subst
-    (λ (m : ℕ). i < length (held (getD (a .chans) m closed) w) → j ≡ cellSize * promisedTo (take m (a .chans)) + offset (getD (a .chans) m closed .grant) w + i → HeldAt a j)
-    at
+    subst (λ (m : ℕ). i < length (bytes (a .chans) m w) → j ≡ standing (a .chans) m w i → HeldAt a j) at
     (λ f e.
     record {
       number = n;
