@@ -86,7 +86,7 @@ held-at a s k w i j b =
       low = omega arith;
       high = omega arith;
       within = f;
-      place = e ∙ ap (λ (m : ℕ). m + i) (sym (first-start a n s (omega arith) (omega arith) w));
+      place = e ∙ ap (λ (m : ℕ). m + i) (sym (first-start a n w));
     })
 
 -- where no held byte stands, the pool of a good session is 0

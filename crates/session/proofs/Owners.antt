@@ -24,6 +24,14 @@ use Rattle.session.specs.Cells.{firstCell, Promised, heldPlace}
 use Rattle.session.proofs.Regions.{front, length-regions, held-space}
 use Rattle.session.proofs.Changes.{held-part}
 
+-- the bytes before the first cell of a channel and a way
+pub first-start :
+    (a : State) (n : ChannelNumber) (w : Way) →
+    cellSize * firstCell a n w ≡ cellSize * promisedTo (take (n .0 - 1) (a .chans)) + offset (chan a n .grant) w
+unfolding firstCell offset space
+first-start a n Receive = omega arith
+first-start a n Send = omega arith
+
 module _ (a : State) (n : ChannelNumber) (h : Sound a) (low : 1 ≤ n .0) (high : n .0 ≤ 7) where
   place : n .0 - 1 < length (a .chans)
   place = omega (arith, h .seven)
@@ -31,18 +39,13 @@ module _ (a : State) (n : ChannelNumber) (h : Sound a) (low : 1 ≤ n .0) (high 
   front-cells : length (front a n h place) ≡ cellSize * promisedTo (take (n .0 - 1) (a .chans))
   front-cells = length-regions (take (n .0 - 1) (a .chans)) (each-take SoundChan (n .0 - 1) (a .chans) (h .each))
 
-  pub first-start : (w : Way) → cellSize * firstCell a n w ≡ cellSize * promisedTo (take (n .0 - 1) (a .chans)) + offset (chan a n .grant) w
-  unfolding firstCell offset space
-  first-start Receive = omega arith
-  first-start Send = omega arith
-
   -- the byte at index i of what is held stands in the pool, i bytes behind the first cell
   held-byte : (w : Way) (i : ℕ) → i < length (held (chan a n) w) → getD (poolOf a) (heldPlace a n w i) 0 ≡ getD (held (chan a n) w) i 0
   held-byte w i f =
       let at = cellSize * promisedTo (take (n .0 - 1) (a .chans)) in
       let start = at + offset (chan a n .grant) w in
       let k = length (held (chan a n) w) in
-      ap (λ (j : ℕ). getD (poolOf a) (j + i) 0) (first-start w) ∙ sym (part-get start (start + k) i (poolOf a) (omega arith))
+      ap (λ (j : ℕ). getD (poolOf a) (j + i) 0) (first-start a n w) ∙ sym (part-get start (start + k) i (poolOf a) (omega arith))
       ∙ ap (λ (l : List ℕ). getD l i 0) (held-part a n h place at front-cells w k (omega arith)) ∙ getD-take k (held (chan a n) w) i 0 f
 
   -- and the cell in which it stands is promised to its channel and way
