@@ -6,5 +6,6 @@ pub mod Facts
 pub mod Starts
 pub mod Answers
 pub mod Owners
+pub mod Elsewhere
 pub mod Alike
 pub mod Settled

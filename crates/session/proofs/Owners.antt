@@ -1,6 +1,6 @@
 -- Each held byte lies in a cell promised to its channel and way, and no cell is promised to two.
 -- Assumes nothing.
-use Prim.Native.Nat.{ℕ, zero, suc, _+_, _-_, _*_, _/_, _≤_, _<_, min}
+use Prim.Native.Nat.{ℕ, zero, suc, _+_, _-_, _*_, _/_, _≤_, _<_}
 use mathlib.Core.Path.{_≡_, refl, sym, ap, _∙_}
 use mathlib.Core.Bool.{Bool, true, false}
 use mathlib.Core.List.{List, [], _∷_}
@@ -13,18 +13,24 @@ use borrow.Author.Tests.{ltb-true, ltb-false}
 use Rattle.rules.specs.declared.ChannelNumber.{ChannelNumber}
 use Rattle.rules.specs.declared.Way.{Way}
 use Rattle.rules.specs.declared.Way.the-variants.{Receive, Send}
-use Rattle.rules.specs.State.{State, Chan, closed, chan, withChan, held}
-use Rattle.rules.specs.Pool.{cellSize, grantCap, cells, promisedTo, promised, unpromised, grantFor}
+use Rattle.rules.specs.State.{State, Chan, closed, chan, held}
+use Rattle.rules.specs.Pool.{cellSize, cells, promisedTo, promised}
 use Rattle.rules.specs.Sound.{SoundChan, Sound}
 use Rattle.rules.proofs.Laws.{each-take}
-use Rattle.rules.proofs.Grants.{promised-set, grant-whole}
 use Rattle.rules.proofs.Soundness.{chan-sound}
-use Rattle.rules.proofs.Told.{chan-other}
 use Rattle.octets.proofs.Copies.{part-get}
-use Rattle.session.specs.Picture.{space, poolOf, offset}
-use Rattle.session.specs.Cells.{firstCell, Promised}
+use Rattle.session.specs.Picture.{space, poolOf, offset, shown, GoodIn}
+use Rattle.session.specs.Cells.{firstCell, Promised, heldPlace}
 use Rattle.session.proofs.Regions.{front, length-regions, held-space}
 use Rattle.session.proofs.Changes.{held-part}
+
+-- the bytes before the first cell of a channel and a way
+pub first-start :
+    (a : State) (n : ChannelNumber) (w : Way) →
+    cellSize * firstCell a n w ≡ cellSize * promisedTo (take (n .0 - 1) (a .chans)) + offset (chan a n .grant) w
+unfolding firstCell offset space
+first-start a n Receive = omega arith
+first-start a n Send = omega arith
 
 module _ (a : State) (n : ChannelNumber) (h : Sound a) (low : 1 ≤ n .0) (high : n .0 ≤ 7) where
   place : n .0 - 1 < length (a .chans)
@@ -33,24 +39,28 @@ module _ (a : State) (n : ChannelNumber) (h : Sound a) (low : 1 ≤ n .0) (high 
   front-cells : length (front a n h place) ≡ cellSize * promisedTo (take (n .0 - 1) (a .chans))
   front-cells = length-regions (take (n .0 - 1) (a .chans)) (each-take SoundChan (n .0 - 1) (a .chans) (h .each))
 
-  first-start : (w : Way) → cellSize * firstCell a n w ≡ cellSize * promisedTo (take (n .0 - 1) (a .chans)) + offset (chan a n .grant) w
-  unfolding firstCell offset space
-  first-start Receive = omega arith
-  first-start Send = omega arith
-
   -- the byte at index i of what is held stands in the pool, i bytes behind the first cell
-  pub held-byte : (w : Way) (i : ℕ) → i < length (held (chan a n) w) → getD (poolOf a) (cellSize * firstCell a n w + i) 0 ≡ getD (held (chan a n) w) i 0
+  held-byte : (w : Way) (i : ℕ) → i < length (held (chan a n) w) → getD (poolOf a) (heldPlace a n w i) 0 ≡ getD (held (chan a n) w) i 0
   held-byte w i f =
       let at = cellSize * promisedTo (take (n .0 - 1) (a .chans)) in
       let start = at + offset (chan a n .grant) w in
       let k = length (held (chan a n) w) in
-      ap (λ (j : ℕ). getD (poolOf a) (j + i) 0) (first-start w) ∙ sym (part-get start (start + k) i (poolOf a) (omega arith))
+      ap (λ (j : ℕ). getD (poolOf a) (j + i) 0) (first-start a n w) ∙ sym (part-get start (start + k) i (poolOf a) (omega arith))
       ∙ ap (λ (l : List ℕ). getD l i 0) (held-part a n h place at front-cells w k (omega arith)) ∙ getD-take k (held (chan a n) w) i 0 f
 
   -- and the cell in which it stands is promised to its channel and way
-  pub held-promised : (w : Way) (i : ℕ) → i < length (held (chan a n) w) → Promised a n w ((cellSize * firstCell a n w + i) / cellSize)
+  held-promised : (w : Way) (i : ℕ) → i < length (held (chan a n) w) → Promised a n w (heldPlace a n w i / cellSize)
   unfolding space
   held-promised w i f = let c = held-space (chan a n .grant) (length (held (chan a n) w)) (chan-sound a n h .fits w) in record { from = omega arith; upto = omega arith }
+
+-- each byte held in a good session stands in its pool, in a cell promised to the channel and way of the byte
+pub held-stands :
+    (t p : List ℕ) → GoodIn t p → (n : ChannelNumber) → 1 ≤ n .0 → n .0 ≤ 7 →
+    (w : Way) (i : ℕ) → i < length (held (chan (shown t p) n) w) →
+    (getD p (heldPlace (shown t p) n w i) 0 ≡ getD (held (chan (shown t p) n) w) i 0) × Promised (shown t p) n w (heldPlace (shown t p) n w i / cellSize)
+held-stands t p g n low high w i f =
+    let a = shown t p in
+    (ap (λ (l : List ℕ). getD l (heldPlace a n w i) 0) (g .shows .pool) ∙ held-byte a n (g .sound) low high w i f, held-promised a n (g .sound) low high w i f)
 
 -- a channel's cells end before those of a later channel begin
 later : (cs : List Chan) (j k : ℕ) → j < k → promisedTo (take j cs) + 2 * cells (getD cs j closed .grant) ≤ promisedTo (take k cs)
@@ -106,22 +116,3 @@ one-way a n Receive Receive j p q = refl
 one-way a n Send Send j p q = refl
 one-way a n Receive Send j p q = absurd (omega (arith, p .upto, q .from))
 one-way a n Send Receive j p q = absurd (omega (arith, p .from, q .upto))
-
--- closing gives the channel's cells back
-pub closing-frees :
-    (a : State) (n : ChannelNumber) → Sound a → n .0 - 1 < length (a .chans) →
-    unpromised (withChan a n closed) ≡ unpromised a + 2 * cells (chan a n .grant)
-unfolding unpromised promised withChan chan closed cells
-closing-frees a n h place = let e = promised-set (a .chans) (n .0 - 1) closed place in omega (arith, h .within)
-
--- and whatever becomes of one channel, the others hold what they held
-pub others-keep : (a : State) (n m : ChannelNumber) (c : Chan) (w : Way) → (m .0 - 1 ≡ n .0 - 1 → ⊥) → held (chan (withChan a n c) m) w ≡ held (chan a m) w
-others-keep a n m c w h = ap (λ (d : Chan). held d w) (chan-other a n m c h)
-
--- so a later opening can have them: it is granted in full what fits the free cells and those of the closed channel together
-pub freed-granted :
-    (a : State) (n : ChannelNumber) (size : ℕ) → Sound a → n .0 - 1 < length (a .chans) →
-    2 * cells (min size grantCap) ≤ unpromised a + 2 * cells (chan a n .grant) → grantFor size (unpromised (withChan a n closed)) ≡ min size grantCap
-freed-granted a n size h place fit =
-    let e = closing-frees a n h place in
-    grant-whole size (unpromised (withChan a n closed)) (omega arith)

@@ -126,6 +126,6 @@ pub record GoodIn (t p : List ℕ) : Type 0 where
   pub sound : Sound (shown t p)
   pub shows : Shows (shown t p) t p
 
--- a record that is the picture of a sound state: the start makes such a record, and every call leaves one
+-- a record that is the picture of a sound state
 abbrev pub Good : Session → Type 0
 Good s = GoodIn (s .ledger) (s .pool)
