@@ -3,3 +3,4 @@ pub mod Lending
 pub mod Serving
 pub mod ByNumber
 pub mod Settled
+pub mod Tied

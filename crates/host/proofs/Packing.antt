@@ -1,24 +1,37 @@
--- A call writes at most 1500 bytes, so however it ends, one number tells it.
+-- A call writes at most 1500 bytes, so however it ends, one number tells it, and that is read back from the number.
 -- Assumes nothing.
-use Prim.Native.Nat.{ℕ, _≤_, min}
+use Prim.Native.Nat.{ℕ, _+_, _-_, _≤_, min}
 use mathlib.Core.Path.{_≡_, refl, sym, ap, subst, _∙_}
 use mathlib.Core.List.{List}
 use native.Mathlib.Omega.{arith}
 use lib.ListN.{length-take}
+use borrow.Author.Tests.{lt-ltb, le-ltb}
 use Rattle.rules.specs.declared.ChannelNumber.{ChannelNumber}
 use Rattle.rules.specs.declared.Way.the-variants.{Send}
+use Rattle.rules.specs.Words.{numberOf, refusalOf}
 use Rattle.rules.specs.Pool.{grantCap}
 use Rattle.rules.specs.State.{State, chan, held}
 use Rattle.rules.specs.Command.{Answer, Outcome, wrote, refused}
 use Rattle.rules.specs.Radio.{taking}
 use Rattle.rules.specs.Run.{Call, starting, commanding, arriving, takingOut, droppingLink, step}
 use Rattle.rules.specs.Sound.{Sound, Within}
+use Rattle.rules.proofs.Laws.{stop, skip}
+use Rattle.rules.proofs.Told.{refusal-back}
 use Rattle.rules.proofs.Cases.{taking-cases}
 use Rattle.rules.proofs.Sizes.{written-within}
 use Rattle.rules.proofs.Soundness.{chan-sound}
 use Rattle.session.specs.declared.Ended.{Ended}
+use Rattle.session.specs.declared.Ended.the-variants.{Wrote, Refused}
 use Rattle.session.specs.Calls.{endedOf, Answers}
-use Rattle.host.specs.Packed.{packed, Fits, Packs}
+use Rattle.host.specs.Packed.{packed, unpacked, Fits, Packs}
+
+-- what was packed is read back: each count and each refusal has a number of its own
+pub unpacked-packed : (e : Ended) → Fits e → unpacked (packed e) ≡ e
+unfolding packed unpacked Fits
+unpacked-packed (Wrote count) h = stop _ _ _ (lt-ltb count 0x1000000 (omega (arith, h)))
+unpacked-packed (Refused r) h =
+    let e : 0x1000000 + numberOf r - 0x1000000 ≡ numberOf r = omega arith in
+    skip _ _ _ (le-ltb (0x1000000 + numberOf r) 0x1000000 (omega arith)) ∙ ap (λ (k : ℕ). Refused (refusalOf k)) e ∙ ap Refused (refusal-back r)
 
 within-fits : (k : ℕ) (o : Outcome) → k ≤ grantCap → Within k o → Fits (endedOf o)
 unfolding Fits endedOf
@@ -53,3 +66,11 @@ module _ (a : State) (c : Call) (t p : List ℕ) (e : Ended) (before after : Lis
         answers = record { shows = h .shows; good = h .good; ended = refl; lent = h .lent };
         told = m ∙ ap packed (h .ended);
       }
+
+-- what a call packed tells, read back from its number, how it ended
+pub packs-back :
+    (a : State) (c : Call) (t p : List ℕ) (r : ℕ) (before after : List ℕ) → Sound a → Packs (step a c) t p r before after →
+    Answers (step a c) t p (unpacked r) before after
+packs-back a c t p r before after s h =
+    let k = h .answers in
+    record { shows = k .shows; good = k .good; ended = ap unpacked (h .told) ∙ unpacked-packed _ (call-fits a c s); lent = k .lent }

@@ -1,0 +1,68 @@
+-- The contract of each exported call is one step of a run, with how it ended read back from its number.
+-- So `reached-good` and `reached-follows` (bridge/proofs/Bridge.antt) speak of a record that came from `pomerassol_start` and these calls.
+-- Assumes nothing.
+use Prim.Native.Nat.{ℕ}
+use mathlib.Core.Path.{refl}
+use mathlib.Core.List.{List, []}
+use lib.ListN.{length}
+use denote.Ref.{now}
+use Rattle.outcomes.specs.Claims.{Claims}
+use Rattle.outcomes.proofs.Claims.{from-claim, from-last}
+use Rattle.rules.specs.Command.{wrote}
+use Rattle.rules.specs.Run.{Call, starting, commanding, arriving, takingOut, droppingLink, step}
+use Rattle.session.specs.declared.Session.{Session}
+use Rattle.session.specs.Picture.{Good, view}
+use Rattle.text.specs.Prints.{outcomeOf}
+use Rattle.bridge.specs.Reached.{Left, Called}
+use Rattle.bridge.proofs.Contracts.{left-by}
+use Rattle.host.specs.Packed.{unpacked, Hosts}
+use Rattle.host.proofs.Packing.{packs-back}
+use Rattle.host.proofs.pomerassol_start as start-call
+use Rattle.host.proofs.pomerassol_command as command-call
+use Rattle.host.proofs.pomerassol_arrival as arrival-call
+use Rattle.host.proofs.pomerassol_take as take-call
+use Rattle.host.proofs.pomerassol_drop as drop-call
+
+-- a call over a good record s, as its contract says, left t, and its number and the buffer show what was seen of it
+tied :
+    (s : Session) (c : Call) (t : Session) (n : ℕ) (before after : List ℕ) → Good s → Hosts (step (view s) c) t n before after →
+    Left (step (view s) c) (length before) t (outcomeOf (unpacked n) after)
+tied s c t n before after g h = left-by t (packs-back (view s) c (t .ledger) (t .pool) n before after (g .sound) h)
+
+-- the start leaves a start in the record, whatever stood in it
+pub start-tied :
+    Claims start-call.ended (λ M 𝓤. start-call.clauses 𝓤) (λ κs a x v. (s : Session) → Called s (starting (now (a .1 .0))) (v .0) (wrote []))
+start-tied M 𝓤 H A mem run κs a g x v = from-last 𝓤 _ _ _ (λ h s. record { shows = h .0; good = h .1; seen = refl })
+
+-- a command: the record at exit follows from the one at entry, and the number and the buffer show what is seen of it
+pub command-tied :
+    Claims command-call.ended (λ M 𝓤. command-call.clauses 𝓤)
+    (λ κs a x v. Called (now (a .0)) (commanding (length (now (a .1 .1 .0))) (now (a .1 .0))) (v .0) (outcomeOf (unpacked x) (v .1 .1 .0)))
+unfolding step
+command-tied M 𝓤 H A mem run κs a g x v =
+    from-claim 𝓤 _ _ _ (tied (now (a .0)) (commanding (length (now (a .1 .1 .0))) (now (a .1 .0))) (v .0) x (now (a .1 .1 .0)) (v .1 .1 .0))
+
+-- the same of an arrival
+pub arrival-tied :
+    Claims arrival-call.ended (λ M 𝓤. arrival-call.clauses 𝓤)
+    (λ κs a x v.
+    Called (now (a .0)) (arriving (length (now (a .1 .1 .1 .0))) (record { 0 = a .1 .0 }) (now (a .1 .1 .0))) (v .0) (outcomeOf (unpacked x) (v .1 .1 .1 .0)))
+unfolding step
+arrival-tied M 𝓤 H A mem run κs a g x v =
+    from-claim 𝓤 _ _ _ (tied (now (a .0)) (arriving (length (now (a .1 .1 .1 .0))) (record { 0 = a .1 .0 }) (now (a .1 .1 .0))) (v .0) x (now (a .1 .1 .1 .0)) (v .1 .1 .1 .0))
+
+-- of a take
+pub take-tied :
+    Claims take-call.ended (λ M 𝓤. take-call.clauses 𝓤)
+    (λ κs a x v. Called (now (a .0)) (takingOut (length (now (a .1 .1 .0))) (record { 0 = a .1 .0 })) (v .0) (outcomeOf (unpacked x) (v .1 .1 .0)))
+unfolding step
+take-tied M 𝓤 H A mem run κs a g x v =
+    from-claim 𝓤 _ _ _ (tied (now (a .0)) (takingOut (length (now (a .1 .1 .0))) (record { 0 = a .1 .0 })) (v .0) x (now (a .1 .1 .0)) (v .1 .1 .0))
+
+-- and of a drop
+pub drop-tied :
+    Claims drop-call.ended (λ M 𝓤. drop-call.clauses 𝓤)
+    (λ κs a x v. Called (now (a .0)) (droppingLink (length (now (a .1 .1 .0))) (record { 0 = a .1 .0 })) (v .0) (outcomeOf (unpacked x) (v .1 .1 .0)))
+unfolding step
+drop-tied M 𝓤 H A mem run κs a g x v =
+    from-claim 𝓤 _ _ _ (tied (now (a .0)) (droppingLink (length (now (a .1 .1 .0))) (record { 0 = a .1 .0 })) (v .0) x (now (a .1 .1 .0)) (v .1 .1 .0))
