@@ -227,7 +227,7 @@ place-at p d t e is tried =
     }
 
 -- the places of 40 to 44: byte 12, and the type less 3F
-pub channel-place : (p : Place) (d : Details) → 0x40 ≤ d .kind → d .kind ≤ 0x44 → p .byte ≡ 12 → p .bit ≡ d .kind - 0x3F → PlaceFor p d
+channel-place : (p : Place) (d : Details) → 0x40 ≤ d .kind → d .kind ≤ 0x44 → p .byte ≡ 12 → p .bit ≡ d .kind - 0x3F → PlaceFor p d
 unfolding allowsType
 channel-place p d low high b k =
     record {
@@ -254,14 +254,15 @@ places =
 abbrev place-of : ℕ → Place
 place-of t = getD places (t - 0x40) (record { byte = 0; bit = 0 })
 
--- its rule: byte 12, and the type less 3F
-pub places-rule : (t : ℕ) → 0x40 ≤ t → t ≤ 0x44 → (place-of t .byte ≡ 12) × (place-of t .bit ≡ t - 0x3F)
+-- it has the profile rule's place for each of the five types
+pub places-rule : (d : Details) → 0x40 ≤ d .kind → d .kind ≤ 0x44 → PlaceFor (place-of (d .kind)) d
 unfolding every
-places-rule t low high =
+places-rule d low high =
+    let t = d .kind in
     let byte = eqb (place-of t .byte) 12 in
     let bit = eqb (place-of t .bit) (t - 0x3F) in
     let w = every-member (λ k. eqb (place-of k .byte) 12 && eqb (place-of k .bit) (k - 0x3F)) t (run 0x40 5) refl (in-run t 0x40 5 low (omega arith)) in
-    (eqb-true _ _ (both-left byte bit w), eqb-true _ _ (both-right byte bit w))
+    channel-place (place-of t) d low high (eqb-true _ _ (both-left byte bit w)) (eqb-true _ _ (both-right byte bit w))
 
 -- the types that have a plan: those that have an arm of their own, and the range
 abbrev alone : List ℕ

@@ -18,7 +18,7 @@ ghost use Rattle.rules.specs.Checks.{_⇒_else_, member};
 ghost use Rattle.rules.specs.Profile.{profileSize};
 ghost use Rattle.rules.specs.Table.{known, bearerFits, lengthFits};
 ghost use Rattle.octets.specs.Parts.{part};
-ghost use Rattle.command.specs.Plans.{needed, timesBy, RowFor, PlanOf, Plans};
+ghost use Rattle.command.specs.Plans.{PlaceFor, needed, timesBy, RowFor, PlanOf, Plans};
 ghost use Rattle.command.specs.Surveys.{slots, slotOf, firstOf, noted, allStand, sortedBy};
 ghost use Rattle.command.specs.Requests.{Frames, detailsAt, theDetails, addressedBy, sizeBy, protocolBy, Headed, Detailed, Begun, Typed, Sorts, Fitted, Reads};
 
@@ -107,12 +107,12 @@ const PLACES: [Place; 5] = [
     Place { byte: 12, bit: 5 },
 ];
 
-// The place of a type from 40 to 44.
-fn channel_place(kind: u8) -> Place
-    requires { ⌜ (64 ≤ kind) × (kind ≤ 68) ⌝ }
-    ensures { λ r. ⌜ (r .byte ≡ 12) × (r .bit ≡ kind - 0x3F) ⌝ }
+// The place of a type from 40 to 44: that of the profile rule.
+fn channel_place(d: Details) -> Place
+    requires { ⌜ (64 ≤ d .kind) × (d .kind ≤ 68) ⌝ }
+    ensures { λ r. ⌜ PlaceFor r d ⌝ }
 {
-    let k = (kind - 0x40) as usize;
+    let k = (d.kind - 0x40) as usize;
     PLACES[k]
 }
 
@@ -122,7 +122,7 @@ fn channel_plan(d: Details) -> Plan
     ensures { λ r. ⌜ PlanOf r d ⌝ }
 {
     let kind = d.kind;
-    let place = channel_place(kind);
+    let place = channel_place(d);
     match kind {
         0x40 => Plan {
             handler: Handler::Open,

@@ -13,4 +13,4 @@ channel-place-spec =
     (λ c. search needs)
     (λ c. search needs)
     (λ c. search needs)
-    (λ c. let s : tie.Start = search in places-rule (s .args .kind) (s .pre .0) (s .pre .1)))
+    (λ c. let s : tie.Start = search in places-rule (s .args .d) (s .pre .0) (s .pre .1)))

@@ -5,14 +5,11 @@ use borrow.Author.Needs.{needs}
 use Rattle.rules.specs.Checks.{_⇒_else_, every, some-of, member}
 use Rattle.rules.specs.Table.{table, rowAmong, times, known}
 use Rattle.rules.specs.Reading.{toModem}
-use Rattle.command.specs.Plans.{besidesBy, timesBy, PlaceFor}
+use Rattle.command.specs.Plans.{besidesBy, timesBy}
 use Rattle.command.proofs.Keys.{behind}
-use Rattle.command.proofs.Tables.{rightly, plan-right, channel-place}
+use Rattle.command.proofs.Tables.{rightly, plan-right}
 use Rattle.command.proofs.channel_plan.Statement.{statement}
 use Rattle.command.proofs.channel_plan.Tie as tie
-
-place : (c : tie.After-channel-place) → PlaceFor (c .channel-place .result) (c .before .args .d)
-place c = channel-place _ _ (c .before .pre .0) (c .before .pre .1) (c .channel-place .ensures .0) (c .channel-place .ensures .1)
 
 -- what is none of 40 to 43 is 44
 last : (c : tie.At-match-rest) → c .before .before .args .d .kind ≡ 0x44
@@ -24,8 +21,8 @@ channel-plan-spec =
     tie.close
     (tie.spec
     (λ c κs. search needs)
-    (λ c. plan-right _ _ _ (c .match .keys1) (place (c .before)) refl)
-    (λ c. plan-right _ _ _ (c .match .keys2) (place (c .before)) refl)
-    (λ c. plan-right _ _ _ (c .match .keys3) (place (c .before)) refl)
-    (λ c. plan-right _ _ _ (c .match .keys4) (place (c .before)) refl)
-    (λ c. plan-right _ _ _ (last c) (place (c .before)) refl))
+    (λ c. plan-right _ _ _ (c .match .keys1) (c .before .channel-place .ensures) refl)
+    (λ c. plan-right _ _ _ (c .match .keys2) (c .before .channel-place .ensures) refl)
+    (λ c. plan-right _ _ _ (c .match .keys3) (c .before .channel-place .ensures) refl)
+    (λ c. plan-right _ _ _ (c .match .keys4) (c .before .channel-place .ensures) refl)
+    (λ c. plan-right _ _ _ (last c) (c .before .channel-place .ensures) refl))
