@@ -16,12 +16,12 @@ use Rattle.rules.specs.Checks.{_⇒_else_, isEmpty, some-of, member}
 use Rattle.rules.specs.Words.{channelOf}
 use Rattle.rules.specs.declared.Way.{Way}
 use Rattle.rules.specs.declared.Way.the-variants.{Receive, Send}
-use Rattle.rules.specs.State.{State, closed, isOpen, isEstablished, isDropped, chan, withChan, room, Chan, Queue, queue, held, without, withQueue, removed, appended, fresh}
-use Rattle.rules.specs.Reading.{asked, reading, kindOf, toModem, Command, Body, Bearer, closeChannel, receiveData, sendData}
-use Rattle.rules.specs.Own.{Reply, reply, Result, Further, nothing, opened, received, sent, statuses, error, problem, done, capped, plain, closing, receiving, sending, own}
+use Rattle.rules.specs.State.{State, closed, isEstablished, isDropped, chan, room, Chan, queue, held, without, withQueue, removed, appended}
+use Rattle.rules.specs.Reading.{reading, kindOf, toModem, Command, Body, Bearer, closeChannel, receiveData, sendData}
+use Rattle.rules.specs.Own.{Reply, Result, Further, nothing, opened, received, sent, statuses, error, problem, done, capped, plain, closing, receiving, own}
 use Rattle.rules.specs.Written.{unflagged, statusObject, eventBytes}
-use Rattle.rules.specs.Command.{Answer, answered, Outcome, wrote, refused, meantBy}
-use Rattle.rules.specs.Radio.{numbered, arrivalEvent, taking}
+use Rattle.rules.specs.Command.{Answer, Outcome, wrote, refused, meantBy}
+use Rattle.rules.specs.Radio.{arrivalEvent, taking}
 use Rattle.rules.specs.Run.{Call, starting, commanding, arriving, takingOut, droppingLink, step}
 use Rattle.rules.specs.Bench.{Told, told, untold, benchRead}
 use Rattle.rules.specs.History.{History, ended, openedWith, commandSeen, closes, sameNumber, answerTells, heardTells, tells, oldestReady, side, heldBy}
@@ -33,7 +33,7 @@ use Rattle.rules.proofs.Told.{open-changed}
 use Rattle.rules.proofs.Matching.{closed-told, numbered-of}
 use Rattle.rules.proofs.Answers.{arrival-last, sending-last, meant-own, seen-read, Counts, meant-counts, unaccepted-stays, undone-stays}
 use Rattle.rules.proofs.Histories.{follows}
-use Rattle.rules.proofs.Outside.{reached-next, told-next, Answered, answer-meant, answer-tells, done-asked, read-reached, own-heard, own-next, aimed-number}
+use Rattle.rules.proofs.Outside.{reached-next, told-next, answer-meant, answer-tells, done-asked, read-reached, own-heard, own-next, aimed-number}
 
 -- what a history leaves held for a way is what the channel holds
 pub held-told : (c : Chan) (h : History) → Tells c h → (w : Way) → heldBy h w ≡ length (held c w)

@@ -1,13 +1,12 @@
 -- What is seen from outside: one call more, the profile of the latest start, and what the bench hears in an answer.
 -- Assumes nothing.
-use Prim.Native.Nat.{ℕ, _-_, _≤_, _<_}
+use Prim.Native.Nat.{ℕ, _-_, _≤_}
 use mathlib.Core.Path.{_≡_, refl, sym, ap, subst, _∙_}
-use mathlib.Core.Bool.{Bool, true, false, _||_, false≢true}
+use mathlib.Core.Bool.{Bool, true, false, false≢true}
 use mathlib.Core.List.{List, [], _∷_}
-use mathlib.Core.Option.{Option, none, some}
+use mathlib.Core.Option.{some}
 use native.Mathlib.Omega.{arith}
 use lib.ListN.{length}
-use lib.Dec.{ltb}
 use borrow.Author.Tests.{le-ltb}
 use Rattle.rules.specs.declared.ChannelNumber.{ChannelNumber}
 use Rattle.rules.specs.declared.Details.{Details}
@@ -18,9 +17,9 @@ use Rattle.rules.specs.Table.{valueOf}
 use Rattle.rules.specs.Profile.{kept, allowsType, allowsBearer, channels}
 use Rattle.rules.specs.State.{State, start, withChan}
 use Rattle.rules.specs.Reading.{Reading, wrong, asked, reading, readObjects, zeros, detailsIn, commandIn, kindOf, toModem, Command, Body, moreTime, eventList, openChannel, closeChannel, receiveData, sendData, channelStatus, other}
-use Rattle.rules.specs.Own.{Reply, Result, Further, error, done, listed, own, protocolOf}
+use Rattle.rules.specs.Own.{Reply, Result, Further, done, listed, own, protocolOf}
 use Rattle.rules.specs.Written.{Response, responseBytes}
-use Rattle.rules.specs.Command.{Answer, answered, Meant, Outcome, wrote, refused, command, meantBy}
+use Rattle.rules.specs.Command.{Answer, answered, Outcome, wrote, refused, command, meantBy}
 use Rattle.rules.specs.Bench.{Told, told, untold, benchRead}
 use Rattle.rules.specs.Run.{Call, starting, commanding, arriving, takingOut, droppingLink, step, after}
 use Rattle.rules.specs.Sound.{Sound}
@@ -33,7 +32,7 @@ use Rattle.rules.proofs.Soundness.{reached-sound}
 use Rattle.rules.proofs.Told.{kept-byte, kept-bit}
 use Rattle.rules.proofs.Heard.{modem-heard}
 use Rattle.rules.proofs.Matching.{numbered-from, Aimed, read-aimed}
-use Rattle.rules.proofs.Answers.{replied, meant-own, commanded-state}
+use Rattle.rules.proofs.Answers.{meant-own, commanded-state}
 
 -- one call more: the state after it, and what is seen of it
 after-next : (a : State) (cs : List Call) (c : Call) → after a (next cs c) ≡ step (after a cs) c .state

@@ -9,7 +9,6 @@ use lib.ListN.{length, getD, length-append, length-drop, length-take, length-set
 use Rattle.rules.specs.declared.ChannelNumber.{ChannelNumber}
 use Rattle.rules.specs.declared.Link.{Link}
 use Rattle.rules.specs.declared.Link.the-variants.{Dropped}
-use Rattle.rules.specs.declared.Refusal.{Refusal}
 use Rattle.rules.specs.Profile.{kept, channels}
 use Rattle.rules.specs.declared.Way.{Way}
 use Rattle.rules.specs.declared.Way.the-variants.{Receive, Send}
@@ -18,7 +17,7 @@ use Rattle.rules.specs.Pool.{cells, promisedTo, promised, unpromised}
 use Rattle.rules.specs.Words.{channelOf}
 use Rattle.rules.specs.Reading.{Reading, wrong, asked, reading, Command, Body, moreTime, eventList, openChannel, closeChannel, receiveData, sendData, channelStatus, other}
 use Rattle.rules.specs.Own.{Reply, bit1, openBefore, listed, own, protocolOf}
-use Rattle.rules.specs.Command.{Answer, refused, answered, meantBy}
+use Rattle.rules.specs.Command.{Answer, meantBy}
 use Rattle.rules.specs.Run.{Call, starting, commanding, arriving, takingOut, droppingLink, step, after}
 use Rattle.rules.specs.Sound.{SoundChan, Sound}
 use Rattle.rules.proofs.Laws.{branch, by-way, each-get, each-set, each-replicate}

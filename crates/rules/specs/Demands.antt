@@ -11,7 +11,7 @@ use Rattle.rules.specs.Words.{channelOf}
 use Rattle.rules.specs.State.{State, Chan, chan, isOpen, held}
 use Rattle.rules.specs.Pool.{cellCount, cells}
 use Rattle.rules.specs.Reading.{Command, asked, reading}
-use Rattle.rules.specs.Own.{Result, Further, nothing, opened, received, sent, statuses, error, problem, done}
+use Rattle.rules.specs.Own.{Result, nothing, opened, received, sent, statuses, error, problem, done}
 use Rattle.rules.specs.Command.{Outcome, wrote, refused}
 use Rattle.rules.specs.Bench.{Told, told, untold, benchRead}
 use Rattle.rules.specs.Run.{Call, starting, commanding, arriving, takingOut, droppingLink, step, after}

@@ -20,7 +20,7 @@ use Rattle.rules.proofs.Soundness.{chan-sound}
 use Rattle.octets.specs.Parts.{part, pasted, cutOut, spread}
 use Rattle.session.specs.declared.Channel.{Channel}
 use Rattle.session.specs.Book.{ledgerSize, entryIn, withEntry, withList}
-use Rattle.session.specs.Picture.{space, regions, region, poolOf, linkNumber, linkOf, entry, ledgerOf, baseIn, offset, startIn, shown, Shows, GoodIn}
+use Rattle.session.specs.Picture.{space, regions, poolOf, linkNumber, linkOf, entry, ledgerOf, baseIn, offset, startIn, shown, Shows, GoodIn}
 use Rattle.session.specs.Changed.{Numbered, chanIn, Changed, heldIn, dueIn, moreIn, lessIn, Marks, withEvents}
 use Rattle.session.proofs.Ledgers.{ledger-size, entry-read, base-read, entry-written, list-written}
 use Rattle.session.proofs.Regions.{length-regions, length-pad, front, used, used-parts, used-fits, length-region, held-space}
