@@ -1,3 +1,4 @@
 pub mod Telling
 pub mod Feeding
+pub mod Filling
 pub mod Settled
