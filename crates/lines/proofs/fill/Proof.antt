@@ -30,9 +30,7 @@ head i = i .before .before
 
 -- a further line fits the output
 fits : (i : tie.Then1 Inv-loop μ-loop) → head i .loop .filled + lineCap ≤ length (head i .loop .out)
-fits i =
-    let room : lineCap ≤ length (head i .loop .out) - head i .loop .filled = leb-true _ _ (i .if1 .taken) in
-    omega arith
+fits i = omega (arith, leb-true)
 
 feed-requires : tie.Need-feed-requires Inv-loop μ-loop
 feed-requires c κs =
