@@ -10,7 +10,7 @@ use lib.ListN.{length, take, drop, replicate, length-take}
 use lib.Seq.{take-all, take-nil, take-take, append-snoc, length-take-le}
 use lib.Dec.{leb, eqb}
 use borrow.Author.Tests.{leb-true, leb-false, lt-ltb}
-use Rattle.rules.specs.Checks.{_⇒_else_, isEmpty, member, some-of}
+use Rattle.rules.specs.Checks.{_⇒_else_, isEmpty, member}
 use Rattle.rules.specs.Pool.{poolSize}
 use Rattle.rules.specs.State.{State, start}
 use Rattle.rules.specs.Lines.{frameOf, callIn, perform, lineStep}
@@ -18,7 +18,6 @@ use Rattle.rules.specs.Input.{Reader, Fed, lineBytes, between, begins, goes, li
 use Rattle.rules.proofs.Laws.{stop, skip}
 use Rattle.rules.proofs.Input.{fed-pieces}
 use Rattle.rules.proofs.Soundness.{start-sound}
-use Rattle.octets.specs.Parts.{pasted}
 use Rattle.octets.proofs.Pastes.{take-pasted, length-pasted}
 use Rattle.session.specs.Picture.{shown, ledgerOf}
 use Rattle.session.proofs.Starts.{empty-pool}
@@ -44,7 +43,7 @@ frame-kept l = by (leb (length l) keptCap) refl
         let k = length-take keptCap l in
         stop _ _ _ (lt-ltb digitCap (length (take keptCap l)) (omega arith)) ∙ sym (stop _ _ _ (lt-ltb digitCap (length l) (omega arith)))
 
-ends-cut : (r : Reader) → lineEnds (cut r) ≡ lineEnds r
+pub ends-cut : (r : Reader) → lineEnds (cut r) ≡ lineEnds r
 unfolding lineEnds goes lineStep
 ends-cut r =
     ap
@@ -213,34 +212,14 @@ unfolding isEmpty
 held-is [] e = absurd (let z : 1 ≤ 0 = e in omega arith)
 held-is (c ∷ l) e = refl
 
-module _ (c : Running) (t p line out : List ℕ) (at : ℕ) (y : Ready c t p line) where
-  abbrev z : Reader
-  z = readerIn c t p line
+module _ (c : Running) (t p line : List ℕ) (y : Ready c t p line) where
+  pub last-none : c .len < 1 → lastPiece (readerIn c t p line) ≡ []
+  unfolding lastPiece
+  last-none h = let e = held-size c t p line y in stop _ _ _ (empty-is (take (c .len) line) (omega arith))
 
-  pub ends-none : c .len < 1 → Goes (feeds z (lastPiece z)) (record { running = c; next = 0; at = at }) t p line out at out
-  unfolding lastPiece feeds
-  ends-none h =
-      let e = held-size c t p line y in
-      subst (λ (s : List ℕ). Goes (feeds z s) (record { running = c; next = 0; at = at }) t p line out at out)
-      (sym (stop _ _ _ (empty-is (z .pending) (omega arith))))
-      (record { ready = y; holds = held-cut c t p line y; printed = paste-none out at; place = omega arith })
-
-  pub ends-held :
-      (d : Progress) (t′ p′ line′ out′ : List ℕ) → 1 ≤ c .len → Goes (feeds z (piece (10 ∷ []))) d t′ p′ line′ out at out′ →
-      Goes (feeds z (lastPiece z)) d t′ p′ line′ out at out′
-  unfolding lastPiece piece beforeFeed member some-of _⇒_else_
-  ends-held d t′ p′ line′ out′ h w =
-      let e = held-size c t p line y in
-      subst (λ (s : List ℕ). Goes (feeds z s) d t′ p′ line′ out at out′) (sym (skip _ _ _ (held-is (z .pending) (omega arith)))) w
-
--- a line feed adds nothing to the line
-pub line-stays : (d : Progress) (k : ℕ) (line line′ : List ℕ) → Keeps d k (10 ∷ []) 0 line line′ → line′ ≡ line
-unfolding fitting beforeFeed _⇒_else_
-line-stays d k line line′ t = t .kept ∙ ap (pasted line k) (take-nil (keptCap - k)) ∙ sym (paste-none line k)
-
-pub next-one : (d : Progress) (k : ℕ) (line line′ : List ℕ) → Keeps d k (10 ∷ []) 0 line line′ → d .next ≡ 1
-unfolding piece beforeFeed member some-of _⇒_else_
-next-one d k line line′ t = t .next
+  pub last-held : 1 ≤ c .len → lastPiece (readerIn c t p line) ≡ 10 ∷ []
+  unfolding lastPiece
+  last-held h = let e = held-size c t p line y in skip _ _ _ (held-is (take (c .len) line) (omega arith))
 
 -- before the first byte the code may go on, and holds what the reader has
 pub first-ready : (t p line : List ℕ) → t ≡ ledgerOf (start []) → p ≡ replicate poolSize 0 → length line ≡ keptCap → Ready (record { begun = false; len = 0 }) t p line
@@ -253,7 +232,7 @@ first-held t p line e f =
     λ i. record { begun = false; state = shows-back (start []) t p (start-sound []) (record { ledger = e; pool = f ∙ empty-pool [] }) i; pending = [] }
 
 -- what the code holds of a reader goes on as the reader does
-abbrev trimmed : Fed → Fed
+abbrev pub trimmed : Fed → Fed
 trimmed f = record { reader = cut (f .reader); out = f .out }
 
 kept-byte : (l : List ℕ) (c : ℕ) → take keptCap (take keptCap l ++ c ∷ []) ≡ take keptCap (l ++ c ∷ [])

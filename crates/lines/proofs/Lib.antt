@@ -1,3 +1,5 @@
 pub mod Telling
 pub mod Feeding
+pub mod Filling
 pub mod Settled
+pub mod Turns

@@ -1,62 +1,68 @@
 -- Each public contract of the lines settles its outcome.
 -- Assumes nothing.
-use Prim.Native.Nat.{ℕ}
+use Prim.Native.Nat.{ℕ, _+_}
 use mathlib.Core.Path.{_≡_, sym, ap, _∙_}
 use mathlib.Core.List.{List}
-use lib.ListN.{length}
-use Rattle.rules.specs.Input.{Reader, Fed}
-use Rattle.session.specs.Picture.{shown, ledgerOf, poolOf}
+use lib.ListN.{length, take}
+use Rattle.rules.specs.Input.{Reader, Fed, feeds}
+use Rattle.octets.specs.Parts.{pasted}
+use Rattle.session.specs.Picture.{shown, ledgerOf, poolOf, pad}
+use Rattle.text.specs.Sizes.{keptCap}
 use Rattle.outcomes.specs.Determined.{Determined}
 use Rattle.lines.specs.declared.Progress.{Progress}
-use Rattle.lines.specs.Holds.{readerIn, Goes}
+use Rattle.lines.specs.Holds.{readerIn, cut}
+use Rattle.lines.specs.Fills.{Fills}
 use Rattle.lines.proofs.Feeding.{held-size}
-use Rattle.lines.proofs.feed.Kinds as feed-kinds
-use Rattle.lines.proofs.feed.Reads as feed-reads
+use Rattle.lines.proofs.fill.Kinds as fill-kinds
+use Rattle.lines.proofs.fill.Reads as fill-reads
 use Rattle.lines.proofs.finish.Kinds as finish-kinds
 use Rattle.lines.proofs.finish.Reads as finish-reads
 use Rattle.lines.proofs.before.Kinds as before-kinds
 use Rattle.lines.proofs.before.Reads as before-reads
 
--- two that go on with one reader
-module _ {f : Fed} {t p line u q line′ before after after′ : List ℕ} {at : ℕ} (x y : Progress) (g : Goes f x t p line before at after) (h : Goes f y u q line′ before at after′) where
+-- two that read the same chunk with one reader
+module _ {r : Reader} {chunk t p line u q line′ before after after′ : List ℕ} (x y : Progress) (g : Fills r chunk x t p line before after) (h : Fills r chunk y u q line′ before after′) where
+  next-same : x .next ≡ y .next
+  next-same = g .next ∙ sym (h .next)
+
+  fed-same : feeds r (take (x .next) chunk) ≡ feeds r (take (y .next) chunk)
+  fed-same = ap (λ (k : ℕ). feeds r (take k chunk)) next-same
+
   held-same : readerIn (x .running) t p line ≡ readerIn (y .running) u q line′
-  held-same = g .holds ∙ sym (h .holds)
+  held-same = g .goes .holds ∙ ap (λ (f : Fed). cut (f .reader)) fed-same ∙ sym (h .goes .holds)
 
   shown-same : shown t p ≡ shown u q
   shown-same = ap (λ (r : Reader). r .state) held-same
 
   ledger-same : t ≡ u
-  ledger-same = g .ready .good .shows .ledger ∙ ap ledgerOf shown-same ∙ sym (h .ready .good .shows .ledger)
+  ledger-same = g .goes .ready .good .shows .ledger ∙ ap ledgerOf shown-same ∙ sym (h .goes .ready .good .shows .ledger)
 
   pool-same : p ≡ q
-  pool-same = g .ready .good .shows .pool ∙ ap poolOf shown-same ∙ sym (h .ready .good .shows .pool)
+  pool-same = g .goes .ready .good .shows .pool ∙ ap poolOf shown-same ∙ sym (h .goes .ready .good .shows .pool)
 
-  running-same : x .running ≡ y .running
-  running-same =
-      let len = sym (held-size _ t p line (g .ready)) ∙ ap (λ (r : Reader). length (r .pending)) held-same ∙ held-size _ u q line′ (h .ready) in
-      λ i. record { begun = held-same i .begun; len = len i }
-
-  progress-same : x .next ≡ y .next → x ≡ y
-  progress-same e = λ i. record { running = running-same i; next = e i; at = (g .place ∙ sym (h .place)) i }
+  line-same : line ≡ line′
+  line-same = g .blank ∙ ap (λ (r : Reader). pad keptCap (r .pending)) held-same ∙ sym (h .blank)
 
   printed-same : after ≡ after′
-  printed-same = g .printed ∙ sym (h .printed)
+  printed-same = g .goes .printed ∙ ap (λ (f : Fed). pasted before 0 (f .out)) fed-same ∙ sym (h .goes .printed)
 
-pub feed-settled : Determined 5 feed-kinds.ps feed-kinds.r feed-reads.Pre feed-reads.Post
-feed-settled κs a _ x y v w p q =
-    let g = p .0 in
-    let h = q .0 in (
-      progress-same x y g h (p .1 .next ∙ sym (q .1 .next)),
-      λ i. (tt, (ledger-same x y g h i, (pool-same x y g h i, ((p .1 .kept ∙ sym (q .1 .kept)) i, (tt, (tt, (printed-same x y g h i, (tt, tt)))))))),
-    )
+  progress-same : x ≡ y
+  progress-same =
+      let place = g .goes .place ∙ ap (λ (f : Fed). 0 + length (f .out)) fed-same ∙ sym (h .goes .place) in
+      let len = sym (held-size _ t p line (g .goes .ready)) ∙ ap (λ (r : Reader). length (r .pending)) held-same ∙ held-size _ u q line′ (h .goes .ready) in
+      λ i. record { running = record { begun = held-same i .begun; len = len i }; next = next-same i; at = place i }
+
+pub fill-settled : Determined 5 fill-kinds.ps fill-kinds.r fill-reads.Pre fill-reads.Post
+fill-settled κs a _ x y v w p q = (
+  progress-same x y p q,
+  λ i. (tt, (ledger-same x y p q i, (pool-same x y p q i, (line-same x y p q i, (tt, (printed-same x y p q i, tt)))))),
+)
 
 pub finish-settled : Determined 4 finish-kinds.ps finish-kinds.r finish-reads.Pre finish-reads.Post
-finish-settled κs a _ x y v w p q =
-    let g = p .0 in
-    let h = q .0 in (
-      progress-same x y g h (p .1 .1 ∙ sym (q .1 .1)),
-      λ i. (tt, (ledger-same x y g h i, (pool-same x y g h i, ((p .1 .0 ∙ sym (q .1 .0)) i, (printed-same x y g h i, (tt, tt)))))),
-    )
+finish-settled κs a _ x y v w p q = (
+  progress-same x y p q,
+  λ i. (tt, (ledger-same x y p q i, (pool-same x y p q i, (line-same x y p q i, (printed-same x y p q i, tt))))),
+)
 
 pub before-settled : Determined 1 before-kinds.ps before-kinds.r before-reads.Pre before-reads.Post
 before-settled κs a _ x y v w p q = (p .1 ∙ sym (q .1), λ i. ((p .0 ∙ sym (q .0)) i, tt))

@@ -1,2 +1,4 @@
 pub mod Says
 pub mod Holds
+pub mod Fills
+pub mod Turns

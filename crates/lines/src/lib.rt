@@ -19,7 +19,7 @@ use text::read_frame;
 ghost use mathlib.Core.Path.{_≡_};
 ghost use mathlib.Core.Bool.{false};
 ghost use mathlib.Core.List.{[]};
-ghost use Prim.Native.Nat.{_+_, _≤_, min};
+ghost use Prim.Native.Nat.{_+_, _≤_};
 ghost use lib.ListN.{length, drop};
 ghost use Rattle.rules.specs.State.{start};
 ghost use Rattle.rules.specs.Lines.{frameOf, callIn, callOf};
@@ -30,6 +30,7 @@ ghost use Rattle.text.specs.Sizes.{takeCap, lineCap};
 ghost use Rattle.text.specs.Gathers.{piece};
 ghost use Rattle.lines.specs.Says.{answerTo, Replies, Says};
 ghost use Rattle.lines.specs.Holds.{Ready, readerIn, lastPiece, Goes, Keeps};
+ghost use Rattle.lines.specs.Fills.{Fills};
 
 // What the program keeps between two pieces of its input, beside the session and the line: whether the first line was read, and how many bytes of a line are kept.
 pub struct Running {
@@ -140,7 +141,7 @@ fn end_line(
 }
 
 // Reads a chunk from a place on, up to the end of one line or of the chunk; a line that is whole is performed.
-pub fn feed(
+fn feed(
     running: Running,
     ledger: &mut [u16; Ledger::SIZE],
     pool: &mut [u8; Pool::SIZE],
@@ -177,6 +178,35 @@ pub fn feed(
     }
 }
 
+// Reads a chunk line by line, as far as the answers surely fit the output: what was read, what is to be written, what is kept.
+pub fn fill(
+    running: Running,
+    ledger: &mut [u16; Ledger::SIZE],
+    pool: &mut [u8; Pool::SIZE],
+    line: &mut [u8],
+    chunk: &[u8],
+    out: &mut [u8],
+) -> Progress
+    requires { ⌜ Ready running (now ledger) (now pool) (now line) ⌝ }
+    ensures { λ r. ⌜ Fills (readerIn running (now (ledger .entry)) (now (pool .entry)) (now (line .entry))) (now (chunk .entry)) r (now (ledger .exit)) (now (pool .exit)) (now (line .exit)) (now (out .entry)) (now (out .exit)) ⌝ }
+{
+    let mut kept = running;
+    let mut next: usize = 0;
+    let mut filled: usize = 0;
+    while next < chunk.len() && out.len() - filled >= Line::PRINTED {
+        let progress = feed(kept, ledger, pool, line, chunk, next, out, filled);
+        kept = progress.running;
+        next = progress.next;
+        filled = progress.at;
+    }
+    octets::clear(line, kept.len, Line::KEPT);
+    Progress {
+        running: kept,
+        next,
+        at: filled,
+    }
+}
+
 // The input ends: what is left of it is a line, if there is anything.
 pub fn finish(
     running: Running,
@@ -184,20 +214,14 @@ pub fn finish(
     pool: &mut [u8; Pool::SIZE],
     line: &mut [u8],
     out: &mut [u8],
-    at: usize,
 ) -> Progress
-    requires { ⌜ Ready running (now ledger) (now pool) (now line) × (at + lineCap ≤ length (now out)) ⌝ }
-    ensures { λ r. ⌜ Goes (feeds (readerIn running (now (ledger .entry)) (now (pool .entry)) (now (line .entry))) (lastPiece (readerIn running (now (ledger .entry)) (now (pool .entry)) (now (line .entry))))) r (now (ledger .exit)) (now (pool .exit)) (now (line .exit)) (now (out .entry)) at (now (out .exit)) ⌝ }
-    ensures { λ r. ⌜ (now (line .exit) ≡ now (line .entry)) × (r .next ≡ min (running .len) 1) ⌝ }
+    requires { ⌜ Ready running (now ledger) (now pool) (now line) ⌝ }
+    ensures { λ r. ⌜ Fills (readerIn running (now (ledger .entry)) (now (pool .entry)) (now (line .entry))) (lastPiece (readerIn running (now (ledger .entry)) (now (pool .entry)) (now (line .entry)))) r (now (ledger .exit)) (now (pool .exit)) (now (line .exit)) (now (out .entry)) (now (out .exit)) ⌝ }
 {
     if running.len < 1 {
-        return Progress {
-            running,
-            next: 0,
-            at,
-        };
+        return fill(running, ledger, pool, line, b"", out);
     }
-    feed(running, ledger, pool, line, b"\n", 0, out, at)
+    fill(running, ledger, pool, line, b"\n", out)
 }
 
 // What the program keeps before its first byte: the ledger of a fresh session, and nothing of a line.

@@ -4,14 +4,12 @@ use libc;
 use libc::STDOUT_FILENO;
 use lines::Running;
 use lines::before;
-use lines::feed;
+use lines::fill;
 use lines::finish;
 use pool::Pool;
 use session::Ledger;
-use text::Line;
 ghost use mathlib.Core.Path.{_≡_};
 ghost use mathlib.Core.Bool.{true};
-ghost use Prim.Native.Nat.{_≤_};
 ghost use lib.ListN.{length, replicate};
 ghost use Rattle.rules.specs.Pool.{poolSize};
 ghost use Rattle.rules.specs.Input.{feeds};
@@ -25,14 +23,7 @@ struct Turn {
     more: bool,
 }
 
-// Writes the output up to a place, and tells whether all of it was written.
-fn write_out(out: &[u8], at: usize) -> bool
-    requires { ⌜ at ≤ length (now out) ⌝ }
-{
-    io::write_all(STDOUT_FILENO, &out[..at])
-}
-
-// Performs the lines of a piece of the input. The output is written where a further line might not fit, and at the end.
+// Performs the lines of a piece of the input, and writes what they print as often as the output might not hold more.
 fn feed_all(
     running: Running,
     ledger: &mut [u16; Ledger::SIZE],
@@ -47,43 +38,25 @@ fn feed_all(
 {
     let mut kept = running;
     let mut next: usize = 0;
-    let mut at: usize = 0;
     while next < piece.len() {
-        if out.len() - at < Line::PRINTED {
-            if !write_out(out, at) {
-                return Turn {
-                    running: kept,
-                    more: false,
-                };
-            }
-            at = 0;
-        }
-        let progress = feed(kept, ledger, pool, line, piece, next, out, at);
+        let progress = fill(kept, ledger, pool, line, &piece[next..], out);
+        let at = progress.at;
         kept = progress.running;
-        next = progress.next;
-        at = progress.at;
+        next += progress.next;
+        if !io::write_all(STDOUT_FILENO, &out[..at]) {
+            return Turn {
+                running: kept,
+                more: false,
+            };
+        }
     }
     Turn {
         running: kept,
-        more: write_out(out, at),
+        more: true,
     }
 }
 
-// The input ended: what is left of it is performed.
-fn end(
-    running: Running,
-    ledger: &mut [u16; Ledger::SIZE],
-    pool: &mut [u8; Pool::SIZE],
-    line: &mut [u8],
-    out: &mut [u8],
-)
-    requires { ⌜ Ready running (now ledger) (now pool) (now line) × (length (now out) ≡ pieceSize) ⌝ }
-{
-    let progress = finish(running, ledger, pool, line, out, 0);
-    write_out(out, progress.at);
-}
-
-// Reads a piece of a file and performs its lines. More is to come unless the file ended, or reading or writing failed.
+// Reads a piece of a file and performs its lines, or what is left where the file ended. More is to come unless it ended, or reading or writing failed.
 fn take_turn(
     fd: i32,
     running: Running,
@@ -94,7 +67,7 @@ fn take_turn(
     out: &mut [u8],
 ) -> Turn
     requires { ⌜ Ready running (now ledger) (now pool) (now line) × (length (now out) ≡ pieceSize) ⌝ }
-    ensures { λ r. ⌜ (r .more ≡ true → Ready (r .running) (now (ledger .exit)) (now (pool .exit)) (now (line .exit))) ⌝ }
+    ensures { λ r. ⌜ Ready (r .running) (now (ledger .exit)) (now (pool .exit)) (now (line .exit)) ⌝ }
 {
     let got = libc::read(fd, piece);
     if got < 0 {
@@ -104,9 +77,12 @@ fn take_turn(
         };
     }
     if got == 0 {
-        end(running, ledger, pool, line, out);
+        let last = finish(running, ledger, pool, line, out);
+        let kept = last.running;
+        let at = last.at;
+        io::write_all(STDOUT_FILENO, &out[..at]);
         return Turn {
-            running,
+            running: kept,
             more: false,
         };
     }

@@ -1,31 +1,32 @@
--- `lines::finish` meets its contract: what is left is performed as a line, if anything is.
+-- `lines::finish` meets its contract: what ends the last line is read, if anything of one is left.
 -- Assumes nothing.
-use mathlib.Core.Path.{refl}
-use native.Mathlib.Omega.{arith}
-use denote.Ref.{now}
-use Rattle.lines.proofs.Feeding.{ends-none, ends-held, line-stays, next-one}
+use Rattle.lines.proofs.Filling.{ends-none, ends-held}
 use borrow.Author.Needs.{needs}
 use Rattle.lines.proofs.finish.Statement.{statement}
 use Rattle.lines.proofs.finish.Tie as tie
 
 returns : tie.Need-returns
 returns c =
+    let w : tie.After-fill = search in
     let i : tie.Then1 = search in
     let s : tie.Start = search in
-    (ends-none _ _ _ _ (now (s .args .out)) (s .args .at) (s .pre .0) (i .if1 .taken), (refl, omega (arith, i .if1 .taken)))
+    ends-none _ _ _ _ (s .pre) (i .if1 .taken) (w .fill .ensures)
 
 returns-2 : tie.Need-returns-2
 returns-2 c =
-    let w : tie.After-feed = search in
+    let w : tie.After-fill2 = search in
     let i : tie.Else1 = search in
     let s : tie.Start = search in
-    let h = w .feed .ensures in
-    (ends-held _ _ _ _ _ _ (s .pre .0) _ _ _ _ _ (i .if1 .left) (h .0), (line-stays _ _ _ _ (h .1), omega (arith, next-one _ _ _ _ (h .1), i .if1 .left)))
+    ends-held _ _ _ _ (s .pre) (i .if1 .left) (w .fill2 .ensures)
 
 pub finish-spec : {M : Type 1} → statement M
 finish-spec =
     tie.close
     (tie.spec
+    (λ c. search needs)
+    (λ c κs. search needs)
+    (λ c. search needs)
+    (λ c. search needs)
     returns
     (λ c. search needs)
     (λ c κs. search needs)

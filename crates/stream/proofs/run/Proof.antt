@@ -1,7 +1,6 @@
 -- `stream::run` meets its contract: the turns that are left grow fewer, and between two of them the program may go on.
 -- Assumes nothing.
 use native.Mathlib.Omega.{arith}
-use borrow.Author.Tests.{not-false}
 use Rattle.stream.proofs.Pieces.{Turning, turning-none}
 use borrow.Author.Needs.{needs}
 use Rattle.stream.proofs.run.Statement.{statement}
@@ -33,9 +32,8 @@ returns c =
 
 loop-again : tie.Need-loop-again Inv-loop μ-loop
 loop-again c =
-    let i : tie.Else1 Inv-loop μ-loop = search in
     let t : tie.After-take-turn Inv-loop μ-loop = search in
-    record { ready = t .take-turn .ensures (not-false _ (i .if1 .left)); input = omega arith; output = omega arith }
+    record { ready = t .take-turn .ensures; input = omega arith; output = omega arith }
 
 returns-2 : tie.Need-returns-2 Inv-loop μ-loop
 returns-2 c =

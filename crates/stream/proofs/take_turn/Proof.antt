@@ -1,9 +1,21 @@
--- `stream::take_turn` meets its contract: a session with which the program may go on, where more is to come.
+-- `stream::take_turn` meets its contract: a session with which the program may go on.
 -- Assumes nothing.
-use mathlib.Core.Bool.{false≢true}
+use mathlib.Core.Path.{sym}
+use lib.Seq.{length-take-le}
+use Rattle.lines.proofs.Filling.{fills-within}
 use borrow.Author.Needs.{needs}
 use Rattle.stream.proofs.take_turn.Statement.{statement}
 use Rattle.stream.proofs.take_turn.Tie as tie
+
+slice-reshare-prefix-write-all : tie.Need-slice-reshare-prefix-write-all
+slice-reshare-prefix-write-all c =
+    let f : tie.After-finish = search in
+    fills-within (f .finish .ensures)
+
+slice-aggregate-write-all : tie.Need-slice-aggregate-write-all
+slice-aggregate-write-all c =
+    let f : tie.After-finish = search in
+    sym (length-take-le _ _ (fills-within (f .finish .ensures)))
 
 pub take-turn-spec : {M : Type 1} → statement M
 take-turn-spec =
@@ -13,10 +25,13 @@ take-turn-spec =
     (λ c. search needs)
     (λ c. search needs)
     (λ c κs. search needs)
+    slice-reshare-prefix-write-all
+    slice-aggregate-write-all
+    (λ c κs. search needs)
     (λ c. search needs)
     (λ c. search needs)
     (λ c. search needs)
-    (λ c. λ m. absurd (false≢true m))
+    (λ c. search needs)
     (λ c κs. search needs)
     (λ c. search needs)
     (λ c. search needs)
