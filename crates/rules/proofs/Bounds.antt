@@ -3,8 +3,8 @@
 use Prim.Native.Nat.{ℕ}
 use mathlib.Core.Path.{_≡_, refl}
 use mathlib.Core.Bool.{Bool, true, false}
-use mathlib.Core.List.{List, [], _∷_, map}
-use mathlib.Core.Option.{some}
+use mathlib.Core.List.{List, [], _∷_, _++_, map}
+use mathlib.Core.Option.{none, some}
 use lib.ListN.{replicate}
 use Rattle.rules.specs.declared.Link.{Link}
 use Rattle.rules.specs.declared.Link.the-variants.{NotYet, Established, Dropped}
@@ -12,10 +12,11 @@ use Rattle.rules.specs.Checks.{_⇒_else_, isEmpty, some-of, member, sam
 use Rattle.rules.specs.Frames.{longLength, lengthAt, lengthBytes, tagAt, valueAfter, afterTag, objectAt, onward, walkUpTo, walk, objectBytes, written, frame}
 use Rattle.rules.specs.Table.{table, known}
 use Rattle.rules.specs.State.{isDropped}
-use Rattle.rules.specs.Reading.{Command, Bearer, openChannel, kindOf, detailsOf, detailsIn, pairIn, bearerIn, toModem, addressed, zeros}
+use Rattle.rules.specs.Reading.{Command, Body, Bearer, moreTime, eventList, openChannel, closeChannel, receiveData, sendData, channelStatus, other, kindOf, detailsOf, detailsIn, pairIn, bearerIn, toModem, addressed, zeros}
 use Rattle.rules.specs.Own.{Status, Result, opened, received, sent, statuses, error, problem, done, nothing}
 use Rattle.rules.specs.Written.{Response, pairBytes, detailsBytes, bearerBytes, statusBytes, statusObject, statusObjects, furtherObjects, resultBytes, resultObjects, responseObjects, responseBytes}
 use Rattle.rules.specs.Command.{wrote}
+use Rattle.rules.specs.Demands.{accepted}
 use Rattle.rules.specs.Bench.{bearerProper, bodyProper, transportObjects, bodyObjects, commandObjects, benchWrite, errorProper, causeProper, successProper, rising, furtherProper, resultProper, proper, valueAt, statusIn, statusesIn, furtherIn, resultIn, responseIn, Told, told, untold, benchRead}
 
 -- a row: a response, and whether the bench reads its bytes
@@ -126,3 +127,19 @@ pub open-written :
     wrote (0xD0 ∷ 0x15 ∷ 0x81 ∷ 0x03 ∷ 0x01 ∷ 0x40 ∷ 0x01 ∷ 0x82 ∷ 0x02 ∷ 0x81 ∷ 0x82 ∷ 0xB5 ∷ 0x01 ∷ 0x03 ∷ 0xB9 ∷ 0x02 ∷ 0x05 ∷ 0xDC ∷ 0x3C ∷ 0x03 ∷ 0x02 ∷ 0x1F ∷ 0x90 ∷ [])
 unfolding opens _⇒_else_ isEmpty some-of member lengthBytes objectBytes written frame kindOf detailsOf toModem addressed pairBytes detailsBytes bearerBytes bearerProper bodyProper transportObjects bodyObjects commandObjects benchWrite
 open-written = refl
+
+-- a record of the values b to a destination
+abbrev record-to : ℕ → Body → Command
+record-to to b =
+    record { number = 1; qualifier = 0; source = record { 0 = 0x81 }; destination = record { 0 = to }; body = b }
+
+-- a record of each type is written; a list or data of 242 bytes, another destination, and values of no type are not
+pub records-written :
+    map (λ (c : Command). accepted (benchWrite 256 c))
+    (record-to 0x82 moreTime ∷ record-to 0x82 (eventList (replicate 241 0)) ∷ record-to 0x82 (openChannel (bearer 0x02 6) 0 none) ∷ record-to 0x21 closeChannel ∷
+    record-to 0x27 (receiveData 0) ∷ record-to 0x21 (sendData (replicate 241 0)) ∷ record-to 0x82 channelStatus ∷
+    record-to 0x82 (eventList (replicate 242 0)) ∷ record-to 0x21 (sendData (replicate 242 0)) ∷ record-to 0x82 (openChannel (bearer 0x03 1) 0 none) ∷
+    record-to 0x28 closeChannel ∷ record-to 0x20 (receiveData 0) ∷ record-to 0x21 moreTime ∷ record-to 0x82 (other 0x02) ∷ []) ≡
+    replicate 7 true ++ replicate 7 false
+unfolding accepted _⇒_else_ isEmpty some-of member lengthBytes objectBytes written frame kindOf detailsOf toModem addressed pairBytes detailsBytes bearerBytes bearerProper bodyProper transportObjects bodyObjects commandObjects benchWrite
+records-written = refl

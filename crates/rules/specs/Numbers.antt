@@ -139,3 +139,33 @@ listingOut =
 pub listing-printed : program (map chars listingIn) ≡ map chars listingOut
 unfolding listingIn listingOut chars _⇒_else_ isEmpty every some-of occurrences member same longLength lengthAt lengthBytes tagAt valueAfter afterTag objectAt onward walkUpTo walk objectBytes written fills following framed contents frame table known rowAmong rowOf times sift present valueOf complete bearerFits lengthFits measured bit kept allowsType allowsEvent allowsBearer channels isEstablished isDropped establish closed isOpen start chan withChan queue withQueue room joined without marked fresh appended removed readied dropped kindOf detailsOf zeros detailsIn pairIn bearerIn transportIn bodyIn commandIn toModem addressed isFault startsWithDetails readObjects reading bit1 capped plain listed listing protocolOf openBefore opening closing receiving sending statusesFrom own cells promisedTo promised unpromised grantFor pairBytes detailsBytes bearerBytes statusBytes statusObject statusObjects furtherObjects resultBytes resultObjects responseObjects responseBytes eventBytes meantBy command numbered arrivalEvent arrival taking dropEvent dropping step after isDigit digitValue with-byte bytesOf frameOf callOf digitOf hex printed callIn perform lineStep linesFrom profileThen program
 listing-printed = refl
+
+-- a script: the lines that go in, and the lines that come out
+pub record Script : Type 0 where
+  pub given : List String
+  pub prints : List String
+
+script : List String → List String → Script
+script i o = record { given = i; prints = o }
+
+-- the edges of lines, rows, lengths and the profile, each as a script of its own
+pub edges : List Script
+edges =
+    -- an event list in small digits; OPEN CHANNEL with all that may stand, a wrong length of 1E, and a third 04; CLOSE, RECEIVE and SEND with 05 and 1E; takes at the cap and past it, lines that are no call, a drop; each character beside a digit; each kind of fault; D0 alone
+    script
+    ("00000800010C00000000001F82" ∷ "d00d8103010500820281821902090a" ∷ "D0338103014001820281820501411E020001350103390200203C03021F9047014104020102040203040D01040D01053E01213E0122" ∷ "D0158103014001820281821E0300010035010339020020" ∷ "D01C81030140018202818235010339020020040201020402030404020506" ∷ "D0108103014100820281220501411E020001" ∷ "D0138103014200820281210501411E020001370100" ∷ "D0138103014301820281210501411E020001360141" ∷ "A10105DC" ∷ "A10105DD" ∷ "A101DC" ∷ "A0" ∷ "A301" ∷ "a201" ∷ "A20/" ∷ "A20:" ∷ "A20@" ∷ "A20G" ∷ "A20`" ∷ "A20g" ∷ "A2/1" ∷ "D00B8103010200820281820000" ∷ "D00B8103010200820281820582" ∷ "D00C810301020082028182050241" ∷ "D0" ∷ [])
+    ("810301050082028281830100" ∷ "8103014001820282818301003802810035010339020020" ∷ "810301400182028281830132" ∷ "8103014001820282818301013802820035010339020020" ∷ "810301410082028281830100" ∷ "8103014200820282818301003600370100" ∷ "81030143018202828183010037011F" ∷ "41" ∷ "R9" ∷ "R9" ∷ "R9" ∷ "R9" ∷ "D60B19010A8202828138020105" ∷ "R9" ∷ "R9" ∷ "R9" ∷ "R9" ∷ "R9" ∷ "R9" ∷ "R9" ∷ "810301020082028281830132" ∷ "810301020082028281830132" ∷ "810301020082028281830132" ∷ "810300000082028281830132" ∷ []) ∷
+    -- a profile without 05
+    script
+    ("000008000004" ∷ "D00C810301050082028182190109" ∷ "D009810301020082028182" ∷ [])
+    ("810301050082028281830130" ∷ "810301020082028281830100" ∷ []) ∷
+    -- a profile with 05 and event 09 alone
+    script
+    ("000008000104" ∷ "D00C810301050082028182190109" ∷ "D00C81030105008202818219010A" ∷ [])
+    ("810301050082028281830100" ∷ "810301050082028281830130" ∷ []) ∷
+    []
+
+-- every script prints what it must
+pub edges-printed : map (λ (s : Script). program (map chars (s .given))) edges ≡ map (λ (s : Script). map chars (s .prints)) edges
+unfolding script edges chars _⇒_else_ isEmpty every some-of occurrences member same longLength lengthAt lengthBytes tagAt valueAfter afterTag objectAt onward walkUpTo walk objectBytes written fills following framed contents frame table known rowAmong rowOf times sift present valueOf complete bearerFits lengthFits measured bit kept allowsType allowsEvent allowsBearer channels isEstablished isDropped establish closed isOpen start chan withChan queue withQueue room joined without marked fresh appended removed readied dropped kindOf detailsOf zeros detailsIn pairIn bearerIn transportIn bodyIn commandIn toModem addressed isFault startsWithDetails readObjects reading bit1 capped plain listed listing protocolOf openBefore opening closing receiving sending statusesFrom own cells promisedTo promised unpromised grantFor pairBytes detailsBytes bearerBytes statusBytes statusObject statusObjects furtherObjects resultBytes resultObjects responseObjects responseBytes eventBytes meantBy command numbered arrivalEvent arrival taking dropEvent dropping step after isDigit digitValue with-byte bytesOf frameOf callOf digitOf hex printed callIn perform lineStep linesFrom profileThen program
+edges-printed = refl
