@@ -8,10 +8,10 @@ use lib.ListN.{length}
 use borrow.Author.Tests.{le-ltb, ltb-true, ltb-false}
 use Rattle.rules.specs.declared.ChannelNumber.{ChannelNumber}
 use Rattle.rules.specs.declared.Refusal.{Refusal}
-use Rattle.rules.specs.declared.Refusal.the-variants.{Overfull}
+use Rattle.rules.specs.declared.Refusal.the-variants.{Overfull, NoPlace}
 use Rattle.rules.specs.Words.{channelOf}
 use Rattle.rules.specs.declared.Way.the-variants.{Receive, Send}
-use Rattle.rules.specs.State.{State, Chan, isOpen, isDropped, chan, withChan, room, held, appended, removed}
+use Rattle.rules.specs.State.{State, Chan, isOpen, isDropped, chan, withChan, room, held, arrived, removed, crowded}
 use Rattle.rules.specs.Reading.{Reading, wrong, asked, reading, Command, Body, moreTime, eventList, openChannel, closeChannel, receiveData, sendData, channelStatus, other}
 use Rattle.rules.specs.Own.{Reply, reply, Result, Further, nothing, opened, received, sent, statuses, error, problem, done, capped, sending, own, protocolOf}
 use Rattle.rules.specs.Command.{Answer, Meant, answered, refusal, Outcome, wrote, refused, command, meantBy}
@@ -29,24 +29,26 @@ use Rattle.rules.proofs.Told.{open-changed}
 pub arrival-last :
     (Q : Answer → Type 0) (a : State) (buffer : ℕ) (n : ChannelNumber) (s : List ℕ) → 16 ≤ buffer → Linked a n →
     (room (chan a n) Receive < length s → Q (refusal a Overfull)) →
-    (length s ≤ room (chan a n) Receive → Q (answered (withChan a n (appended (chan a n) Receive s)) (arrivalEvent a n s))) →
+    (length s ≤ room (chan a n) Receive → crowded (chan a n) Receive s ≡ true → Q (refusal a NoPlace)) →
+    (length s ≤ room (chan a n) Receive → crowded (chan a n) Receive s ≡ false → Q (answered (withChan a n (arrived (chan a n) s)) (arrivalEvent a n s))) →
     Q (arrival a buffer n s)
 unfolding arrival
-arrival-last Q a buffer n s b l f g =
+arrival-last Q a buffer n s b l f p g =
     subst Q
     (sym
     (skip _ _ _ (le-ltb buffer 16 b) ∙ skip _ _ _ (ap not (l .number)) ∙ skip _ _ _ (ap not (l .stands)) ∙ skip _ _ _ (ap not (l .link))))
-    (branch Q _ _ _ (λ e. f (ltb-true _ _ e)) (λ e. g (ltb-false _ _ e)))
+    (branch Q _ _ _ (λ e. f (ltb-true _ _ e)) (λ e. branch Q _ _ _ (p (ltb-false _ _ e)) (g (ltb-false _ _ e))))
 
 pub sending-last :
     (Q : Result → Type 0) (a : State) (q : ℕ) (n : ChannelNumber) (s : List ℕ) (i : Bool) → isOpen (chan a n) ≡ true → isDropped (chan a n .link) ≡ false →
     (room (chan a n) Send < length s → Q (problem 0x04)) →
-    (length s ≤ room (chan a n) Send → (x : ℕ) (f : Further) → Q (done x f)) →
+    (length s ≤ room (chan a n) Send → crowded (chan a n) Send s ≡ true → Q (problem 0x04)) →
+    (length s ≤ room (chan a n) Send → crowded (chan a n) Send s ≡ false → (x : ℕ) (f : Further) → Q (done x f)) →
     Q (sending a q n s i .result)
 unfolding sending
-sending-last Q a q n s i o d f g =
+sending-last Q a q n s i o d f p g =
     subst (λ (r : Reply). Q (r .result)) (sym (skip _ _ _ (ap not o) ∙ skip _ _ _ d))
-    (branch (λ (r : Reply). Q (r .result)) _ _ _ (λ e. f (ltb-true _ _ e)) (λ e. g (ltb-false _ _ e) _ _))
+    (branch (λ (r : Reply). Q (r .result)) _ _ _ (λ e. f (ltb-true _ _ e)) (λ e. branch (λ (r : Reply). Q (r .result)) _ _ _ (p (ltb-false _ _ e)) (λ q. g (ltb-false _ _ e) q _ _)))
 
 refused-stays : (a : State) (r : Answer) → accepted (r .outcome) ≡ false → ((why : Refusal) → r .outcome ≡ refused why → r .state ≡ a) → r .state ≡ a
 unfolding accepted
@@ -73,7 +75,7 @@ own-undone a c closeChannel i = closing-cases (Undone-stays a) a (λ _ _ _. refl
 own-undone a c (receiveData r) i =
     receiving-cases (Undone-stays a) a (λ _ _ _. refl) (channelOf (c .destination)) r i (λ _ _ _ e. absurd (true≢false e))
 own-undone a c (sendData s) i =
-    sending-cases (Undone-stays a) a (λ _ _ _. refl) (c .qualifier) (channelOf (c .destination)) s i (λ _ _ _ _ _ e. absurd (true≢false e))
+    sending-cases (Undone-stays a) a (λ _ _ _. refl) (c .qualifier) (channelOf (c .destination)) s i (λ _ _ _ _ _ _ e. absurd (true≢false e))
 own-undone a c channelStatus i = λ _. refl
 own-undone a c (other t) i = λ _. refl
 
@@ -130,7 +132,7 @@ own-counts a c (receiveData r) i =
 own-counts a c (sendData s) i =
     let n = channelOf (c .destination) in
     sending-cases (Counted n) a (λ _ _. tt) (c .qualifier) n s i
-    (λ x _ o _ _. ap (λ (y : Chan). capped (room y Send)) (sym (open-changed a n x o)))
+    (λ x _ o _ _ _. ap (λ (y : Chan). capped (room y Send)) (sym (open-changed a n x o)))
 own-counts a c channelStatus i = tt
 own-counts a c (other t) i = tt
 

@@ -91,6 +91,7 @@ bounds =
     row 0x40 (done 0x07 (opened (status 1 NotYet) (bearer 0x03 0) 1)) true ∷
     row 0x44 (done 0x00 nothing) false ∷
     -- 40 has the causes 01, 04, 06; 41 and 42 have 03; 43 has 02, 03, 04
+    row 0x02 (problem 0x01) false ∷
     row 0x40 (problem 0x06) true ∷
     row 0x40 (problem 0x03) false ∷
     row 0x41 (problem 0x03) true ∷

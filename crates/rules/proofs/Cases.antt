@@ -2,24 +2,24 @@
 -- Assumes nothing.
 use Prim.Native.Nat.{ℕ, _+_, _≤_, min}
 use mathlib.Core.Path.{_≡_, refl}
-use mathlib.Core.Bool.{Bool, true, false}
+use mathlib.Core.Bool.{Bool, true, false, not, _&&_, true≢false}
 use mathlib.Core.List.{List}
 use native.Mathlib.Omega.{arith}
 use lib.ListN.{length, take}
 use lib.Dec.{ltb}
-use borrow.Author.Tests.{ltb-false, eqb-true, eqb-false}
+use borrow.Author.Tests.{ltb-false, eqb-false}
 use Rattle.rules.specs.declared.ChannelNumber.{ChannelNumber}
 use Rattle.rules.specs.declared.Link.{Link}
 use Rattle.rules.specs.declared.Link.the-variants.{NotYet, Established}
 use Rattle.rules.specs.declared.Refusal.{Refusal}
-use Rattle.rules.specs.declared.Refusal.the-variants.{ShortBuffer, NoChannel, Unopened, Unlinked, Overfull, CommandSize}
+use Rattle.rules.specs.declared.Refusal.the-variants.{ShortBuffer, NoChannel, Unopened, Unlinked, Overfull, CommandSize, NoPlace, Undersized}
 use Rattle.rules.specs.Checks.{_⇒_else_, isEmpty, every, some-of, member}
 use Rattle.rules.specs.Profile.{allowsEvent, channels, allowsBearer}
 use Rattle.rules.specs.declared.Way.the-variants.{Receive, Send}
-use Rattle.rules.specs.State.{State, Chan, chan, withChan, isOpen, isEstablished, isDropped, room, closed, fresh, readied, dropped, held, appended, removed}
+use Rattle.rules.specs.State.{State, Chan, chan, withChan, isOpen, isEstablished, isDropped, isStream, room, closed, fresh, readied, dropped, held, atOnce, appended, arrived, removed, crowded}
 use Rattle.rules.specs.Pool.{unpromised, grantFor}
 use Rattle.rules.specs.Reading.{Bearer, reading}
-use Rattle.rules.specs.Own.{Reply, reply, error, problem, done, nothing, opened, received, sent, bit1, plain, capped, openBefore, listing, listed, opening, closing, receiving, sending}
+use Rattle.rules.specs.Own.{Reply, reply, error, problem, done, nothing, opened, received, sent, bit1, plain, capped, openBefore, served, carriedBy, listing, listed, opening, closing, receiving, sending}
 use Rattle.rules.specs.Written.{responseBytes}
 use Rattle.rules.specs.Command.{Answer, answered, refusal, command, meantBy}
 use Rattle.rules.specs.Bench.{causeProper}
@@ -28,6 +28,11 @@ use Rattle.rules.proofs.Laws.{branch, not-not, either-right}
 
 positive : (n : ℕ) → (n ≡ 0 → ⊥) → 1 ≤ n
 positive n h = omega arith
+
+-- of datagrams the buffer has room for the first
+enough : (b : Bool) (buffer k : ℕ) → not b && ltb buffer k ≡ false → b ≡ false → k ≤ buffer
+enough true buffer k e f = absurd (true≢false f)
+enough false buffer k e f = ltb-false buffer k e
 
 -- the channel has a number, stands open and its link is established
 pub record Linked (a : State) (n : ChannelNumber) : Type 0 where
@@ -38,8 +43,8 @@ pub record Linked (a : State) (n : ChannelNumber) : Type 0 where
 module _ (Q : Answer → Type 0) (a : State) (refuse : (r : Refusal) → Q (refusal a r)) where
   pub arrival-cases :
       (buffer : ℕ) (n : ChannelNumber) (s : List ℕ) →
-      (16 ≤ buffer → Linked a n → length s ≤ room (chan a n) Receive →
-      Q (answered (withChan a n (appended (chan a n) Receive s)) (arrivalEvent a n s))) →
+      (16 ≤ buffer → Linked a n → length s ≤ room (chan a n) Receive → crowded (chan a n) Receive s ≡ false →
+      Q (answered (withChan a n (arrived (chan a n) s)) (arrivalEvent a n s))) →
       Q (arrival a buffer n s)
   unfolding arrival
   arrival-cases buffer n s f =
@@ -48,19 +53,21 @@ module _ (Q : Answer → Type 0) (a : State) (refuse : (r : Refusal) → Q (refu
       branch Q _ _ _ (λ _. refuse Unopened) (λ e₄.
       branch Q _ _ _ (λ _. refuse Unlinked) (λ e₅.
       branch Q _ _ _ (λ _. refuse Overfull) (λ e₆.
-      f (ltb-false _ _ e₁) (record { number = not-not _ e₃; stands = not-not _ e₄; link = not-not _ e₅ }) (ltb-false _ _ e₆))))))
+      branch Q _ _ _ (λ _. refuse NoPlace) (λ e₁₁.
+      f (ltb-false _ _ e₁) (record { number = not-not _ e₃; stands = not-not _ e₄; link = not-not _ e₅ }) (ltb-false _ _ e₆) e₁₁))))))
 
   pub taking-cases :
       (buffer : ℕ) (n : ChannelNumber) →
-      (Linked a n →
-      Q (answered (withChan a n (removed (chan a n) Send (min buffer (chan a n .ready)))) (take (min buffer (chan a n .ready)) (held (chan a n) Send)))) →
+      (Linked a n → (isStream (chan a n .carries) ≡ false → atOnce (chan a n) Send ≤ buffer) →
+      Q (answered (withChan a n (removed (chan a n) Send (min buffer (atOnce (chan a n) Send)))) (take (min buffer (atOnce (chan a n) Send)) (held (chan a n) Send)))) →
       Q (taking a buffer n)
   unfolding taking
   taking-cases buffer n f =
       branch Q _ _ _ (λ _. refuse NoChannel) (λ e₃.
       branch Q _ _ _ (λ _. refuse Unopened) (λ e₄.
       branch Q _ _ _ (λ _. refuse Unlinked) (λ e₅.
-      f (record { number = not-not _ e₃; stands = not-not _ e₄; link = not-not _ e₅ }))))
+      branch Q _ _ _ (λ _. refuse Undersized) (λ e₁₂.
+      f (record { number = not-not _ e₃; stands = not-not _ e₄; link = not-not _ e₅ }) (enough (isStream (chan a n .carries)) buffer (atOnce (chan a n) Send) e₁₂)))))
 
   pub dropping-cases :
       (buffer : ℕ) (n : ChannelNumber) →
@@ -112,7 +119,7 @@ causes =
 -- the facts under which an OPEN CHANNEL opens
 pub record Opens (a : State) (b : Bearer) (size protocol : ℕ) : Type 0 where
   pub bearer : allowsBearer (a .profile) (b .kind) ≡ true
-  pub tcp : protocol ≡ 0x02
+  pub carried : served protocol ≡ true
   pub asks : 1 ≤ size
   pub unused : openBefore (channels (a .profile)) (a .chans) ≡ channels (a .profile) → ⊥
   pub free : 2 ≤ unpromised a
@@ -137,7 +144,7 @@ module _ (Q : Reply → Type 0) (a : State) where
       ((number : ChannelNumber) (link : Link) (g : ℕ) →
       number .0 ≡ openBefore (channels (a .profile)) (a .chans) + 1 → link ≡ (bit1 q ⇒ Established else NotYet) → g ≡ grantFor size (unpromised a) →
       Opens a b size protocol →
-      Q (reply (withChan a number (fresh g link)) (done (ltb g size ⇒ 0x07 else plain i) (opened (record { number = number; link = link }) b g)))) →
+      Q (reply (withChan a number (fresh g link (carriedBy protocol))) (done (ltb g size ⇒ 0x07 else plain i) (opened (record { number = number; link = link }) b g)))) →
       Q (opening a q b size protocol i)
   unfolding opening
   opening-cases why q b size protocol i e30 f =
@@ -147,7 +154,7 @@ module _ (Q : Reply → Type 0) (a : State) where
       branch Q _ _ _ (λ _. why 0x01 (causes .at-40-01)) (λ e₄.
       branch Q _ _ _ (λ _. why 0x04 (causes .at-40-04)) (λ e₅.
       f _ _ _ refl refl refl
-      (record { bearer = not-not _ e₁; tcp = eqb-true _ _ (not-not _ e₂); asks = positive _ (eqb-false _ _ e₃); unused = eqb-false _ _ e₄; free = ltb-false _ _ e₅ }))))))
+      (record { bearer = not-not _ e₁; carried = not-not _ e₂; asks = positive _ (eqb-false _ _ e₃); unused = eqb-false _ _ e₄; free = ltb-false _ _ e₅ }))))))
 
   pub closing-cases :
       Why 0x41 →
@@ -160,7 +167,7 @@ module _ (Q : Reply → Type 0) (a : State) where
   pub receiving-cases :
       Why 0x42 →
       (n : ChannelNumber) (request : ℕ) (i : Bool) →
-      ((k : ℕ) → k ≡ min request (min (length (held (chan a n) Receive)) 237) → isOpen (chan a n) ≡ true →
+      ((k : ℕ) → k ≡ min request (min (atOnce (chan a n) Receive) 237) → isOpen (chan a n) ≡ true →
       Q (reply (withChan a n (removed (chan a n) Receive k))
       (done (ltb k request ⇒ 0x02 else plain i) (received (take k (held (chan a n) Receive)) (capped (length (held (removed (chan a n) Receive k) Receive))))))) →
       Q (receiving a n request i)
@@ -171,7 +178,7 @@ module _ (Q : Reply → Type 0) (a : State) where
       Why 0x43 →
       (q : ℕ) (n : ChannelNumber) (s : List ℕ) (i : Bool) →
       ((c : Chan) → c ≡ (bit1 q ⇒ readied (appended (chan a n) Send s) else appended (chan a n) Send s) →
-      isOpen (chan a n) ≡ true → isDropped (chan a n .link) ≡ false → length s ≤ room (chan a n) Send →
+      isOpen (chan a n) ≡ true → isDropped (chan a n .link) ≡ false → length s ≤ room (chan a n) Send → crowded (chan a n) Send s ≡ false →
       Q (reply (withChan a n c) (done (plain i) (sent (capped (room c Send)))))) →
       Q (sending a q n s i)
   unfolding sending
@@ -179,4 +186,5 @@ module _ (Q : Reply → Type 0) (a : State) where
       branch Q _ _ _ (λ _. why 0x03 (causes .at-43-03)) (λ e₁.
       branch Q _ _ _ (λ _. why 0x02 (causes .at-43-02)) (λ e₂.
       branch Q _ _ _ (λ _. why 0x04 (causes .at-43-04)) (λ e₃.
-      f _ refl (not-not _ e₁) e₂ (ltb-false _ _ e₃))))
+      branch Q _ _ _ (λ _. why 0x04 (causes .at-43-04)) (λ e₄.
+      f _ refl (not-not _ e₁) e₂ (ltb-false _ _ e₃) e₄))))

@@ -1,14 +1,14 @@
 -- What the histories promise, over any list of calls: order, bounds, what is accepted and what is done, the counts told, and what ends.
 -- Assumes nothing.
-use Prim.Native.Nat.{ℕ, _-_, _≤_, min}
+use Prim.Native.Nat.{ℕ, zero, suc, _+_, _-_, _≤_, min}
 use mathlib.Core.Path.{_≡_, refl, sym, ap, subst, _∙_}
 use mathlib.Core.Bool.{Bool, true, false, not, _&&_, _||_, true≢false, false≢true}
-use mathlib.Core.List.{List, [], _∷_, _++_}
+use mathlib.Core.List.{List, [], _∷_, _++_, map}
 use mathlib.Core.Option.{some}
 use native.Mathlib.Omega.{arith}
-use lib.ListN.{length, take, drop, length-append, length-drop}
-use lib.Seq.{drop-append-seam}
-use lib.Dec.{ltb, leb}
+use lib.ListN.{length, getD, take, drop, length-append, length-take, length-drop}
+use lib.Seq.{take-take, drop-append-seam, drop-append-add}
+use lib.Dec.{ltb, leb, eqb}
 use borrow.Author.Tests.{le-leb, lt-leb, eq-eqb}
 use Rattle.rules.specs.declared.ChannelNumber.{ChannelNumber}
 use Rattle.rules.specs.declared.Link.{Link}
@@ -16,20 +16,24 @@ use Rattle.rules.specs.Checks.{_⇒_else_, isEmpty, some-of, member}
 use Rattle.rules.specs.Words.{channelOf}
 use Rattle.rules.specs.declared.Way.{Way}
 use Rattle.rules.specs.declared.Way.the-variants.{Receive, Send}
-use Rattle.rules.specs.State.{State, closed, isEstablished, isDropped, chan, room, Chan, queue, held, without, withQueue, removed, appended}
+use Rattle.rules.specs.State.{State, Chan, closed, isOpen, isStream, isEstablished, isDropped, chan, room, queue, held, due, atOnce, without, withQueue, removed, appended, arrived, unfinished, placesUsed, crowded}
+use Rattle.rules.specs.Datagrams.{total, pieces, behind}
 use Rattle.rules.specs.Reading.{reading, kindOf, toModem, Command, Body, Bearer, closeChannel, receiveData, sendData}
+use Rattle.rules.specs.Sound.{SoundChan}
+use Rattle.rules.specs.declared.Refusal.the-variants.{Undersized}
 use Rattle.rules.specs.Own.{Reply, Result, Further, nothing, opened, received, sent, statuses, error, problem, done, capped, plain, closing, receiving, own}
 use Rattle.rules.specs.Written.{unflagged, statusObject, eventBytes}
 use Rattle.rules.specs.Command.{Answer, Outcome, wrote, refused, meantBy}
-use Rattle.rules.specs.Radio.{arrivalEvent, taking}
+use Rattle.rules.specs.Radio.{numbered, arrivalEvent, taking}
 use Rattle.rules.specs.Run.{Call, starting, commanding, arriving, takingOut, droppingLink, step}
 use Rattle.rules.specs.Bench.{Told, told, untold, benchRead}
-use Rattle.rules.specs.History.{History, ended, openedWith, commandSeen, closes, sameNumber, answerTells, heardTells, tells, oldestReady, side, heldBy}
-use Rattle.rules.specs.Demands.{Tells, Follows, reached, told-of, next, latest, accepted, isDone, resultTold, heard, heardDone, answerTo, Passed, opensNumber, touches}
-use Rattle.rules.proofs.Laws.{by-way, branch, stop, skip, either-left, either-right}
+use Rattle.rules.specs.History.{History, ended, openedWith, commandSeen, closes, sameNumber, answerTells, heardTells, tells, carriedIn, oldestReady, side, heldBy, datagramsBy, finishedBy, buildingBy, wholesBy, atOnceBy, placesBy}
+use Rattle.rules.specs.Demands.{Tells, Follows, reached, told-of, next, latest, accepted, isDone, resultTold, heard, heardDone, answerTo, crowdedBy, Passed, opensNumber, touches}
+use Rattle.rules.proofs.Laws.{by-way, branch, stop, skip, either-left, either-right, and-false, same-kind, empty-length}
 use Rattle.rules.proofs.Cases.{arrival-cases, taking-cases, receiving-cases}
-use Rattle.rules.proofs.Soundness.{chan-sound, reached-sound}
-use Rattle.rules.proofs.Told.{open-changed}
+use Rattle.rules.proofs.Datagrams.{first, first-taken, first-piece, length-pieces, pieces-lengths}
+use Rattle.rules.proofs.Soundness.{closed-sound, chan-sound, reached-sound, whole-link}
+use Rattle.rules.proofs.Told.{open-changed, whole-held}
 use Rattle.rules.proofs.Matching.{closed-told, numbered-of}
 use Rattle.rules.proofs.Answers.{arrival-last, sending-last, meant-own, seen-read, Counts, meant-counts, unaccepted-stays, undone-stays}
 use Rattle.rules.proofs.Histories.{follows}
@@ -41,6 +45,12 @@ unfolding heldBy
 held-told c h f w =
     let e = sym (ap (λ (l : List ℕ). length l) (f .order w)) ∙ length-append (side h w .out) (held c w) in
     omega (arith, e)
+
+-- as many bytes as were taken, taken again
+take-back : (k : ℕ) (s : List ℕ) → take (length (take k s)) s ≡ take k s
+take-back zero s = refl
+take-back (suc k) [] = refl
+take-back (suc k) (x ∷ s) = ap (λ (t : List ℕ). x ∷ t) (take-back k s)
 
 -- what follows the bytes handed out is what is held
 rest-is : (x y z : List ℕ) → x ++ y ≡ z → drop (length x) z ≡ y
@@ -57,18 +67,108 @@ event-same :
 event-same n c h f =
     λ i. eventBytes 0x09 (statusObject n (sym (f .link) i) ∷ unflagged 0x37 (capped (sym (held-told c h f Receive) i) ∷ []) ∷ [])
 
+-- of datagrams: those to send that are finished, the bytes behind them, and the first of each way
+finished-rest : (c : Chan) (h : History) → Tells c h → isStream (c .carries) ≡ false → finishedBy h ≡ pieces (c .send .lengths) (c .send .bytes)
+unfolding finishedBy
+finished-rest c h f e =
+    ap (λ (l : List (List ℕ)). drop (length (h .send .given)) l) (sym (f .finished e)) ∙ drop-append-seam (h .send .given) (pieces (c .send .lengths) (c .send .bytes))
+
+pub building-told : (c : Chan) (h : History) → Tells c h → buildingBy h ≡ drop (c .ready) (held c Send)
+unfolding buildingBy queue side
+building-told c h f = (λ i. drop (f .ready i) (sym (f .order Send) i)) ∙ drop-append-add (h .send .out) (c .send .bytes) (c .ready)
+
+module _ (c : Chan) (h : History) (f : Tells c h) (o : SoundChan c) where
+  enough : (w : Way) → isStream (c .carries) ≡ false → total (queue c w .lengths) ≤ length (held c w)
+  unfolding due
+  enough Receive e = omega (arith, o .lengths Receive .all e)
+  enough Send e = omega (arith, o .lengths Send .all e, o .ready-held)
+
+  datagram-told : isStream (c .carries) ≡ false → isStream (h .carries) ≡ false
+  datagram-told e = ap isStream (f .carries) ∙ e
+
+  -- what may be handed out at once, and the places used, by the history
+  pub once-told : (w : Way) → atOnce c w ≡ atOnceBy h w
+  unfolding atOnce atOnceBy due queue
+  once-told Receive =
+      same-kind (isStream (c .carries)) (isStream (h .carries)) _ _ _ _ (ap isStream (f .carries)) (λ _. sym (held-told c h f Receive))
+      (λ e. sym (first-piece (c .receive .lengths) (c .receive .bytes) (enough Receive e)) ∙ ap (λ (ds : List (List ℕ)). length (getD ds 0 [])) (f .received e))
+  once-told Send =
+      same-kind (isStream (c .carries)) (isStream (h .carries)) _ _ _ _ (ap isStream (f .carries)) (λ _. omega (arith, f .ready))
+      (λ e. sym (first-piece (c .send .lengths) (c .send .bytes) (enough Send e)) ∙ ap (λ (ds : List (List ℕ)). length (getD ds 0 [])) (sym (finished-rest c h f e)))
+
+  building-size : length (buildingBy h) ≡ unfinished c
+  unfolding unfinished
+  building-size = ap (λ (l : List ℕ). length l) (building-told c h f) ∙ length-drop (c .ready) (held c Send)
+
+  pub places-told : (w : Way) → isStream (c .carries) ≡ false → placesUsed c w ≡ placesBy h w
+  unfolding placesUsed placesBy
+  places-told Receive e = sym (ap (λ (ds : List (List ℕ)). length ds) (sym (f .received e)) ∙ length-pieces (c .receive .lengths) (c .receive .bytes))
+  places-told Send e =
+      let n = ap (λ (ds : List (List ℕ)). length ds) (finished-rest c h f e) ∙ length-pieces (c .send .lengths) (c .send .bytes) in
+      omega (arith, n, building-size)
+
+  pub crowded-told : (w : Way) (s : List ℕ) → crowded c w s ≡ crowdedBy h w s
+  unfolding crowded crowdedBy placesUsed queue
+  crowded-told Receive s = by (isStream (c .carries)) refl
+    where
+      by : (b : Bool) → isStream (c .carries) ≡ b → crowded c Receive s ≡ crowdedBy h Receive s
+      by true e =
+          ap (λ (l : List ℕ). not (isEmpty s) && leb 16 (length l)) (o .lengths Receive .none e) ∙ and-false (not (isEmpty s))
+          ∙ sym (ap (λ (t : Bool). not t && not (isEmpty s) && leb 16 (placesBy h Receive)) (ap isStream (f .carries) ∙ e))
+      by false e =
+          ap (λ (n : ℕ). not (isEmpty s) && leb 16 n) (places-told Receive e)
+          ∙ sym (ap (λ (t : Bool). not t && not (isEmpty s) && leb 16 (placesBy h Receive)) (datagram-told e))
+  crowded-told Send s = by (isStream (c .carries)) refl
+    where
+      by : (b : Bool) → isStream (c .carries) ≡ b → crowded c Send s ≡ crowdedBy h Send s
+      by true e =
+          let none : length (c .send .lengths) ≡ 0 = ap (λ (l : List ℕ). length l) (o .lengths Send .none e) in
+          ap (λ (t : Bool). not (isEmpty s) && eqb (unfinished c) 0 && t) (lt-leb 16 (length (c .send .lengths) + min 1 (unfinished c)) (omega arith))
+          ∙ and-false (not (isEmpty s) && eqb (unfinished c) 0)
+          ∙ sym (ap (λ (t : Bool). not t && not (isEmpty s) && isEmpty (buildingBy h) && leb 16 (placesBy h Send)) (ap isStream (f .carries) ∙ e))
+      by false e =
+          (λ i. not (isEmpty s) && (ap (λ (n : ℕ). eqb n 0) (sym building-size) ∙ empty-length (buildingBy h)) i && leb 16 (places-told Send e i))
+          ∙ sym (ap (λ (t : Bool). not t && not (isEmpty s) && isEmpty (buildingBy h) && leb 16 (placesBy h Send)) (datagram-told e))
+
+  -- the lengths of a way, by the history
+  lengths-are : (w : Way) → isStream (c .carries) ≡ false → map (λ (d : List ℕ). length d) (wholesBy h w) ≡ queue c w .lengths
+  unfolding wholesBy queue
+  lengths-are Receive e =
+      ap (λ (ds : List (List ℕ)). map (λ (d : List ℕ). length d) ds) (sym (f .received e)) ∙ pieces-lengths (c .receive .lengths) (c .receive .bytes) (enough Receive e)
+  lengths-are Send e =
+      ap (λ (ds : List (List ℕ)). map (λ (d : List ℕ). length d) ds) (finished-rest c h f e) ∙ pieces-lengths (c .send .lengths) (c .send .bytes) (enough Send e)
+
 -- a history tells one channel
-pub one-told : (c d : Chan) (h : History) → Tells c h → Tells d h → c ≡ d
+pub one-told : (c d : Chan) (h : History) → Tells c h → Tells d h → SoundChan c → SoundChan d → c ≡ d
 unfolding queue
-one-told c d h f g =
+one-told c d h f g o u =
     let grant = sym (f .grant) ∙ g .grant in
     let link = sym (f .link) ∙ g .link in
+    let carries = sym (f .carries) ∙ g .carries in
     let bytes : (w : Way) → held c w ≡ held d w = λ w. sym (rest-told c h f w) ∙ rest-told d h g w in
     let ready : c .ready ≡ d .ready = omega (arith, f .ready, g .ready) in
-    λ i. record { grant = grant i; link = link i; receive = record { bytes = bytes Receive i }; send = record { bytes = bytes Send i }; ready = ready i }
+    let lengths : (w : Way) → queue c w .lengths ≡ queue d w .lengths =
+    λ w.
+    by-kind (isStream (c .carries)) (queue c w .lengths) (queue d w .lengths)
+    (λ e. o .lengths w .none e ∙ sym (u .lengths w .none (sym (ap isStream carries) ∙ e)))
+    (λ e. sym (lengths-are c h f o w e) ∙ lengths-are d h g u w (sym (ap isStream carries) ∙ e))
+    in
+    λ i.
+    record {
+      grant = grant i;
+      link = link i;
+      carries = carries i;
+      receive = record { bytes = bytes Receive i; lengths = lengths Receive i };
+      send = record { bytes = bytes Send i; lengths = lengths Send i };
+      ready = ready i;
+    }
+  where
+    by-kind : (b : Bool) (x y : List ℕ) → (b ≡ true → x ≡ y) → (b ≡ false → x ≡ y) → x ≡ y
+    by-kind true x y p q = p refl
+    by-kind false x y p q = q refl
 
-closed-only : (c : Chan) → Tells c ended → c ≡ closed
-closed-only c f = one-told c closed ended f closed-told
+closed-only : (c : Chan) → Tells c ended → SoundChan c → c ≡ closed
+closed-only c f o = one-told c closed ended f closed-told o closed-sound
 
 -- a call that does not touch a channel tells nothing of it
 untouched-answer :
@@ -103,6 +203,20 @@ untouched-tells n h (commanding buffer s) (refused r) e = refl
 untouched-tells n h (arriving buffer m s) (refused r) e = refl
 untouched-tells n h (takingOut buffer m) (refused r) e = refl
 untouched-tells n h (droppingLink buffer m) (refused r) e = refl
+
+-- what fits is accepted exactly where there is a place
+fits-so : (k space : ℕ) (t : Bool) → k ≤ space → (u : Bool) → t ≡ u → leb k space && not t ≡ not u
+fits-so k space t h u e = (λ i. le-leb k space h i && not (e i))
+
+-- the event tells the channel behind the arrival
+event-arrived :
+    (n : ChannelNumber) (c : Chan) (s : List ℕ) →
+    eventBytes 0x09 (statusObject n (appended c Receive s .link) ∷ unflagged 0x37 (capped (length (held (appended c Receive s) Receive)) ∷ []) ∷ []) ≡
+    eventBytes 0x09 (statusObject n (arrived c s .link) ∷ unflagged 0x37 (capped (length (held (arrived c s) Receive)) ∷ []) ∷ [])
+unfolding arrived
+event-arrived n c s =
+    let x = appended c Receive s in
+    λ i. eventBytes 0x09 (statusObject n (sym (whole-link x Receive (length s)) i) ∷ unflagged 0x37 (capped (length (sym (whole-held x Receive Receive (length s)) i)) ∷ []) ∷ [])
 
 -- a call that was not accepted, and a command that was not done, change nothing
 pub refused-stays : (p : List ℕ) (cs : List Call) (c : Call) → accepted (step (reached p cs) c .outcome) ≡ false → reached p (next cs c) ≡ reached p cs
@@ -140,17 +254,22 @@ module _ (n : ChannelNumber) (from : 1 ≤ n .0) (upto : n .0 ≤ 7) (p : List �
       let o = chan-sound a n (reached-sound p cs) in
       omega (arith, o .fits w, seen .grant, held-is w)
 
-  -- an arrival on an established link is accepted exactly when it fits the grant less what is held
+  sound : SoundChan (chan a n)
+  sound = chan-sound a n (reached-sound p cs)
+
+  -- an arrival on an established link is accepted exactly when it fits the grant less what is held, and there is a place for a datagram that it begins
   pub arrival-accepted :
       (buffer : ℕ) (s : List ℕ) → 16 ≤ buffer → h .stands ≡ true → isEstablished (h .link) ≡ true →
-      accepted (step a (arriving buffer n s) .outcome) ≡ leb (length s) (h .grant - heldBy h Receive)
+      accepted (step a (arriving buffer n s) .outcome) ≡ leb (length s) (h .grant - heldBy h Receive) && not (crowdedBy h Receive s)
   unfolding step accepted room
   arrival-accepted buffer s b o l =
       let space = h .grant - heldBy h Receive in
-      arrival-last (λ (r : Answer). accepted (r .outcome) ≡ leb (length s) space) a buffer n s b
+      let place = crowded-told (chan a n) h seen sound Receive s in
+      arrival-last (λ (r : Answer). accepted (r .outcome) ≡ leb (length s) space && not (crowdedBy h Receive s)) a buffer n s b
       (record { number = numbered-of n from upto; stands = sym (seen .stands) ∙ o; link = ap isEstablished (sym (seen .link)) ∙ l })
-      (λ f. sym (lt-leb (length s) space (omega (arith, f, seen .grant, held-is Receive))))
-      (λ f. sym (le-leb (length s) space (omega (arith, f, seen .grant, held-is Receive))))
+      (λ f. sym (ap (λ (t : Bool). t && not (crowdedBy h Receive s)) (lt-leb (length s) space (omega (arith, f, seen .grant, held-is Receive)))))
+      (λ f q. sym (fits-so (length s) space (crowdedBy h Receive s) (omega (arith, f, seen .grant, held-is Receive)) true (sym place ∙ q)))
+      (λ f q. sym (fits-so (length s) space (crowdedBy h Receive s) (omega (arith, f, seen .grant, held-is Receive)) false (sym place ∙ q)))
 
   -- the event that an arrival raises tells the link and the count of bytes held behind it, up to FF
   pub event-told :
@@ -163,41 +282,53 @@ module _ (n : ChannelNumber) (from : 1 ≤ n .0) (upto : n .0 ≤ 7) (p : List �
       let E : List ℕ = eventBytes 0x09 (statusObject n (h′ .link) ∷ unflagged 0x37 (capped (heldBy h′ Receive) ∷ []) ∷ []) in
       let after : Tells (chan (step a (arriving buffer n s) .state) n) h′ = subst (λ (b : State). Follows n b h′) (reached-next p cs (arriving buffer n s)) (follows n p (next cs (arriving buffer n s)) from) in
       arrival-cases (λ (r : Answer). r .outcome ≡ wrote t → Tells (chan (r .state) n) h′ → t ≡ E) a (λ _ q _. absurd (false≢true (cc))) buffer n s
-      (λ _ l _ q k.
-      let c = appended (chan a n) Receive s in
+      (λ _ l _ _ q k.
+      let c = arrived (chan a n) s in
       let now : Tells c h′ = subst (λ (d : Chan). Tells d h′) (open-changed a n c (l .stands)) k in
       branch (λ (x : List ℕ). wrote x ≡ wrote t → t ≡ E) (not (isEmpty s) && a .events .available) _ _
-      (λ _ g. let is : _ ≡ t = cc in sym is ∙ event-same n c h′ now)
+      (λ _ g. let is : _ ≡ t = cc in sym is ∙ event-arrived n (chan a n) s ∙ event-same n c h′ now)
       (λ _ g. let none-told : t ≡ [] = cc in absurd (false≢true (sym f ∙ ap (λ (l : List ℕ). isEmpty l) none-told))) q)
       e after
 
-  ready-bytes : (buffer : ℕ) → take (min buffer (chan a n .ready)) (held (chan a n) Send) ≡ oldestReady h buffer
+  -- of a take the number, the channel and its link pass
+  permitted-so : (x y z w : Answer) → h .stands ≡ true → isEstablished (h .link) ≡ true → (not (numbered n) ⇒ x else not (isOpen (chan a n)) ⇒ y else not (isEstablished (chan a n .link)) ⇒ z else w) ≡ w
+  permitted-so x y z w o l =
+      skip _ _ _ (ap not (numbered-of n from upto)) ∙ skip _ _ _ (ap not (sym (seen .stands) ∙ o)) ∙ skip _ _ _ (ap not (ap isEstablished (sym (seen .link)) ∙ l))
+
+  short-told : (buffer : ℕ) → not (isStream (chan a n .carries)) && ltb buffer (atOnce (chan a n) Send) ≡ not (isStream (h .carries)) && ltb buffer (atOnceBy h Send)
+  short-told buffer = λ i. not (isStream (sym (seen .carries) i)) && ltb buffer (once-told (chan a n) h seen sound Send i)
+
+  ready-bytes : (buffer : ℕ) → take (min buffer (atOnce (chan a n) Send)) (held (chan a n) Send) ≡ oldestReady h buffer
   unfolding oldestReady side
-  ready-bytes buffer =
-      let many : chan a n .ready ≡ h .readied - length (h .send .out) = omega (arith, seen .ready) in
-      λ i. take (min buffer (many i)) (sym (rest-told (chan a n) h seen Send) i)
+  ready-bytes buffer = λ i. take (min buffer (once-told (chan a n) h seen sound Send i)) (sym (rest-told (chan a n) h seen Send) i)
 
   -- what a take hands out is the oldest bytes that are ready, as many as fit
   pub ready : (buffer : ℕ) (t : List ℕ) → step a (takingOut buffer n) .outcome ≡ wrote t → t ≡ oldestReady h buffer
   unfolding step
   ready buffer t =
       taking-cases (λ (r : Answer). r .outcome ≡ wrote t → t ≡ oldestReady h buffer) a (λ _ e. absurd (false≢true (cc))) buffer n
-      (λ _ e. let is : take (min buffer (chan a n .ready)) (held (chan a n) Send) ≡ t = cc in sym is ∙ ready-bytes buffer)
+      (λ _ _ e. let is : take (min buffer (atOnce (chan a n) Send)) (held (chan a n) Send) ≡ t = cc in sym is ∙ ready-bytes buffer)
 
-  -- and on an open channel with an established link a take hands them out
+  -- and on an open channel with an established link a take hands them out, of datagrams where the buffer has room for the first
   pub take-done :
-      (buffer : ℕ) → h .stands ≡ true → isEstablished (h .link) ≡ true → step a (takingOut buffer n) .outcome ≡ wrote (oldestReady h buffer)
+      (buffer : ℕ) → h .stands ≡ true → isEstablished (h .link) ≡ true → not (isStream (h .carries)) && ltb buffer (atOnceBy h Send) ≡ false →
+      step a (takingOut buffer n) .outcome ≡ wrote (oldestReady h buffer)
   unfolding step taking
-  take-done buffer o l =
-      ap (λ (r : Answer). r .outcome)
-      (skip _ _ _ (ap not (numbered-of n from upto)) ∙ skip _ _ _ (ap not (sym (seen .stands) ∙ o)) ∙ skip _ _ _ (ap not (ap isEstablished (sym (seen .link)) ∙ l)))
-      ∙ ap wrote (ready-bytes buffer)
+  take-done buffer o l fit =
+      ap (λ (r : Answer). r .outcome) (permitted-so _ _ _ _ o l ∙ skip _ _ _ (short-told buffer ∙ fit)) ∙ ap wrote (ready-bytes buffer)
 
-  -- what a RECEIVE DATA hands out is the oldest bytes held: the least of the request, those held and 237
+  -- where it has not, nothing is handed over
+  pub take-short :
+      (buffer : ℕ) → h .stands ≡ true → isEstablished (h .link) ≡ true → not (isStream (h .carries)) && ltb buffer (atOnceBy h Send) ≡ true →
+      step a (takingOut buffer n) .outcome ≡ refused Undersized
+  unfolding step taking
+  take-short buffer o l short = ap (λ (r : Answer). r .outcome) (permitted-so _ _ _ _ o l ∙ stop _ _ _ (short-told buffer ∙ short))
+
+  -- what a RECEIVE DATA hands out is the oldest bytes held: the least of the request, what may be handed out at once and 237
   pub oldest :
       (buffer : ℕ) (s : List ℕ) (request x : ℕ) (d : List ℕ) (left : ℕ) → channelOf (commandSeen s .destination) ≡ n →
       commandSeen s .body ≡ receiveData request → answerTo p cs buffer s ≡ some (done x (received d left)) →
-      d ≡ take (min request (min (heldBy h Receive) 237)) (drop (length (h .receive .out)) (h .receive .accepted))
+      d ≡ take (min request (min (atOnceBy h Receive) 237)) (drop (length (h .receive .out)) (h .receive .accepted))
   unfolding own side
   oldest buffer s request x d left eⁿ eᵇ e =
       let w = answer-meant p cs buffer s (done x (received d left)) e in
@@ -208,9 +339,9 @@ module _ (n : ChannelNumber) (from : 1 ≤ n .0) (upto : n .0 ≤ 7) (p : List �
       ∙ ap (λ (j : Command). receiving a (channelOf (j .destination)) request (c .1)) (sym k)
       ∙ ap (λ (m : ChannelNumber). receiving a m request (c .1)) eⁿ
       in
-      receiving-cases (λ (r : Reply). done x (received d left) ≡ r .result → d ≡ take (min request (min (heldBy h Receive) 237)) (drop (length (h .receive .out)) (h .receive .accepted))) a
+      receiving-cases (λ (r : Reply). done x (received d left) ≡ r .result → d ≡ take (min request (min (atOnceBy h Receive) 237)) (drop (length (h .receive .out)) (h .receive .accepted))) a
       (λ _ _ q. absurd (false≢true (cc))) n request (c .1)
-      (λ k eᵏ _ q. rw (rest-told (chan a n) h seen Receive, held-is Receive) (cc))
+      (λ k eᵏ _ q. rw (rest-told (chan a n) h seen Receive, sym (once-told (chan a n) h seen sound Receive)) (cc))
       (w .result ∙ ap (λ (r : Reply). r .result) meant)
 
   -- the count that an answer tells is what the history behind it leaves held, or the room that it leaves, up to FF
@@ -242,18 +373,18 @@ module _ (n : ChannelNumber) (from : 1 ≤ n .0) (upto : n .0 ≤ 7) (p : List �
   unfolding tells step
   start-ends q =
       let e = told-next n p cs (starting q) in
-      (e, closed-only (chan (reached p (next cs (starting q))) n) (subst (Tells (chan (reached p (next cs (starting q))) n)) e (follows n p (next cs (starting q)) from)))
+      (e, closed-only (chan (reached p (next cs (starting q))) n) (subst (Tells (chan (reached p (next cs (starting q))) n)) e (follows n p (next cs (starting q)) from)) (chan-sound (reached p (next cs (starting q))) n (reached-sound p (next cs (starting q)))))
 
   -- an answer that tells of an opening begins the channel anew: it has the grant and the link told, holds nothing either way, and nothing is ready
   pub opening-begins :
       (buffer : ℕ) (s : List ℕ) (x : ℕ) (l : Link) (b : Bearer) (g : ℕ) → answerTo p cs buffer s ≡ some (done x (opened (record { number = n; link = l }) b g)) →
       let c = chan (reached p (next cs (commanding buffer s))) n in
-      (told-of n p (next cs (commanding buffer s)) ≡ openedWith g l) × (c .grant ≡ g) × (c .link ≡ l) × ((w : Way) → held c w ≡ []) × (c .ready ≡ 0)
+      (told-of n p (next cs (commanding buffer s)) ≡ openedWith g l (carriedIn (commandSeen s .body))) × (c .grant ≡ g) × (c .link ≡ l) × ((w : Way) → held c w ≡ []) × (c .ready ≡ 0)
   unfolding answerTells openedWith side
   opening-begins buffer s x l b g e =
       let c = chan (reached p (next cs (commanding buffer s))) n in
       let told = answer-tells n p cs buffer s _ e ∙ stop _ _ _ (eq-eqb (n .0) (n .0) refl) in
-      let f : Tells c (openedWith g l) = subst (Tells c) told (follows n p (next cs (commanding buffer s)) from) in
+      let f : Tells c (openedWith g l (carriedIn (commandSeen s .body))) = subst (Tells c) told (follows n p (next cs (commanding buffer s)) from) in
       (told, sym (f .grant), sym (f .link), by-way (λ (w : Way). held c w ≡ []) (f .order Receive) (f .order Send), omega (arith, f .ready))
 
   -- a call that does not touch a channel leaves it as it was
@@ -261,6 +392,7 @@ module _ (n : ChannelNumber) (from : 1 ≤ n .0) (upto : n .0 ≤ 7) (p : List �
   others-keep c e =
       let same = told-next n p cs c ∙ untouched-tells n h c (step a c .outcome) e in
       one-told (chan (reached p (next cs c)) n) (chan a n) h (subst (Tells (chan (reached p (next cs c)) n)) same (follows n p (next cs c) from)) seen
+      (chan-sound (reached p (next cs c)) n (reached-sound p (next cs c))) sound
 
 module _ (p : List ℕ) (cs : List Call) (buffer : ℕ) (s : List ℕ) (c : Command) (i : Bool) (w : Passed (latest p cs) buffer s c i) where
   -- of a command that passed steps 1 to 8: the channel that it goes to, and its history
@@ -273,24 +405,26 @@ module _ (p : List ℕ) (cs : List Call) (buffer : ℕ) (s : List ℕ) (c : Comm
   pub follows-to : toModem (kindOf (c .body)) ≡ false → Follows to (reached p cs) of
   follows-to e = follows to p cs (aimed-number p cs buffer s c i w e .0)
 
-  -- a SEND DATA on an open channel whose link was not dropped is done exactly when its data fits the grant less what is held
+  -- a SEND DATA on an open channel whose link was not dropped is done exactly when its data fits the grant less what is held, and there is a place for a datagram that it begins
   pub send-accepted :
       (d : List ℕ) → c .body ≡ sendData d → of .stands ≡ true → isDropped (of .link) ≡ false →
-      heardDone (answerTo p cs buffer s) ≡ leb (length d) (of .grant - heldBy of Send)
+      heardDone (answerTo p cs buffer s) ≡ leb (length d) (of .grant - heldBy of Send) && not (crowdedBy of Send d)
   unfolding own heardDone isDone room kindOf toModem member some-of
   send-accepted d e o l =
       let f = follows-to (ap (λ (b : Body). toModem (kindOf b)) e) in
       let space = of .grant - heldBy of Send in
       let left = held-told (chan (reached p cs) to) of f Send in
+      let place = crowded-told (chan (reached p cs) to) of f (chan-sound (reached p cs) to (reached-sound p cs)) Send d in
       ap heardDone (own-heard p cs buffer s c i w (sendData d) e)
-      ∙ sending-last (λ (r : Result). isDone r ≡ leb (length d) space) (reached p cs) (c .qualifier) to d i (sym (f .stands) ∙ o) (ap isDropped (sym (f .link)) ∙ l)
-      (λ g. sym (lt-leb (length d) space (omega (arith, g, f .grant, left))))
-      (λ g _ _. sym (le-leb (length d) space (omega (arith, g, f .grant, left))))
+      ∙ sending-last (λ (r : Result). isDone r ≡ leb (length d) space && not (crowdedBy of Send d)) (reached p cs) (c .qualifier) to d i (sym (f .stands) ∙ o) (ap isDropped (sym (f .link)) ∙ l)
+      (λ g. sym (ap (λ (t : Bool). t && not (crowdedBy of Send d)) (lt-leb (length d) space (omega (arith, g, f .grant, left)))))
+      (λ g q. sym (fits-so (length d) space (crowdedBy of Send d) (omega (arith, g, f .grant, left)) true (sym place ∙ q)))
+      (λ g q _ _. sym (fits-so (length d) space (crowdedBy of Send d) (omega (arith, g, f .grant, left)) false (sym place ∙ q)))
 
   -- a RECEIVE DATA on an open channel is done: it hands out the oldest bytes, and tells what is left
   pub receive-done :
       (request : ℕ) → c .body ≡ receiveData request → of .stands ≡ true →
-      let k = min request (min (heldBy of Receive) 237) in
+      let k = min request (min (atOnceBy of Receive) 237) in
       answerTo p cs buffer s ≡
       some (done (ltb k request ⇒ 0x02 else plain i) (received (take k (drop (length (of .receive .out)) (of .receive .accepted))) (capped (heldBy of Receive - k))))
   unfolding own receiving removed withQueue without queue side kindOf toModem member some-of
@@ -299,7 +433,7 @@ module _ (p : List ℕ) (cs : List Call) (buffer : ℕ) (s : List ℕ) (c : Comm
       let x = chan (reached p cs) to in
       own-heard p cs buffer s c i w (receiveData request) e
       ∙ ap (λ (r : Reply). some (r .result)) (skip _ _ _ (ap not (sym (f .stands) ∙ o)))
-      ∙ rw (held-told x of f Receive, rest-told x of f Receive, length-drop (min request (min (length (held x Receive)) 237)) (held x Receive)) refl
+      ∙ rw (held-told x of f Receive, sym (once-told x of f (chan-sound (reached p cs) to (reached-sound p cs)) Receive), rest-told x of f Receive, length-drop (min request (min (atOnce x Receive) 237)) (held x Receive)) refl
 
   -- a CLOSE CHANNEL of an open channel is done, and ends it, in the history and in the session
   pub close-done :
@@ -320,3 +454,57 @@ module _ (p : List ℕ) (cs : List Call) (buffer : ℕ) (s : List ℕ) (c : Comm
             ∙ stop _ _ _ (ap closes e) ∙ stop _ _ _ (eq-eqb (to .0) (to .0) refl),
         gone ∙ open-changed (reached p cs) to closed stands,
       )
+
+-- datagram channels, after any list of calls
+module _ (n : ChannelNumber) (from : 1 ≤ n .0) (p : List ℕ) (cs : List Call) (kind : isStream (told-of n p cs .carries) ≡ false) where
+  abbrev at : Chan
+  at = chan (reached p cs) n
+
+  abbrev seen-of : History
+  seen-of = told-of n p cs
+
+  tells-of : Tells at seen-of
+  tells-of = follows n p cs from
+
+  datagrams-so : isStream (at .carries) ≡ false
+  datagrams-so = sym (ap isStream (tells-of .carries)) ∙ kind
+
+  sound-of : SoundChan at
+  sound-of = chan-sound (reached p cs) n (reached-sound p cs)
+
+  -- whole, receive: the datagrams held are the arrivals that had bytes, less what was handed out from their front
+  pub whole-receive : pieces (at .receive .lengths) (at .receive .bytes) ≡ behind (length (seen-of .receive .out)) (seen-of .receive .whole)
+  unfolding datagramsBy
+  whole-receive = tells-of .received datagrams-so
+
+  -- whole, send: what the takes handed over, followed by the finished datagrams held, is the list of datagrams that SEND DATA finished
+  pub whole-send : seen-of .send .given ++ pieces (at .send .lengths) (at .send .bytes) ≡ seen-of .send .whole
+  whole-send = tells-of .finished datagrams-so
+
+  -- and the bytes accepted since the last finished one are the unfinished one
+  pub building : drop (seen-of .readied) (seen-of .send .accepted) ≡ drop (at .ready) (at .send .bytes)
+  unfolding buildingBy queue
+  building = building-told at seen-of tells-of
+
+  -- places: at most 16 each way, the unfinished one included, in the session and in the history
+  pub places : (w : Way) → (placesUsed at w ≤ 16) × (placesBy seen-of w ≤ 16)
+  places w = let e = places-told at seen-of tells-of sound-of w datagrams-so in (sound-of .lengths w .few, omega (arith, e, sound-of .lengths w .few))
+
+  -- what an answer to RECEIVE DATA hands out lies within the first datagram held, from its front
+  pub within-first :
+      (buffer : ℕ) (s : List ℕ) (request x : ℕ) (d : List ℕ) (left : ℕ) → n .0 ≤ 7 → channelOf (commandSeen s .destination) ≡ n →
+      commandSeen s .body ≡ receiveData request → answerTo p cs buffer s ≡ some (done x (received d left)) →
+      d ≡ take (length d) (getD (datagramsBy seen-of) 0 [])
+  unfolding side queue atOnce
+  within-first buffer s request x d left upto eⁿ eᵇ e =
+      let held-now = at .receive .bytes in
+      let ls = at .receive .lengths in
+      let most = min request (min (atOnceBy seen-of Receive) 237) in
+      let same : d ≡ take most held-now =
+      oldest n from upto p cs buffer s request x d left eⁿ eᵇ e ∙ ap (take most) (rest-told at seen-of tells-of Receive)
+      in
+      let once : atOnceBy seen-of Receive ≡ first ls = sym (once-told at seen-of tells-of sound-of Receive) ∙ skip _ _ _ datagrams-so in
+      let size = ap (λ (l : List ℕ). length l) same ∙ length-take most held-now in
+      sym
+      (ap (λ (ds : List (List ℕ)). take (length d) (getD ds 0 [])) (sym (tells-of .received datagrams-so)) ∙ ap (take (length d)) (first-taken ls held-now)
+      ∙ take-take (length d) (first ls) held-now (omega arith) ∙ ap (λ (m : ℕ). take m held-now) (ap (λ (l : List ℕ). length l) same) ∙ take-back most held-now ∙ sym same)

@@ -1,32 +1,34 @@
 -- What was seen of a channel tells the channel: its grant, its link, and each way accepted is handed out followed by held.
 -- Assumes nothing.
 use Prim.Native.Nat.{ℕ, _-_, _≤_, min}
-use mathlib.Core.Path.{_≡_, refl, sym, ap, subst}
-use mathlib.Core.Bool.{Bool}
+use mathlib.Core.Path.{_≡_, refl, sym, ap, subst, _∙_}
+use mathlib.Core.Bool.{Bool, false}
 use mathlib.Core.List.{List, [], _∷_}
 use native.Mathlib.Omega.{arith}
 use lib.ListN.{take, replicate}
+use Rattle.rules.specs.declared.Carries.{Carries}
 use Rattle.rules.specs.declared.ChannelNumber.{ChannelNumber}
 use Rattle.rules.specs.Checks.{_⇒_else_, some-of, member}
 use Rattle.rules.specs.Words.{channelOf}
 use Rattle.rules.specs.Frames.{contents}
 use Rattle.rules.specs.declared.Way.the-variants.{Receive, Send}
-use Rattle.rules.specs.State.{State, Chan, due, start, closed, chan, withChan, fresh, dropped, held, appended, removed}
+use Rattle.rules.specs.State.{State, Chan, isStream, start, closed, chan, withChan, queue, fresh, dropped, held, atOnce, appended, arrived, removed}
 use Rattle.rules.specs.Pool.{unpromised}
 use Rattle.rules.specs.Reading.{Reading, reading, Command, Body, moreTime, eventList, openChannel, closeChannel, receiveData, sendData, channelStatus, other, kindOf, commandIn, toModem}
-use Rattle.rules.specs.Own.{Reply, bit1, listed, own, protocolOf}
+use Rattle.rules.specs.Own.{Reply, bit1, listed, own, protocolOf, carriedBy}
 use Rattle.rules.specs.Command.{Answer, Meant, wrote, command, meantBy}
 use Rattle.rules.specs.Run.{Call, starting, commanding, arriving, takingOut, droppingLink, step, after}
 use Rattle.rules.specs.Sound.{Sound}
-use Rattle.rules.specs.History.{History, ended, openedWith, readiedIn, droppedIn, commandSeen, dataOf, closes, answerTells, heardTells, tells, historyFrom, history, seenFrom, acceptedIn, outIn}
+use Rattle.rules.specs.History.{History, ended, openedWith, readiedIn, droppedIn, commandSeen, dataOf, carriedIn, closes, answerTells, heardTells, tells, historyFrom, history, seenFrom, acceptedIn, wholeIn, outIn}
 use Rattle.rules.specs.Demands.{Tells, Follows, reached, told-of}
 use Rattle.rules.proofs.Laws.{stop, skip, each-get, each-replicate}
 use Rattle.rules.proofs.Cases.{arrival-cases, taking-cases, dropping-cases, command-cases, listing-cases, opening-cases, closing-cases, receiving-cases, sending-cases}
 use Rattle.rules.proofs.Readings.{detailsRead, counted, reading-cases}
 use Rattle.rules.proofs.Grants.{Granted, grant-law}
-use Rattle.rules.proofs.Soundness.{chan-sound, opened-place, start-sound, step-sound}
+use Rattle.rules.proofs.Soundness.{chan-sound, sent-sound, opened-place, start-sound, step-sound}
+use Rattle.rules.proofs.Datagrams.{first}
 use Rattle.rules.proofs.Heard.{modem-heard}
-use Rattle.rules.proofs.Matching.{closed-told, fresh-told, appended-told, removed-told, readied-told, dropped-told, Aimed, read-aimed, changed, numbered-of, either-told}
+use Rattle.rules.proofs.Matching.{closed-told, fresh-told, arrived-told, sent-told, handed-told, taken-told, readied-told, dropped-told, Aimed, read-aimed, changed, numbered-of, either-told}
 
 -- a fresh session has no channel, and nothing was seen of one
 start-follows : (n : ChannelNumber) (p : List ℕ) → Follows n (start p) ended
@@ -43,6 +45,11 @@ pub command-tells :
 unfolding tells heardTells
 command-tells n a h o buffer s t e = ap (heardTells n h (commandSeen s)) (modem-heard a buffer s t o e)
 
+-- a take of datagrams that is not refused takes the first, whole
+taken-whole : (c : Chan) (buffer : ℕ) → isStream (c .carries) ≡ false → atOnce c Send ≤ buffer → min buffer (atOnce c Send) ≡ first (c .send .lengths)
+unfolding atOnce queue
+taken-whole c buffer e h = let w : min buffer (atOnce c Send) ≡ atOnce c Send = omega arith in w ∙ skip _ _ _ e
+
 module _ (n : ChannelNumber) (from : 1 ≤ n .0) (a : State) (h : History) (o : Sound a) (f : Follows n a h) where
   -- the channel that a call names, where it is this one
   named : (m : ChannelNumber) → n ≡ m → Tells (chan a m) h
@@ -52,13 +59,13 @@ module _ (n : ChannelNumber) (from : 1 ≤ n .0) (a : State) (h : History) (o : 
       (c : Command) (m : ChannelNumber) (s : List ℕ) → c .body ≡ sendData s → n ≡ m → Tells (appended (chan a m) Send s) (acceptedIn h Send (dataOf (c .body)))
   unfolding dataOf
   storing c m s e q =
-      subst (λ (t : List ℕ). Tells (appended (chan a m) Send s) (acceptedIn h Send t)) (sym (ap dataOf e)) (appended-told (chan a m) h (named m q) Send s)
+      subst (λ (t : List ℕ). Tells (appended (chan a m) Send s) (acceptedIn h Send t)) (sym (ap dataOf e)) (sent-told (chan a m) h (named m q) (chan-sound a m o) s)
 
   abbrev Told-by : Command → Reply → Type 0
   Told-by c r = Follows n (r .state) (answerTells n h c (r .result))
 
   own-follows : (c : Command) (b : Body) (i : Bool) → c .body ≡ b → Aimed c b → Told-by c (own a c b i)
-  unfolding own answerTells closes kindOf dataOf toModem member some-of chan listed due
+  unfolding own answerTells closes kindOf dataOf carriedIn toModem member some-of chan listed
   own-follows c moreTime i e u = subst (Follows n a) (sym (skip _ _ _ (ap closes e))) f
   own-follows c (eventList es) i e u =
       listing-cases (Told-by c) a es i f
@@ -68,8 +75,10 @@ module _ (n : ChannelNumber) (from : 1 ≤ n .0) (a : State) (h : History) (o : 
       (λ m l g eₘ eₗ eᵍ x.
       let at = opened-place a (m .0) o eₘ (x .unused) in
       let law = subst (Granted size (unpromised a)) (sym eᵍ) (grant-law size (unpromised a)) in
-      changed n m a (fresh g l) h (openedWith g l) from o (numbered-of m (at .0) (at .1)) f
-      (λ _. fresh-told g l (law .some (x .free) (x .asks))))
+      let k = carriedBy (protocolOf t) in
+      changed n m a (fresh g l k) h (openedWith g l (carriedIn (c .body))) from o (numbered-of m (at .0) (at .1)) f
+      (λ _.
+      subst (λ (j : Carries). Tells (fresh g l k) (openedWith g l j)) (sym (ap carriedIn e)) (fresh-told g l k (law .some (x .free) (x .asks)))))
   own-follows c closeChannel i e u =
       let m = channelOf (c .destination) in
       closing-cases (Told-by c) a (λ _ _. f) m i
@@ -81,18 +90,18 @@ module _ (n : ChannelNumber) (from : 1 ≤ n .0) (a : State) (h : History) (o : 
       receiving-cases (Told-by c) a (λ _ _. f) m r i
       (λ k eᵏ _.
       changed n m a (removed (chan a m) Receive k) h (outIn h Receive (take k (held (chan a m) Receive))) from o (u refl) f
-      (λ q. removed-told (chan a m) h (named m q) Receive k (omega arith) (chan-sound a m o)))
+      (λ q. handed-told (chan a m) h (named m q) (chan-sound a m o) k (omega arith)))
   own-follows c (sendData s) i e u =
       let m = channelOf (c .destination) in
       let b = bit1 (c .qualifier) in
       let k = acceptedIn h Send (dataOf (c .body)) in
       sending-cases (Told-by c) a (λ _ _. f) (c .qualifier) m s i
-      (λ x eˣ _ _ _.
+      (λ x eˣ _ _ fit place.
       changed n m a x h (b ⇒ readiedIn k else k) from o (u refl) f
       (λ q.
       let joins = storing c m s e q in
       subst (λ (y : Chan). Tells y (b ⇒ readiedIn k else k)) (sym eˣ)
-      (either-told b _ _ _ _ (readied-told (appended (chan a m) Send s) k joins) joins)))
+      (either-told b _ _ _ _ (readied-told (appended (chan a m) Send s) k joins (sent-sound (chan a m) (chan-sound a m o) s fit place)) joins)))
   own-follows c channelStatus i e u = f
   own-follows c (other t) i e u = f
 
@@ -110,7 +119,7 @@ module _ (n : ChannelNumber) (from : 1 ≤ n .0) (a : State) (h : History) (o : 
 
   -- what is seen of any call tells the channel after it
   pub step-follows : (c : Call) → Tells-of c (step a c)
-  unfolding step tells due
+  unfolding step tells
   step-follows (starting p) = start-follows n p
   step-follows (commanding buffer s) =
       let m = meantBy a (reading (a .profile) s) in
@@ -120,19 +129,19 @@ module _ (n : ChannelNumber) (from : 1 ≤ n .0) (a : State) (h : History) (o : 
       (command-tells n a h o buffer s)
   step-follows (arriving buffer m s) =
       arrival-cases (Tells-of (arriving buffer m s)) a (λ _. f) buffer m s
-      (λ _ l _.
-      changed n m a (appended (chan a m) Receive s) h (acceptedIn h Receive s) from o (l .number) f
-      (λ q. appended-told (chan a m) h (named m q) Receive s))
+      (λ _ l _ _.
+      changed n m a (arrived (chan a m) s) h (wholeIn (acceptedIn h Receive s) Receive s) from o (l .number) f
+      (λ q. arrived-told (chan a m) h (named m q) (chan-sound a m o) s))
   step-follows (takingOut buffer m) =
-      let k = min buffer (chan a m .ready) in
+      let k = min buffer (atOnce (chan a m) Send) in
       taking-cases (Tells-of (takingOut buffer m)) a (λ _. f) buffer m
-      (λ l.
+      (λ l enough.
       changed n m a (removed (chan a m) Send k) h (outIn h Send (take k (held (chan a m) Send))) from o (l .number) f
-      (λ q. removed-told (chan a m) h (named m q) Send k (omega arith) (chan-sound a m o)))
+      (λ q. taken-told (chan a m) h (named m q) (chan-sound a m o) k (omega arith) (λ e. taken-whole (chan a m) buffer e (enough e))))
   step-follows (droppingLink buffer m) =
       dropping-cases (Tells-of (droppingLink buffer m)) a (λ _. f) buffer m
       (λ _ l.
-      changed n m a (dropped (chan a m)) h (droppedIn h) from o (l .number) f (λ q. dropped-told (chan a m) h (named m q)))
+      changed n m a (dropped (chan a m)) h (droppedIn h) from o (l .number) f (λ q. dropped-told (chan a m) h (named m q) (chan-sound a m o)))
 
 follows-from :
     (n : ChannelNumber) (a : State) (h : History) (cs : List Call) → 1 ≤ n .0 → Sound a → Follows n a h →

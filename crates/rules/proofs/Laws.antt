@@ -1,17 +1,17 @@
 -- Laws that every proof over the rules cites: an order of checks, line by line, and lists whose elements share a property.
 -- Assumes nothing.
-use Prim.Native.Nat.{ℕ, zero, suc, _+_, _-_}
-use mathlib.Core.Path.{_≡_, refl, sym, subst, ap}
+use Prim.Native.Nat.{ℕ, zero, suc, _+_}
+use mathlib.Core.Path.{_≡_, refl, sym, subst, ap, _∙_}
 use mathlib.Core.Logic.{_⊎_, inl, inr, ⊎-elim}
 use mathlib.Core.Bool.{Bool, true, false, not, _&&_, _||_}
 use mathlib.Core.List.{List, [], _∷_, _++_}
 use native.Mathlib.Omega.{arith}
-use lib.ListN.{getD, take, drop, set, replicate}
+use lib.ListN.{length, getD, take, drop, set, replicate}
 use borrow.Author.Tests.{lt-ltb, le-ltb, le-leb, lt-leb, eq-eqb, ne-eqb, eqb-true}
 use lib.Dec.{eqb}
 use Rattle.rules.specs.declared.Way.{Way}
 use Rattle.rules.specs.declared.Way.the-variants.{Receive, Send}
-use Rattle.rules.specs.Checks.{_⇒_else_, some-of, member}
+use Rattle.rules.specs.Checks.{_⇒_else_, isEmpty, some-of, member}
 use Rattle.rules.specs.Sound.{Each}
 
 -- the test is true: its line answers
@@ -60,6 +60,22 @@ either-left false b e = refl
 pub either-right : (a b : Bool) → a || b ≡ false → b ≡ false
 either-right true b e = absurd (mathlib.Core.Bool.true≢false e)
 either-right false b e = e
+
+pub and-false : (b : Bool) → b && false ≡ false
+and-false true = refl
+and-false false = refl
+
+-- two choices by one test, case by case
+pub same-kind : {A : Type 0} (b d : Bool) (x y u v : A) → d ≡ b → (b ≡ true → x ≡ u) → (b ≡ false → y ≡ v) → (b ⇒ x else y) ≡ (d ⇒ u else v)
+unfolding _⇒_else_
+same-kind true d x y u v e f g = f refl ∙ sym (stop d u v e)
+same-kind false d x y u v e f g = g refl ∙ sym (skip d u v e)
+
+-- no bytes, by their count
+pub empty-length : (l : List ℕ) → eqb (length l) 0 ≡ isEmpty l
+unfolding isEmpty
+empty-length [] = refl
+empty-length (x ∷ l) = ne-eqb (length (x ∷ l)) 0 (omega arith)
 
 pub not-not : (b : Bool) → not b ≡ false → b ≡ true
 not-not true e = refl

@@ -1,4 +1,5 @@
 pub mod Laws
+pub mod Datagrams
 pub mod Cases
 pub mod Refusals
 pub mod Readings

@@ -127,7 +127,7 @@ own-proper a c (receiveData r) i h m u =
     (λ k e _. both _ _ (or-plain-proper 0x42 0x02 (ltb k r) i refl refl) (both _ _ (few-handed k (held (chan a (channelOf (c .destination))) Receive) (omega arith)) (capped-fits _)))
 own-proper a c (sendData s) i h m u =
     sending-cases (Listed (detailsWith c (sendData s))) a (λ _ e. e) (c .qualifier) (channelOf (c .destination)) s i
-    (λ _ _ _ _ _. both _ _ (plain-proper 0x43 i refl) (capped-fits _))
+    (λ _ _ _ _ _ _. both _ _ (plain-proper 0x43 i refl) (capped-fits _))
 own-proper a c channelStatus i h m u =
     both _ _ (plain-proper 0x44 i refl) (statuses-rise 0 1 (a .chans) (omega arith) (omega (arith, h .seven)))
 own-proper a c (other t) i h m u = rw u

@@ -10,7 +10,7 @@ use native.Mathlib.Omega.{arith}
 use native.Mathlib.Nat.{not-suc-le-zero, le-of-suc-le-suc}
 use lib.ListN.{length, getD}
 use lib.Dec.{ltb}
-use borrow.Author.Tests.{ne-eqb, ltb-true, ltb-false, eqb-true, eqb-false, eq-eqb}
+use borrow.Author.Tests.{ne-eqb, ltb-true, ltb-false, eqb-true, eqb-false}
 use Rattle.rules.specs.declared.ChannelNumber.{ChannelNumber}
 use Rattle.rules.specs.declared.Link.the-variants.{NotYet, Established}
 use Rattle.rules.specs.Checks.{_⇒_else_, some-of, member}
@@ -19,7 +19,7 @@ use Rattle.rules.specs.Profile.{channels, allowsBearer}
 use Rattle.rules.specs.State.{State, Chan, closed, isOpen, chan, withChan}
 use Rattle.rules.specs.Pool.{cells, promisedTo, promised, unpromised, grantFor}
 use Rattle.rules.specs.Reading.{reading, Command, Body, Bearer, Transport, moreTime, eventList, openChannel, closeChannel, receiveData, sendData, channelStatus, other, kindOf, toModem}
-use Rattle.rules.specs.Own.{Reply, Result, Status, Further, problem, done, opened, bit1, plain, openBefore, protocolOf, opening, closing, own}
+use Rattle.rules.specs.Own.{Reply, Result, Status, Further, problem, done, opened, bit1, plain, openBefore, protocolOf, served, opening, closing, own}
 use Rattle.rules.specs.Run.{Call, commanding}
 use Rattle.rules.specs.History.{History, ended}
 use Rattle.rules.specs.Demands.{reached, told-of, next, begun, latest, isDone, heardDone, answerTo, Passed, cellsFrom, freeBy, freeCells, standing, AllOpen, Lowest}
@@ -115,7 +115,7 @@ opens q b size i k free = opensWith q b size i k (grantFor size free)
 
 module _
     (a : State) (q : ℕ) (b : Bearer) (size protocol : ℕ) (i : Bool)
-    (s : allowsBearer (a .profile) (b .kind) ≡ true) (u : protocol ≡ 0x02) (f : 1 ≤ size) where
+    (s : allowsBearer (a .profile) (b .kind) ≡ true) (u : served protocol ≡ true) (f : 1 ≤ size) where
   opening-last :
       (Q : Result → Type 0) →
       (AllOpen (many a) (isStanding a) → Q (problem 0x01)) →
@@ -125,7 +125,7 @@ module _
   unfolding opening
   opening-last Q x y z =
       let R : Reply → Type 0 = λ r. Q (r .result) in
-      subst R (sym (skip _ _ _ (ap not s) ∙ skip _ _ _ (ap not (eq-eqb _ _ u)) ∙ skip _ _ _ (ne-eqb size 0 (omega arith))))
+      subst R (sym (skip _ _ _ (ap not s) ∙ skip _ _ _ (ap not u) ∙ skip _ _ _ (ne-eqb size 0 (omega arith))))
       (branch R _ _ _ (λ e. x (all-open a (eqb-true _ _ e))) (λ e.
       let some : AllOpen (many a) (isStanding a) → ⊥ = λ h. eqb-false _ _ e (none-unused a h) in
       branch R _ _ _ (λ c. y some (ltb-true _ _ c)) (λ c.
@@ -149,7 +149,7 @@ own-opened a c closeChannel i x o b g =
 own-opened a c (receiveData r) i x o b g =
     receiving-cases (Opening-lowest a x o b g) a (λ _ _ e. absurd (false≢true (cc))) (channelOf (c .destination)) r i (λ _ _ _ e. absurd (false≢true (cc)))
 own-opened a c (sendData s) i x o b g =
-    sending-cases (Opening-lowest a x o b g) a (λ _ _ e. absurd (false≢true (cc))) (c .qualifier) (channelOf (c .destination)) s i (λ _ _ _ _ _ e. absurd (false≢true (cc)))
+    sending-cases (Opening-lowest a x o b g) a (λ _ _ e. absurd (false≢true (cc))) (c .qualifier) (channelOf (c .destination)) s i (λ _ _ _ _ _ _ e. absurd (false≢true (cc)))
 own-opened a c channelStatus i x o b g = λ e. absurd (false≢true (cc))
 own-opened a c (other t) i x o b g = λ e. absurd (false≢true (cc))
 
@@ -201,11 +201,11 @@ module _ (p : List ℕ) (cs : List Call) where
         below = λ j from h. stands-told j from ∙ l .below j from h;
       }
 
--- an OPEN CHANNEL that passed steps 1 to 8 behind these calls, with a bearer that is served, TCP, and a size
+-- an OPEN CHANNEL that passed steps 1 to 8 behind these calls, with a bearer and a protocol that are served, and a size
 module _
     (p : List ℕ) (cs : List Call) (buffer : ℕ) (s : List ℕ) (c : Command) (i : Bool) (w : Passed (latest p cs) buffer s c i)
     (b : Bearer) (size : ℕ) (t : Option Transport) (e : c .body ≡ openChannel b size t)
-    (served : allowsBearer (latest p cs) (b .kind) ≡ true) (tcp : protocolOf t ≡ 0x02) (asks : 1 ≤ size) where
+    (bearer : allowsBearer (latest p cs) (b .kind) ≡ true) (protocol : served (protocolOf t) ≡ true) (asks : 1 ≤ size) where
   -- every number from 1 to N stands open, by the histories
   abbrev AllStand : Type 0
   AllStand = AllOpen (channels (latest p cs)) (standing p cs)
@@ -221,7 +221,7 @@ module _
       let a = reached p cs in
       let free = free-told p cs in
       subst Q (sym (own-heard p cs buffer s c i w (openChannel b size t) e))
-      (opening-last a (c .qualifier) b size (protocolOf t) i (reached-bearer p cs (b .kind) ∙ served) tcp asks (λ (r : Result). Q (some r))
+      (opening-last a (c .qualifier) b size (protocolOf t) i (reached-bearer p cs (b .kind) ∙ bearer) protocol asks (λ (r : Result). Q (some r))
       (λ h. x (told-all p cs h))
       (λ n l. y (λ h. n (all-told p cs h)) (omega arith))
       (λ n m k l.
@@ -285,11 +285,11 @@ module _
   pub freed-granted :
       (buffer′ : ℕ) (s′ : List ℕ) (c′ : Command) (i′ : Bool) → Passed (latest p (next cs closing-call)) buffer′ s′ c′ i′ →
       (b : Bearer) (size : ℕ) (t : Option Transport) → c′ .body ≡ openChannel b size t →
-      allowsBearer (latest p cs) (b .kind) ≡ true → protocolOf t ≡ 0x02 → 1 ≤ size → channelOf (c .destination) .0 ≤ channels (latest p cs) →
+      allowsBearer (latest p cs) (b .kind) ≡ true → served (protocolOf t) ≡ true → 1 ≤ size → channelOf (c .destination) .0 ≤ channels (latest p cs) →
       2 * cells (min size 1500) ≤ freeCells p cs + 2 * cells (was .grant) →
       (k : ℕ) × (answerTo p (next cs closing-call) buffer′ s′ ≡ some (opensWith (c′ .qualifier) b size i′ k (min size 1500)))
   unfolding begun cells kindOf toModem member some-of ended
-  freed-granted buffer′ s′ c′ i′ w′ b size t e′ served tcp asks upto fit =
+  freed-granted buffer′ s′ c′ i′ w′ b size t e′ bearer protocol asks upto fit =
       let cs′ = next cs closing-call in
       let same : latest p cs′ ≡ latest p cs = latest-next p cs closing-call in
       let n = channelOf (c .destination) in
@@ -297,6 +297,6 @@ module _
       let gone = ap (λ (h : History). h .stands) (close-done p cs buffer s c i w e o .1) in
       let unused : AllOpen (channels (latest p cs′)) (standing p cs′) → ⊥ = λ h. true≢false (sym (h (n .0) (number .0) (omega (arith, upto, ap channels same))) ∙ gone) in
       let free = closing-frees in
-      let g = opens-lowest p cs′ buffer′ s′ c′ i′ w′ b size t e′ (ap (λ (q : List ℕ). allowsBearer q (b .kind)) same ∙ served) tcp asks unused (omega arith) in
+      let g = opens-lowest p cs′ buffer′ s′ c′ i′ w′ b size t e′ (ap (λ (q : List ℕ). allowsBearer q (b .kind)) same ∙ bearer) protocol asks unused (omega arith) in
       let whole = grant-whole size (freeCells p cs′) (omega arith) in
       (g .0, subst (λ (y : ℕ). answerTo p cs′ buffer′ s′ ≡ some (opensWith (c′ .qualifier) b size i′ (g .0) y)) whole (g .2))

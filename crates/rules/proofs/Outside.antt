@@ -73,7 +73,7 @@ own-profile a c closeChannel i =
 own-profile a c (receiveData r) i =
     receiving-cases (λ (r : Reply). r .state .profile ≡ a .profile) a (λ _ _. refl) (channelOf (c .destination)) r i (λ _ _ _. refl)
 own-profile a c (sendData s) i =
-    sending-cases (λ (r : Reply). r .state .profile ≡ a .profile) a (λ _ _. refl) (c .qualifier) (channelOf (c .destination)) s i (λ _ _ _ _ _. refl)
+    sending-cases (λ (r : Reply). r .state .profile ≡ a .profile) a (λ _ _. refl) (c .qualifier) (channelOf (c .destination)) s i (λ _ _ _ _ _ _. refl)
 own-profile a c channelStatus i = refl
 own-profile a c (other t) i = refl
 
@@ -87,8 +87,8 @@ unfolding step begun start withChan
 step-profile a (starting p) q e = refl
 step-profile a (commanding buffer s) q e =
     command-cases (λ (r : Answer). r .state .profile ≡ kept q) a (λ _. e) buffer s (λ _ _. meant-profile a (reading (a .profile) s) ∙ e)
-step-profile a (arriving buffer n s) q e = arrival-cases (λ (r : Answer). r .state .profile ≡ kept q) a (λ _. e) buffer n s (λ _ _ _. e)
-step-profile a (takingOut buffer n) q e = taking-cases (λ (r : Answer). r .state .profile ≡ kept q) a (λ _. e) buffer n (λ _. e)
+step-profile a (arriving buffer n s) q e = arrival-cases (λ (r : Answer). r .state .profile ≡ kept q) a (λ _. e) buffer n s (λ _ _ _ _. e)
+step-profile a (takingOut buffer n) q e = taking-cases (λ (r : Answer). r .state .profile ≡ kept q) a (λ _. e) buffer n (λ _ _. e)
 step-profile a (droppingLink buffer n) q e = dropping-cases (λ (r : Answer). r .state .profile ≡ kept q) a (λ _. e) buffer n (λ _ _. e)
 
 after-profile : (a : State) (cs : List Call) (q : List ℕ) → a .profile ≡ kept q → after a cs .profile ≡ kept (latest q cs)

@@ -23,7 +23,7 @@ refusal-stays a (starting p) = answered-stays a (start p) []
 refusal-stays a (commanding buffer s) =
     command-cases (Stays a) a (λ _ _ _. refl) buffer s (λ _ _. answered-stays a _ _)
 refusal-stays a (arriving buffer n s) =
-    arrival-cases (Stays a) a (λ _ _ _. refl) buffer n s (λ _ _ _. answered-stays a _ _)
-refusal-stays a (takingOut buffer n) = taking-cases (Stays a) a (λ _ _ _. refl) buffer n (λ _. answered-stays a _ _)
+    arrival-cases (Stays a) a (λ _ _ _. refl) buffer n s (λ _ _ _ _. answered-stays a _ _)
+refusal-stays a (takingOut buffer n) = taking-cases (Stays a) a (λ _ _ _. refl) buffer n (λ _ _. answered-stays a _ _)
 refusal-stays a (droppingLink buffer n) =
     dropping-cases (Stays a) a (λ _ _ _. refl) buffer n (λ _ _. answered-stays a _ _)

@@ -18,7 +18,7 @@ use Rattle.rules.specs.Frames.{Object, contents, lengthBytes, objectByte
 use Rattle.rules.specs.Table.{table, rowAmong, rowOf, complete, present, valueOf, bearerFits, lengthFits}
 use Rattle.rules.specs.Profile.{bit, allowsBearer}
 use Rattle.rules.specs.declared.Way.the-variants.{Receive, Send}
-use Rattle.rules.specs.State.{State, Chan, chan, held}
+use Rattle.rules.specs.State.{State, Chan, chan, held, atOnce}
 use Rattle.rules.specs.Reading.{Reading, reading, Command, Body, Bearer, moreTime, eventList, openChannel, closeChannel, receiveData, sendData, channelStatus, other, bearerIn, commandIn}
 use Rattle.rules.specs.Own.{Reply, Result, Status, error, problem, done, nothing, opened, received, sent, statuses, statusesFrom, own, protocolOf}
 use Rattle.rules.specs.Written.{unflagged, detailsBytes, bearerBytes, pairBytes, statusBytes, statusObject, statusObjects, furtherObjects, resultBytes, resultObjects, responseObjects, responseBytes, eventBytes}
@@ -186,7 +186,7 @@ own-short a c (receiveData r) i h m =
     receiving-cases After a (λ _ _. tt) (channelOf (c .destination)) r i
     (λ k e _. received-short _ _ (let x = length-take k (held (chan a (channelOf (c .destination))) Receive) in omega arith))
 own-short a c (sendData s) i h m =
-    sending-cases After a (λ _ _. tt) (c .qualifier) (channelOf (c .destination)) s i (λ x _ _ _ _. sent-short _)
+    sending-cases After a (λ _ _. tt) (c .qualifier) (channelOf (c .destination)) s i (λ x _ _ _ _ _. sent-short _)
 own-short a c channelStatus i h m =
     statuses-short (statusesFrom 1 (a .chans)) (let x = statuses-few 1 (a .chans) in omega (arith, h .seven))
 own-short a c (other t) i h m = tt
@@ -230,8 +230,8 @@ pub written-within : (a : State) (c : Call) → Sound a → Within (most c) (ste
 unfolding step
 written-within a (starting p) h = omega arith
 written-within a (commanding buffer s) h = command-cases (Fits 255) a (λ _. tt) buffer s (λ _ _. meant-short a s h)
-written-within a (arriving buffer n s) h = arrival-cases (Fits 16) a (λ _. tt) buffer n s (λ _ _ _. arrival-short a n s)
+written-within a (arriving buffer n s) h = arrival-cases (Fits 16) a (λ _. tt) buffer n s (λ _ _ _ _. arrival-short a n s)
 written-within a (takingOut buffer n) h =
     taking-cases (Fits buffer) a (λ _. tt) buffer n
-    (λ _. let x = length-take (min buffer (chan a n .ready)) (held (chan a n) Send) in omega arith)
+    (λ _ _. let x = length-take (min buffer (atOnce (chan a n) Send)) (held (chan a n) Send) in omega arith)
 written-within a (droppingLink buffer n) h = dropping-cases (Fits 16) a (λ _. tt) buffer n (λ _ _. drop-short a n)

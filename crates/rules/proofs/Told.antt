@@ -11,17 +11,18 @@ use Rattle.rules.specs.declared.ChannelNumber.{ChannelNumber}
 use Rattle.rules.specs.declared.DeviceIdentity.{DeviceIdentity}
 use Rattle.rules.specs.declared.Ending.{Ending}
 use Rattle.rules.specs.declared.Refusal.{Refusal}
-use Rattle.rules.specs.declared.Refusal.the-variants.{ShortBuffer, CommandSize, NoChannel, Unopened, Unlinked, Overfull, UnfitRecord, NoResponse, Unreadable}
+use Rattle.rules.specs.declared.Refusal.the-variants.{ShortBuffer, CommandSize, NoChannel, Unopened, Unlinked, Overfull, UnfitRecord, NoResponse, Unreadable, NoPlace, Undersized}
 use Rattle.rules.specs.Checks.{_⇒_else_, isEmpty}
 use Rattle.rules.specs.Words.{numberOf, refusalOf, identityOf, channelOf}
 use Rattle.rules.specs.Frames.{ObjectRead, faulty, objectAt, onward, walkUpTo, walk}
 use Rattle.rules.specs.Profile.{bit, kept}
-use Rattle.rules.specs.declared.Way.the-variants.{Receive}
-use Rattle.rules.specs.State.{State, Chan, closed, isOpen, chan, withChan, queue, withQueue, held, joined, appended}
+use Rattle.rules.specs.declared.Way.{Way}
+use Rattle.rules.specs.declared.Way.the-variants.{Receive, Send}
+use Rattle.rules.specs.State.{State, Chan, closed, isOpen, chan, withChan, queue, withQueue, held, joined, counting, appended, whole, arrived}
 use Rattle.rules.specs.Reading.{readObjects, wrong, zeros}
 use Rattle.rules.specs.Command.{Answer, wrote}
 use Rattle.rules.specs.Radio.{arrival}
-use Rattle.rules.proofs.Laws.{stop, skip}
+use Rattle.rules.proofs.Laws.{branch, stop, skip}
 use Rattle.rules.proofs.Cases.{arrival-cases}
 use Rattle.rules.proofs.Soundness.{open-place}
 
@@ -37,6 +38,8 @@ refusal-back Overfull = refl
 refusal-back UnfitRecord = refl
 refusal-back NoResponse = refl
 refusal-back Unreadable = refl
+refusal-back NoPlace = refl
+refusal-back Undersized = refl
 
 -- a channel's number and its identity, there and back
 pub number-back : (c : ChannelNumber) → c .0 < 256 → channelOf (identityOf c) ≡ c
@@ -81,14 +84,28 @@ pub open-changed : (a : State) (n : ChannelNumber) (c : Chan) → isOpen (chan a
 unfolding chan
 open-changed a n c e = chan-changed a n c (open-place (a .chans) (n .0 - 1) e)
 
+-- a whole datagram more changes no byte
+pub whole-held : (c : Chan) (v w : Way) (k : ℕ) → held (whole c v k) w ≡ held c w
+unfolding whole withQueue counting queue
+whole-held c v w k = branch (λ (x : Chan). held x w ≡ held c w) _ _ _ (λ _. refl) (λ _. counted-held c v w k)
+  where
+    counted-held : (c : Chan) (v w : Way) (k : ℕ) → held (withQueue c v (counting (queue c v) k)) w ≡ held c w
+    counted-held c Receive Receive k = refl
+    counted-held c Receive Send k = refl
+    counted-held c Send Receive k = refl
+    counted-held c Send Send k = refl
+
+arrived-held : (c : Chan) (s : List ℕ) → held (arrived c s) Receive ≡ held c Receive ++ s
+unfolding arrived appended withQueue joined queue
+arrived-held c s = whole-held (appended c Receive s) Receive Receive (length s)
+
 -- an arrival that is not refused is stored whole, behind what was held
 pub arrival-whole :
     (a : State) (buffer : ℕ) (n : ChannelNumber) (s t : List ℕ) → arrival a buffer n s .outcome ≡ wrote t →
     held (chan (arrival a buffer n s .state) n) Receive ≡ held (chan a n) Receive ++ s
-unfolding appended withQueue joined queue
 arrival-whole a buffer n s t =
     arrival-cases (λ (r : Answer). r .outcome ≡ wrote t → held (chan (r .state) n) Receive ≡ held (chan a n) Receive ++ s) a (λ r e. cc) buffer n s
-    (λ _ l _ _. ap (λ (c : Chan). held c Receive) (open-changed a n (appended (chan a n) Receive s) (l .stands)))
+    (λ _ l _ _ _. ap (λ (c : Chan). held c Receive) (open-changed a n (arrived (chan a n) s) (l .stands)) ∙ arrived-held (chan a n) s)
 
 faulty-walk : (b : ℕ) (r : List ℕ) (e : Ending) → objectAt (b ∷ r) ≡ faulty e → isEmpty (walk (b ∷ r) .objects) ≡ true
 unfolding walk walkUpTo onward isEmpty

@@ -1,14 +1,17 @@
 -- What the histories promise, in the words of demand 3.
 use Prim.Native.Nat.{ℕ, zero, suc, _+_, _-_, _*_, _≤_, _<_}
 use mathlib.Core.Path.{_≡_}
-use mathlib.Core.Bool.{Bool, true, false, _||_}
+use mathlib.Core.Bool.{Bool, true, false, not, _&&_, _||_}
 use mathlib.Core.List.{List, [], _∷_, _++_}
 use mathlib.Core.Option.{Option, none, some}
 use lib.ListN.{length}
+use lib.Dec.{leb}
+use Rattle.rules.specs.Checks.{isEmpty}
 use Rattle.rules.specs.declared.ChannelNumber.{ChannelNumber}
 use Rattle.rules.specs.declared.Way.{Way}
+use Rattle.rules.specs.declared.Way.the-variants.{Receive, Send}
 use Rattle.rules.specs.Words.{channelOf}
-use Rattle.rules.specs.State.{State, Chan, chan, isOpen, held}
+use Rattle.rules.specs.State.{State, Chan, chan, isOpen, isStream, held}
 use Rattle.rules.specs.Pool.{cellCount, cells}
 use Rattle.rules.specs.Reading.{Command, asked, reading}
 use Rattle.rules.specs.Own.{Result, nothing, opened, received, sent, statuses, error, problem, done}
@@ -16,7 +19,8 @@ use Rattle.rules.specs.Command.{Outcome, wrote, refused}
 use Rattle.rules.specs.Bench.{Told, told, untold, benchRead}
 use Rattle.rules.specs.Run.{Call, starting, commanding, arriving, takingOut, droppingLink, step, after}
 use Rattle.rules.specs.State as state
-use Rattle.rules.specs.History.{History, side, history, seenFrom, commandSeen, sameNumber}
+use Rattle.rules.specs.History.{History, side, history, seenFrom, commandSeen, sameNumber, datagramsBy, buildingBy, placesBy}
+use Rattle.rules.specs.Datagrams.{placeCount, pieces, bytesOf}
 
 -- the state after a list of calls from the start, and the history of a channel that was seen on the way
 abbrev pub reached : List ℕ → List Call → State
@@ -29,13 +33,18 @@ told-of n p cs = history n (seenFrom (state.start p) cs)
 abbrev pub next : List Call → Call → List Call
 next cs c = cs ++ c ∷ []
 
--- the history tells the channel: the grant, the link, and each way accepted is handed out followed by held
+-- the history tells the channel: the grant, the link, what it carries, and each way accepted is handed out followed by held;
+-- of datagrams: those held to be received are the arrivals less what was handed out from their front, and those handed over followed by the finished ones held are all that were finished
 pub record Tells (c : Chan) (h : History) : Type 0 where
   pub stands : h .stands ≡ isOpen c
   pub grant : h .grant ≡ c .grant
   pub link : h .link ≡ c .link
+  pub carries : h .carries ≡ c .carries
   pub order : (w : Way) → side h w .out ++ held c w ≡ side h w .accepted
   pub ready : h .readied ≡ length (h .send .out) + c .ready
+  pub arrivals : bytesOf (h .receive .whole) ≡ h .receive .accepted
+  pub received : isStream (c .carries) ≡ false → pieces (c .receive .lengths) (c .receive .bytes) ≡ datagramsBy h
+  pub finished : isStream (c .carries) ≡ false → h .send .given ++ pieces (c .send .lengths) (c .send .bytes) ≡ h .send .whole
 
 -- it tells the channel of a number
 abbrev pub Follows : ChannelNumber → State → History → Type 0
@@ -80,6 +89,11 @@ isDone (done r f) = true
 unfoldable pub heardDone : Option Result → Bool
 heardDone none = false
 heardDone (some r) = isDone r
+
+-- bytes would begin a datagram for which there is no place; those to send join the unfinished one, if there is one
+unfoldable pub crowdedBy : History → Way → List ℕ → Bool
+crowdedBy h Receive s = not (isStream (h .carries)) && not (isEmpty s) && leb placeCount (placesBy h Receive)
+crowdedBy h Send s = not (isStream (h .carries)) && not (isEmpty s) && isEmpty (buildingBy h) && leb placeCount (placesBy h Send)
 
 -- a command passed steps 1 to 8: the buffer and the bytes have their sizes, and with that profile the bytes are read as the command c
 pub record Passed (p : List ℕ) (buffer : ℕ) (s : List ℕ) (c : Command) (ignored : Bool) : Type 0 where

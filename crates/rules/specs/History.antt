@@ -2,8 +2,10 @@
 use Prim.Native.Nat.{ℕ, _+_, _-_, min}
 use mathlib.Core.Bool.{Bool, true, false}
 use mathlib.Core.List.{List, [], _∷_, _++_}
-use lib.ListN.{length, take, drop}
+use lib.ListN.{length, getD, take, drop}
 use lib.Dec.{eqb}
+use Rattle.rules.specs.declared.Carries.{Carries}
+use Rattle.rules.specs.declared.Carries.the-variants.{Stream}
 use Rattle.rules.specs.declared.ChannelNumber.{ChannelNumber}
 use Rattle.rules.specs.declared.Link.{Link}
 use Rattle.rules.specs.declared.Link.the-variants.{NotYet, Dropped}
@@ -13,9 +15,10 @@ use Rattle.rules.specs.Checks.{_⇒_else_}
 use Rattle.rules.specs.Words.{channelOf}
 use Rattle.rules.specs.Frames.{walk, contents}
 use Rattle.rules.specs.Table.{rowOf, sift, valueOf}
-use Rattle.rules.specs.State.{State, establish}
+use Rattle.rules.specs.Datagrams.{behind, joinedBy}
+use Rattle.rules.specs.State.{State, establish, isStream}
 use Rattle.rules.specs.Reading.{Body, Command, moreTime, eventList, openChannel, closeChannel, receiveData, sendData, channelStatus, other, kindOf, detailsIn, commandIn}
-use Rattle.rules.specs.Own.{Result, nothing, opened, received, sent, statuses, error, problem, done, bit1}
+use Rattle.rules.specs.Own.{Result, nothing, opened, received, sent, statuses, error, problem, done, bit1, protocolOf, carriedBy}
 use Rattle.rules.specs.Command.{Outcome, wrote, refused}
 use Rattle.rules.specs.Bench.{Told, told, untold, benchRead}
 use Rattle.rules.specs.Run.{Call, starting, commanding, arriving, takingOut, droppingLink, step}
@@ -25,31 +28,35 @@ pub record Exchange : Type 0 where
   pub call : Call
   pub outcome : Outcome
 
--- one way since the latest opening: the bytes accepted, and those handed out
+-- one way since the latest opening: the bytes accepted, and those handed out; and both in the pieces that a datagram channel keeps whole
 pub record Side : Type 0 where
   pub accepted : List ℕ
   pub out : List ℕ
+  pub whole : List (List ℕ)
+  pub given : List (List ℕ)
 
--- a channel since its latest opening: whether it is open, the grant and the link told, each way, and how many of the bytes to send were readied
+-- a channel since its latest opening: whether it is open, the grant and the link told, what it was opened for, each way, and how many of the bytes to send were readied
 pub record History : Type 0 where
   pub stands : Bool
   pub grant : ℕ
   pub link : Link
+  pub carries : Carries
   pub receive : Side
   pub send : Side
   pub readied : ℕ
 
 -- nothing was accepted
 abbrev pub untouched : Side
-untouched = record { accepted = []; out = [] }
+untouched = record { accepted = []; out = []; whole = []; given = [] }
 
 -- nothing is open, and nothing was accepted
 unfoldable pub ended : History
-ended = record { stands = false; grant = 0; link = NotYet; receive = untouched; send = untouched; readied = 0 }
+ended = record { stands = false; grant = 0; link = NotYet; carries = Stream; receive = untouched; send = untouched; readied = 0 }
 
 -- an opening was told
-unfoldable pub openedWith : ℕ → Link → History
-openedWith g l = record { stands = true; grant = g; link = l; receive = untouched; send = untouched; readied = 0 }
+unfoldable pub openedWith : ℕ → Link → Carries → History
+openedWith g l k =
+    record { stands = true; grant = g; link = l; carries = k; receive = untouched; send = untouched; readied = 0 }
 
 -- the side of a way, and the history with another one there
 unfoldable pub side : History → Way → Side
@@ -58,27 +65,38 @@ side h Send = h .send
 
 unfoldable pub withSide : History → Way → Side → History
 withSide h Receive x =
-    record { stands = h .stands; grant = h .grant; link = h .link; receive = x; send = h .send; readied = h .readied }
+    record { stands = h .stands; grant = h .grant; link = h .link; carries = h .carries; receive = x; send = h .send; readied = h .readied }
 withSide h Send x =
-    record { stands = h .stands; grant = h .grant; link = h .link; receive = h .receive; send = x; readied = h .readied }
+    record { stands = h .stands; grant = h .grant; link = h .link; carries = h .carries; receive = h .receive; send = x; readied = h .readied }
 
 -- bytes were accepted: from the radio to be received, from the card to be sent
 unfoldable pub acceptedIn : History → Way → List ℕ → History
-acceptedIn h w s = withSide h w (record { accepted = side h w .accepted ++ s; out = side h w .out })
+acceptedIn h w s =
+    let x = side h w in
+    withSide h w (record { accepted = x .accepted ++ s; out = x .out; whole = x .whole; given = x .given })
 
 -- bytes were handed out: to the card, or to the radio
 unfoldable pub outIn : History → Way → List ℕ → History
-outIn h w s = withSide h w (record { accepted = side h w .accepted; out = side h w .out ++ s })
+outIn h w s =
+    let x = side h w in
+    withSide h w (record { accepted = x .accepted; out = x .out ++ s; whole = x .whole; given = joinedBy (x .given) s })
 
--- all bytes accepted to be sent are readied, and a link not yet established is established
+-- accepted bytes are a whole piece: an arrival, or what SEND DATA finished
+unfoldable pub wholeIn : History → Way → List ℕ → History
+wholeIn h w s =
+    let x = side h w in
+    withSide h w (record { accepted = x .accepted; out = x .out; whole = joinedBy (x .whole) s; given = x .given })
+
+-- all bytes accepted to be sent are readied, those since the last such time as one piece, and a link not yet established is established
 unfoldable pub readiedIn : History → History
 readiedIn h =
-    record { stands = h .stands; grant = h .grant; link = establish (h .link); receive = h .receive; send = h .send; readied = length (h .send .accepted) }
+    let x = wholeIn h Send (drop (h .readied) (h .send .accepted)) in
+    record { stands = h .stands; grant = h .grant; link = establish (h .link); carries = h .carries; receive = x .receive; send = x .send; readied = length (h .send .accepted) }
 
 -- the radio dropped the link
 unfoldable pub droppedIn : History → History
 droppedIn h =
-    record { stands = h .stands; grant = h .grant; link = Dropped; receive = h .receive; send = h .send; readied = h .readied }
+    record { stands = h .stands; grant = h .grant; link = Dropped; carries = h .carries; receive = h .receive; send = h .send; readied = h .readied }
 
 -- the command that bytes say, whatever the profile allows
 unfoldable pub commandSeen : List ℕ → Command
@@ -98,6 +116,17 @@ dataOf (sendData s) = s
 dataOf channelStatus = []
 dataOf (other t) = []
 
+-- what the channel that an OPEN CHANNEL opens is for
+unfoldable pub carriedIn : Body → Carries
+carriedIn moreTime = Stream
+carriedIn (eventList es) = Stream
+carriedIn (openChannel b size t) = carriedBy (protocolOf t)
+carriedIn closeChannel = Stream
+carriedIn (receiveData n) = Stream
+carriedIn (sendData s) = Stream
+carriedIn channelStatus = Stream
+carriedIn (other t) = Stream
+
 -- whether a command closes its channel
 unfoldable pub closes : Body → Bool
 closes b = eqb (kindOf b) 0x41
@@ -108,7 +137,7 @@ sameNumber n m = eqb (n .0) (m .0)
 
 -- what an answer to a command tells of the channel n
 unfoldable pub answerTells : ChannelNumber → History → Command → Result → History
-answerTells n h c (done x (opened s b g)) = sameNumber n (s .number) ⇒ openedWith g (s .link) else h
+answerTells n h c (done x (opened s b g)) = sameNumber n (s .number) ⇒ openedWith g (s .link) (carriedIn (c .body)) else h
 answerTells n h c (done x (received s left)) = sameNumber n (channelOf (c .destination)) ⇒ outIn h Receive s else h
 answerTells n h c (done x (sent room)) =
     let k = acceptedIn h Send (dataOf (c .body)) in
@@ -127,7 +156,7 @@ heardTells n h c (untold r) = h
 unfoldable pub tells : ChannelNumber → History → Call → Outcome → History
 tells n h (starting p) o = ended
 tells n h (commanding buffer s) (wrote t) = heardTells n h (commandSeen s) (benchRead t)
-tells n h (arriving buffer m s) (wrote t) = sameNumber n m ⇒ acceptedIn h Receive s else h
+tells n h (arriving buffer m s) (wrote t) = sameNumber n m ⇒ wholeIn (acceptedIn h Receive s) Receive s else h
 tells n h (takingOut buffer m) (wrote t) = sameNumber n m ⇒ outIn h Send t else h
 tells n h (droppingLink buffer m) (wrote t) = sameNumber n m ⇒ droppedIn h else h
 tells n h (commanding buffer s) (refused r) = h
@@ -152,8 +181,33 @@ seenFrom a (c ∷ cs) = let r = step a c in record { call = c; outcome = r .outc
 unfoldable pub heldBy : History → Way → ℕ
 heldBy h w = length (side h w .accepted) - length (side h w .out)
 
--- the oldest bytes that are ready, as many as fit
+-- the datagrams that a history leaves held to be received: the arrivals, without the bytes that were handed out from their front
+unfoldable pub datagramsBy : History → List (List ℕ)
+datagramsBy h = behind (length (h .receive .out)) (h .receive .whole)
+
+-- those to send that are finished and not handed over
+unfoldable pub finishedBy : History → List (List ℕ)
+finishedBy h = drop (length (h .send .given)) (h .send .whole)
+
+-- the whole datagrams that a history leaves held for a way
+unfoldable pub wholesBy : History → Way → List (List ℕ)
+wholesBy h Receive = datagramsBy h
+wholesBy h Send = finishedBy h
+
+-- the bytes to send since the last finished one
+unfoldable pub buildingBy : History → List ℕ
+buildingBy h = drop (h .readied) (h .send .accepted)
+
+-- how many bytes may be handed out at once: of a stream all that are due, of datagrams those of the first
+unfoldable pub atOnceBy : History → Way → ℕ
+atOnceBy h Receive = isStream (h .carries) ⇒ heldBy h Receive else length (getD (datagramsBy h) 0 [])
+atOnceBy h Send = isStream (h .carries) ⇒ h .readied - length (h .send .out) else length (getD (finishedBy h) 0 [])
+
+-- the oldest bytes that may be handed over at once, as many as fit
 unfoldable pub oldestReady : History → ℕ → List ℕ
-oldestReady h buffer =
-    let out = length (h .send .out) in
-    take (min buffer (h .readied - out)) (drop out (h .send .accepted))
+oldestReady h buffer = take (min buffer (atOnceBy h Send)) (drop (length (h .send .out)) (h .send .accepted))
+
+-- how many datagrams a history leaves held for a way, the unfinished one included
+unfoldable pub placesBy : History → Way → ℕ
+placesBy h Receive = length (datagramsBy h)
+placesBy h Send = length (finishedBy h) + min 1 (length (buildingBy h))

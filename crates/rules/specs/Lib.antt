@@ -4,6 +4,7 @@ pub mod Words
 pub mod Frames
 pub mod Table
 pub mod Profile
+pub mod Datagrams
 pub mod State
 pub mod Reading
 pub mod Own

@@ -61,11 +61,15 @@ unfoldable pub hex : List ℕ → List ℕ
 hex [] = []
 hex (b ∷ s) = digitOf (b / 16) ∷ digitOf (b % 16) ∷ hex s
 
+-- a number below 100 in decimal
+abbrev pub decimal : ℕ → List ℕ
+decimal n = ltb n 10 ⇒ (n + 48) ∷ [] else (n / 10 + 48) ∷ (n % 10 + 48) ∷ []
+
 -- the bytes written, in capitals; "--" if none; or R and the number
 unfoldable pub printed : Outcome → List ℕ
 printed (wrote []) = 45 ∷ 45 ∷ []
 printed (wrote (b ∷ s)) = hex (b ∷ s)
-printed (refused r) = 82 ∷ (numberOf r + 48) ∷ []
+printed (refused r) = 82 ∷ decimal (numberOf r)
 
 -- a frame's call; a line without one is R9
 unfoldable pub callIn : Option (List ℕ) → Option Call

@@ -1,11 +1,13 @@
 -- "Order of checks on a command", step 9: the own checks, what each command does to the state, and the results 00, 01, 02, 07.
 use Prim.Native.Nat.{ℕ, zero, suc, _+_, _%_, min}
 use mathlib.Core.Path.{_≡_, refl}
-use mathlib.Core.Bool.{Bool, true, false, not}
+use mathlib.Core.Bool.{Bool, true, false, not, _||_}
 use mathlib.Core.List.{List, [], _∷_, map}
 use mathlib.Core.Option.{Option, none, some}
 use lib.ListN.{length, take}
 use lib.Dec.{ltb, eqb}
+use Rattle.rules.specs.declared.Carries.{Carries}
+use Rattle.rules.specs.declared.Carries.the-variants.{Stream, Datagrams}
 use Rattle.rules.specs.declared.ChannelNumber.{ChannelNumber}
 use Rattle.rules.specs.declared.Link.{Link}
 use Rattle.rules.specs.declared.Link.the-variants.{NotYet, Established}
@@ -13,7 +15,7 @@ use Rattle.rules.specs.declared.Way.the-variants.{Receive, Send}
 use Rattle.rules.specs.Checks.{_⇒_else_, every, member}
 use Rattle.rules.specs.Words.{channelOf}
 use Rattle.rules.specs.Profile.{allowsEvent, allowsBearer, channels}
-use Rattle.rules.specs.State.{State, Chan, closed, isDropped, isOpen, chan, withChan, held, room, fresh, appended, removed, readied}
+use Rattle.rules.specs.State.{State, Chan, closed, isDropped, isOpen, chan, withChan, held, room, atOnce, fresh, appended, removed, readied, crowded}
 use Rattle.rules.specs.Pool.{unpromised, grantFor}
 use Rattle.rules.specs.Reading.{Bearer, Transport, Body, Command, moreTime, eventList, openChannel, closeChannel, receiveData, sendData, channelStatus, other}
 
@@ -76,6 +78,13 @@ unfoldable pub protocolOf : Option Transport → ℕ
 protocolOf none = 0x02
 protocolOf (some t) = t .protocol
 
+-- the protocols that are served, and what a channel carries by its own: datagrams by UDP, 01, a stream by TCP, 02
+unfoldable pub served : ℕ → Bool
+served protocol = eqb protocol 0x01 || eqb protocol 0x02
+
+unfoldable pub carriedBy : ℕ → Carries
+carriedBy protocol = eqb protocol 0x01 ⇒ Datagrams else Stream
+
 -- how many channels, of the first n, stand open before the first that does not; n where none is unused
 unfoldable pub openBefore : ℕ → List Chan → ℕ
 openBefore zero cs = 0
@@ -91,11 +100,11 @@ opening a q b size protocol ignored =
     let number : ChannelNumber = record { 0 = k + 1 } in
     let link = bit1 q ⇒ Established else NotYet in
     not (allowsBearer (a .profile) (b .kind)) ⇒ reply a (error 0x30) else
-    not (eqb protocol 0x02) ⇒ reply a (problem 0x06) else
+    not (served protocol) ⇒ reply a (problem 0x06) else
     eqb size 0 ⇒ reply a (problem 0x04) else
     eqb k n ⇒ reply a (problem 0x01) else
     ltb (unpromised a) 2 ⇒ reply a (problem 0x04) else
-    reply (withChan a number (fresh g link))
+    reply (withChan a number (fresh g link (carriedBy protocol)))
     (done (ltb g size ⇒ 0x07 else plain ignored) (opened (record { number = number; link = link }) b g))
 
 -- 41: the channel ends, held bytes are discarded
@@ -104,11 +113,11 @@ closing a n ignored =
     not (isOpen (chan a n)) ⇒ reply a (problem 0x03) else
     reply (withChan a n closed) (done (plain ignored) nothing)
 
--- 42: hands out the least of the request, bytes held and 237; 02 if fewer than asked
+-- 42: hands out the least of the request, what may be handed out at once and 237; 02 if fewer than asked
 unfoldable pub receiving : State → ChannelNumber → ℕ → Bool → Reply
 receiving a n request ignored =
     let c = chan a n in
-    let k = min request (min (length (held c Receive)) 237) in
+    let k = min request (min (atOnce c Receive) 237) in
     let after = removed c Receive k in
     not (isOpen c) ⇒ reply a (problem 0x03) else
     reply (withChan a n after)
@@ -123,6 +132,7 @@ sending a q n s ignored =
     not (isOpen c) ⇒ reply a (problem 0x03) else
     isDropped (c .link) ⇒ reply a (problem 0x02) else
     ltb (room c Send) (length s) ⇒ reply a (problem 0x04) else
+    crowded c Send s ⇒ reply a (problem 0x04) else
     reply (withChan a n after) (done (plain ignored) (sent (capped (room after Send))))
 
 -- a status for each open channel, rising; numbers are counted from n

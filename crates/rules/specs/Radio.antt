@@ -5,10 +5,10 @@ use mathlib.Core.List.{List, [], _∷_}
 use lib.ListN.{length, take}
 use lib.Dec.{ltb, leb}
 use Rattle.rules.specs.declared.ChannelNumber.{ChannelNumber}
-use Rattle.rules.specs.declared.Refusal.the-variants.{ShortBuffer, NoChannel, Unopened, Unlinked, Overfull}
+use Rattle.rules.specs.declared.Refusal.the-variants.{ShortBuffer, NoChannel, Unopened, Unlinked, Overfull, NoPlace, Undersized}
 use Rattle.rules.specs.declared.Way.the-variants.{Receive, Send}
 use Rattle.rules.specs.Checks.{_⇒_else_, isEmpty}
-use Rattle.rules.specs.State.{State, isEstablished, isOpen, chan, withChan, held, room, appended, removed, dropped}
+use Rattle.rules.specs.State.{State, isEstablished, isStream, isOpen, chan, withChan, held, room, atOnce, appended, arrived, removed, dropped, crowded}
 use Rattle.rules.specs.Own.{capped}
 use Rattle.rules.specs.Written.{unflagged, statusObject, eventBytes}
 use Rattle.rules.specs.Command.{Answer, answered, refusal}
@@ -33,16 +33,19 @@ arrival a buffer n s =
     not (isOpen c) ⇒ refusal a Unopened else
     not (isEstablished (c .link)) ⇒ refusal a Unlinked else
     ltb (room c Receive) (length s) ⇒ refusal a Overfull else
-    answered (withChan a n (appended c Receive s)) (arrivalEvent a n s)
+    crowded c Receive s ⇒ refusal a NoPlace else
+    answered (withChan a n (arrived c s)) (arrivalEvent a n s)
 
--- as many ready bytes as fit the buffer are handed out
+-- as many ready bytes as fit the buffer are handed out; of datagrams the oldest that is finished, and whole
 unfoldable pub taking : State → ℕ → ChannelNumber → Answer
 taking a buffer n =
     let c = chan a n in
-    let k = min buffer (c .ready) in
+    let most = atOnce c Send in
+    let k = min buffer most in
     not (numbered n) ⇒ refusal a NoChannel else
     not (isOpen c) ⇒ refusal a Unopened else
     not (isEstablished (c .link)) ⇒ refusal a Unlinked else
+    not (isStream (c .carries)) && ltb buffer most ⇒ refusal a Undersized else
     answered (withChan a n (removed c Send k)) (take k (held c Send))
 
 -- where 0A is listed it tells of the dropped link

@@ -1,12 +1,14 @@
 -- What the start and every call keep: a sound state, and answers of a bounded size.
 use Prim.Native.Nat.{ℕ, _≤_}
 use mathlib.Core.Path.{_≡_}
+use mathlib.Core.Bool.{true, false}
 use mathlib.Core.List.{List, [], _∷_}
 use lib.ListN.{length}
 use Rattle.rules.specs.declared.Way.{Way}
 use Rattle.rules.specs.declared.Way.the-variants.{Send}
-use Rattle.rules.specs.State.{State, Chan, held}
+use Rattle.rules.specs.State.{State, Chan, isStream, queue, held, due, placesUsed}
 use Rattle.rules.specs.Profile.{profileSize}
+use Rattle.rules.specs.Datagrams.{placeCount, total}
 use Rattle.rules.specs.Pool.{cellCount, grantCap, promised}
 use Rattle.rules.specs.Command.{Outcome, wrote, refused}
 use Rattle.rules.specs.Run.{Call, starting, commanding, arriving, takingOut, droppingLink}
@@ -16,11 +18,19 @@ abbrev pub Each : {A : Type 0} → (A → Type 0) → List A → Type 0
 Each P [] = Unit {0}
 Each P (x ∷ xs) = P x × Each P xs
 
--- a channel: held at most the grant each way, the grant within the cap, ready bytes among those held
+-- the datagrams of a way: a stream has none; they have bytes, and all that are due; at most 16 are held, the unfinished one included
+pub record SoundLengths (c : Chan) (w : Way) : Type 0 where
+  pub none : isStream (c .carries) ≡ true → queue c w .lengths ≡ []
+  pub some : Each (λ (k : ℕ). 1 ≤ k) (queue c w .lengths)
+  pub all : isStream (c .carries) ≡ false → total (queue c w .lengths) ≡ due c w
+  pub few : placesUsed c w ≤ placeCount
+
+-- a channel: held at most the grant each way, the grant within the cap, ready bytes among those held, and its datagrams
 pub record SoundChan (c : Chan) : Type 0 where
   pub capped : c .grant ≤ grantCap
   pub fits : (w : Way) → length (held c w) ≤ c .grant
   pub ready-held : c .ready ≤ length (held c Send)
+  pub lengths : (w : Way) → SoundLengths c w
 
 -- a state: thirteen bytes of profile, seven sound channels, at most 256 cells promised
 pub record Sound (a : State) : Type 0 where

@@ -1,17 +1,21 @@
 -- The state of a session: the profile, the event list and seven channels.
-use Prim.Native.Nat.{ℕ, _-_}
+use Prim.Native.Nat.{ℕ, _+_, _-_, min}
 use mathlib.Core.Path.{_≡_, refl}
-use mathlib.Core.Bool.{Bool, true, false}
+use mathlib.Core.Bool.{Bool, true, false, not, _&&_}
 use mathlib.Core.List.{List, [], _++_}
 use lib.ListN.{length, getD, drop, set, replicate}
-use lib.Dec.{leb}
+use lib.Dec.{leb, eqb}
+use Rattle.rules.specs.declared.Carries.{Carries}
+use Rattle.rules.specs.declared.Carries.the-variants.{Stream, Datagrams}
 use Rattle.rules.specs.declared.ChannelNumber.{ChannelNumber}
 use Rattle.rules.specs.declared.Events.{Events}
 use Rattle.rules.specs.declared.Link.{Link}
 use Rattle.rules.specs.declared.Link.the-variants.{NotYet, Established, Dropped}
 use Rattle.rules.specs.declared.Way.{Way}
 use Rattle.rules.specs.declared.Way.the-variants.{Receive, Send}
+use Rattle.rules.specs.Checks.{_⇒_else_, isEmpty}
 use Rattle.rules.specs.Profile.{kept}
+use Rattle.rules.specs.Datagrams.{placeCount, another, lessened}
 
 unfoldable pub isEstablished : Link → Bool
 isEstablished NotYet = false
@@ -29,14 +33,20 @@ establish NotYet = Established
 establish Established = Established
 establish Dropped = Dropped
 
--- what a way holds, oldest first
+unfoldable pub isStream : Carries → Bool
+isStream Stream = true
+isStream Datagrams = false
+
+-- what a way holds, oldest first, and the lengths of the datagrams that are due to be handed out; a stream has none
 pub record Queue : Type 0 where
   pub bytes : List ℕ
+  pub lengths : List ℕ
 
--- a channel: its grant (0 where it is not open), its link, what each way holds, and how many of the bytes to send are ready
+-- a channel: its grant (0 where it is not open), its link, what it carries, what each way holds, and how many of the bytes to send are ready
 pub record Chan : Type 0 where
   pub grant : ℕ
   pub link : Link
+  pub carries : Carries
   pub receive : Queue
   pub send : Queue
   pub ready : ℕ
@@ -48,11 +58,11 @@ pub record State : Type 0 where
 
 -- nothing is held
 abbrev pub nothingHeld : Queue
-nothingHeld = record { bytes = [] }
+nothingHeld = record { bytes = []; lengths = [] }
 
 -- a channel that is not open
 unfoldable pub closed : Chan
-closed = record { grant = 0; link = NotYet; receive = nothingHeld; send = nothingHeld; ready = 0 }
+closed = record { grant = 0; link = NotYet; carries = Stream; receive = nothingHeld; send = nothingHeld; ready = 0 }
 
 unfoldable pub isOpen : Chan → Bool
 isOpen c = leb 1 (c .grant)
@@ -80,8 +90,10 @@ queue c Receive = c .receive
 queue c Send = c .send
 
 unfoldable pub withQueue : Chan → Way → Queue → Chan
-withQueue c Receive q = record { grant = c .grant; link = c .link; receive = q; send = c .send; ready = c .ready }
-withQueue c Send q = record { grant = c .grant; link = c .link; receive = c .receive; send = q; ready = c .ready }
+withQueue c Receive q =
+    record { grant = c .grant; link = c .link; carries = c .carries; receive = q; send = c .send; ready = c .ready }
+withQueue c Send q =
+    record { grant = c .grant; link = c .link; carries = c .carries; receive = c .receive; send = q; ready = c .ready }
 
 -- the bytes held for a way
 abbrev pub held : Chan → Way → List ℕ
@@ -96,34 +108,63 @@ unfoldable pub due : Chan → Way → ℕ
 due c Receive = length (held c Receive)
 due c Send = c .ready
 
--- bytes come behind those of a queue; the first k bytes go
+-- how many bytes of a way may be handed out at once: of a stream all that are due, of datagrams those of the first
+unfoldable pub atOnce : Chan → Way → ℕ
+atOnce c w = isStream (c .carries) ⇒ due c w else getD (queue c w .lengths) 0 0
+
+-- bytes come behind those of a queue; the first k bytes go; a datagram of k bytes is whole
 unfoldable pub joined : Queue → List ℕ → Queue
-joined q s = record { bytes = q .bytes ++ s }
+joined q s = record { bytes = q .bytes ++ s; lengths = q .lengths }
 
 unfoldable pub without : Queue → ℕ → Queue
-without q k = record { bytes = drop k (q .bytes) }
+without q k = record { bytes = drop k (q .bytes); lengths = lessened (q .lengths) k }
+
+unfoldable pub counting : Queue → ℕ → Queue
+counting q k = record { bytes = q .bytes; lengths = another (q .lengths) k }
 
 -- the channel with another link and another count of ready bytes
 unfoldable pub marked : Chan → Link → ℕ → Chan
-marked c l k = record { grant = c .grant; link = l; receive = c .receive; send = c .send; ready = k }
+marked c l k = record { grant = c .grant; link = l; carries = c .carries; receive = c .receive; send = c .send; ready = k }
 
 -- what happens to one channel: it is opened with a grant
-unfoldable pub fresh : ℕ → Link → Chan
-fresh g l = record { grant = g; link = l; receive = nothingHeld; send = nothingHeld; ready = 0 }
+unfoldable pub fresh : ℕ → Link → Carries → Chan
+fresh g l k = record { grant = g; link = l; carries = k; receive = nothingHeld; send = nothingHeld; ready = 0 }
 
 -- bytes come to a way
 unfoldable pub appended : Chan → Way → List ℕ → Chan
 appended c w s = withQueue c w (joined (queue c w) s)
+
+-- the last k bytes that are due are a whole datagram; a stream has none
+unfoldable pub whole : Chan → Way → ℕ → Chan
+whole c w k = isStream (c .carries) ⇒ c else withQueue c w (counting (queue c w) k)
+
+-- bytes from the radio are one datagram
+unfoldable pub arrived : Chan → List ℕ → Chan
+arrived c s = whole (appended c Receive s) Receive (length s)
 
 -- the first k bytes of a way go; of those to send they were ready
 unfoldable pub removed : Chan → Way → ℕ → Chan
 removed c Receive k = withQueue c Receive (without (c .receive) k)
 removed c Send k = withQueue (marked c (c .link) (c .ready - k)) Send (without (c .send) k)
 
+-- the bytes to send that are not ready: those of a datagram that is not finished
+unfoldable pub unfinished : Chan → ℕ
+unfinished c = length (held c Send) - c .ready
+
 -- all bytes held to send are ready, and a link not yet established is established
 unfoldable pub readied : Chan → Chan
-readied c = marked c (establish (c .link)) (length (held c Send))
+readied c = marked (whole c Send (unfinished c)) (establish (c .link)) (length (held c Send))
 
 -- the link is dropped; what is held stays
 unfoldable pub dropped : Chan → Chan
 dropped c = marked c Dropped (c .ready)
+
+-- how many datagrams a way holds, the unfinished one included
+unfoldable pub placesUsed : Chan → Way → ℕ
+placesUsed c Receive = length (c .receive .lengths)
+placesUsed c Send = length (c .send .lengths) + min 1 (unfinished c)
+
+-- bytes that come would begin a datagram for which there is no place; those to send join the unfinished one, if there is one
+unfoldable pub crowded : Chan → Way → List ℕ → Bool
+crowded c Receive s = not (isEmpty s) && leb placeCount (placesUsed c Receive)
+crowded c Send s = not (isEmpty s) && eqb (unfinished c) 0 && leb placeCount (placesUsed c Send)

@@ -9,7 +9,7 @@ pub struct Details {
     pub qualifier: u8,
 }
 
-// The refusals R1 to R9, in the order of the table.
+// The refusals R1 to R9, R11 and R12, by their numbers.
 pub enum Refusal {
     ShortBuffer,
     CommandSize,
@@ -20,6 +20,8 @@ pub enum Refusal {
     UnfitRecord,
     NoResponse,
     Unreadable,
+    NoPlace,
+    Undersized,
 }
 
 impl Refusal {
@@ -37,6 +39,8 @@ impl Refusal {
             Refusal::UnfitRecord => 7,
             Refusal::NoResponse => 8,
             Refusal::Unreadable => 9,
+            Refusal::NoPlace => 11,
+            Refusal::Undersized => 12,
         }
     }
 }
@@ -46,6 +50,12 @@ pub enum Link {
     NotYet,
     Established,
     Dropped,
+}
+
+// What a channel carries: a stream of bytes, or datagrams that stay whole.
+pub enum Carries {
+    Stream,
+    Datagrams,
 }
 
 // The two ways of a channel: bytes from the radio for the card, and bytes from the card for the radio.
