@@ -5,15 +5,16 @@ use mathlib.Core.Path.{_≡_, refl, sym, ap, _∙_}
 use mathlib.Core.List.{List, [], _∷_, _++_}
 use native.Mathlib.Omega.{arith}
 use lib.ListN.{length, take, replicate, length-append, length-replicate, replicate-append-replicate}
+use Rattle.rules.specs.declared.Carries.{Carries}
 use Rattle.rules.specs.declared.ChannelNumber.{ChannelNumber}
 use Rattle.rules.specs.declared.Link.{Link}
 use Rattle.rules.specs.declared.Way.{Way}
 use Rattle.rules.specs.declared.Way.the-variants.{Receive, Send}
-use Rattle.rules.specs.State.{State, Chan, Queue, closed, chan, withChan, queue, withQueue, held, room, due, joined, without, marked, fresh, appended, removed}
+use Rattle.rules.specs.State.{State, Chan, Queue, closed, chan, withChan, queue, withQueue, held, room, due, atOnce, joined, without, counting, marked, fresh, appended, removed}
 use Rattle.rules.specs.Pool.{poolSize, cells}
 use Rattle.rules.specs.Sound.{SoundChan, Sound}
 use Rattle.rules.proofs.Laws.{by-way}
-use Rattle.rules.proofs.Soundness.{chan-sound, removed-sound}
+use Rattle.rules.proofs.Soundness.{once-due, chan-sound, removed-sound}
 use Rattle.octets.specs.Parts.{part, pasted, cutOut, spread}
 use Rattle.octets.proofs.Pastes.{cut-parts, spread-parts}
 use Rattle.session.specs.Picture.{space, pad, region, poolOf, offset}
@@ -27,9 +28,9 @@ closed-region : region closed ≡ []
 unfolding region pad closed space cells queue
 closed-region = refl
 
-fresh-region : (g : ℕ) (l : Link) → region (fresh g l) ≡ zeros (2 * space g)
+fresh-region : (g : ℕ) (l : Link) (k : Carries) → region (fresh g l k) ≡ zeros (2 * space g)
 unfolding region pad fresh queue
-fresh-region g l =
+fresh-region g l k =
     let m : space g - 0 + (space g - 0) ≡ 2 * space g = omega arith in
     replicate-append-replicate (space g - 0) (space g - 0) 0 ∙ ap zeros m
 
@@ -48,7 +49,7 @@ module _ (c : Chan) (l : Link) (k : ℕ) (s : List ℕ) where
   appended-region Receive = refl
   appended-region Send = refl
 
-  appended-grant : (w : Way) → appended (marked c l k) w s .grant ≡ c .grant
+  pub appended-grant : (w : Way) → appended (marked c l k) w s .grant ≡ c .grant
   unfolding appended withQueue marked
   appended-grant Receive = refl
   appended-grant Send = refl
@@ -68,6 +69,22 @@ module _ (c : Chan) (k : ℕ) where
   unfolding removed withQueue marked
   removed-grant Receive = refl
   removed-grant Send = refl
+
+module _ (d : Chan) where
+  counted-region : (w : Way) (k : ℕ) → region d ≡ region (withQueue d w (counting (queue d w) k))
+  unfolding region withQueue queue counting
+  counted-region Receive k = refl
+  counted-region Send k = refl
+
+  counted-grant : (w : Way) (k : ℕ) → withQueue d w (counting (queue d w) k) .grant ≡ d .grant
+  unfolding withQueue
+  counted-grant Receive k = refl
+  counted-grant Send k = refl
+
+  counted-fits : (w : Way) (k : ℕ) → Fits d → Fits (withQueue d w (counting (queue d w) k))
+  unfolding withQueue queue counting
+  counted-fits Receive k h = by-way _ (h Receive) (h Send)
+  counted-fits Send k h = by-way _ (h Receive) (h Send)
 
 -- bytes that are due are held, and those that fit the room fit the grant with what is held
 pub due-held : (c : Chan) → SoundChan c → (w : Way) → due c w ≤ length (held c w)
@@ -116,12 +133,13 @@ module _ (a : State) (n : ChannelNumber) (h : Sound a) (place : n .0 - 1 < lengt
         ∙ sym (other (appended (marked c l k) w s) w (joined (queue c w) s) (appended-fits c l k s (hc .fits) w f) (appended-grant c l k s w) (appended-region c l k s w))
 
     pub removed-pool :
-        (w : Way) (k : ℕ) → k ≤ due c w →
+        (w : Way) (k : ℕ) → k ≤ atOnce c w →
         cutOut (poolOf a) (at + offset (c .grant) w) k (at + offset (c .grant) w + length (held c w)) ≡ poolOf (withChan a n (removed c w k))
     unfolding without
     removed-pool w k f =
         let start = at + offset (c .grant) w in
         let d = due-held c hc w in
+        let u = once-due c w hc in
         ap (λ (p : List ℕ). cutOut p start k (start + length (held c w))) (whole w)
         ∙ way-cut (before c x b w) (held c w) (behind c x b w) start sp (way-before c x b w at (hc .fits) e) k (omega arith)
         (held-space (c .grant) (length (held c w)) (hc .fits w))
@@ -154,27 +172,33 @@ module _ (a : State) (n : ChannelNumber) (h : Sound a) (place : n .0 - 1 < lengt
 
     -- an empty region comes, and the later ones move up
     pub opened-pool :
-        (g : ℕ) (l : Link) → c .grant ≡ 0 → used a n h place + 2 * space g ≤ poolSize →
-        spread (poolOf a) at (2 * space g) (used a n h place) ≡ poolOf (withChan a n (fresh g l))
-    opened-pool g l o f =
+        (g : ℕ) (l : Link) (j : Carries) → c .grant ≡ 0 → used a n h place + 2 * space g ≤ poolSize →
+        spread (poolOf a) at (2 * space g) (used a n h place) ≡ poolOf (withChan a n (fresh g l j))
+    opened-pool g l j o f =
         let r = rest a n h place in
         let u = used a n h place in
         let k = 2 * space g in
         let none = empty-region c (hc .fits) o in
         let l0 = ap length none in
         let parts = used-parts a n h place in
-        let lf = ap length (fresh-region g l) ∙ length-replicate {A = ℕ} k 0 in
+        let lf = ap length (fresh-region g l j) ∙ length-replicate {A = ℕ} k 0 in
         let end : at + length r ≡ u = omega arith in
         let m : k + (poolSize - (u + k)) ≡ poolSize - u = omega arith in
-        let left : length x + (length (region (fresh g l)) + length r) ≡ u + k = omega arith in
+        let left : length x + (length (region (fresh g l j)) + length r) ≡ u + k = omega arith in
         ap (λ (p : List ℕ). spread p at k u)
         (pool-split a n h place ∙ ap (λ (y : List ℕ). x ++ (y ++ (r ++ zeros (poolSize - u)))) none
         ∙ ap (λ (z : List ℕ). x ++ (r ++ z)) (sym (replicate-append-replicate k (poolSize - (u + k)) 0 ∙ ap zeros m)))
         ∙ spread-parts x r (zeros k) (zeros (poolSize - (u + k))) at k u e (length-replicate k 0) end
-        ∙ ap (λ (y : List ℕ). x ++ (y ++ (r ++ zeros (poolSize - (u + k))))) (sym (fresh-region g l))
-        ∙ sym (pool-with a n h place (fresh g l) (u + k) left)
+        ∙ ap (λ (y : List ℕ). x ++ (y ++ (r ++ zeros (poolSize - (u + k))))) (sym (fresh-region g l j))
+        ∙ sym (pool-with a n h place (fresh g l j) (u + k) left)
 
   -- another link and another count of ready bytes leave the pool
   pub marked-pool : (l : Link) (k : ℕ) → poolOf (withChan a n (marked c l k)) ≡ poolOf a
   unfolding region marked queue
   marked-pool l k = pool-same a n h place (marked c l k) (hc .fits) (by-way _ (hc .fits Receive) (hc .fits Send)) refl ∙ sym (pool-split a n h place)
+
+  -- the lengths of datagrams leave the pool
+  pub counted-pool : (d : Chan) (w : Way) (k : ℕ) → Fits d → d .grant ≡ c .grant → poolOf (withChan a n d) ≡ poolOf (withChan a n (withQueue d w (counting (queue d w) k)))
+  counted-pool d w k f e =
+      pool-same a n h place d (hc .fits) f e ∙ ap (λ (l : List ℕ). x ++ (l ++ b)) (counted-region d w k)
+      ∙ sym (pool-same a n h place (withQueue d w (counting (queue d w) k)) (hc .fits) (counted-fits d w k f) (counted-grant d w k ∙ e))

@@ -9,11 +9,11 @@ use lib.ListN.{length, take, getD, replicate}
 use Rattle.rules.specs.declared.ChannelNumber.{ChannelNumber}
 use Rattle.rules.specs.declared.Way.{Way}
 use Rattle.rules.specs.declared.Way.the-variants.{Receive, Send}
-use Rattle.rules.specs.State.{State, Chan, closed, chan, held}
+use Rattle.rules.specs.State.{State, Chan, closed, chan, queue, held}
 use Rattle.rules.specs.Pool.{cellSize, poolSize, cells, promisedTo}
 use Rattle.rules.specs.Sound.{Each, SoundChan, Sound}
-use Rattle.session.specs.Book.{numbersOf}
-use Rattle.session.specs.Picture.{space, pad, region, regions, poolOf, linkNumber, entry, entriesOf, headsOf, ledgerOf, offset, shown, GoodIn}
+use Rattle.session.specs.Book.{numbersOf, places}
+use Rattle.session.specs.Picture.{space, pad, region, regions, poolOf, linkNumber, carriesNumber, entry, chanNumbers, entriesOf, headsOf, ledgerOf, offset, shown, GoodIn}
 use Rattle.session.specs.Cells.{HeldAt, SameLengths}
 use Rattle.session.proofs.Regions.{Fits, length-way, length-region}
 use Rattle.session.proofs.Owners.{first-start}
@@ -109,7 +109,13 @@ entry-same c d s =
       rx = s .lengths Receive i;
       tx = s .lengths Send i;
       ready = s .ready i;
+      carries = carriesNumber (s .carries i);
     }
+
+-- and the same numbers
+numbers-same : (c d : Chan) → SameLengths c d → chanNumbers c ≡ chanNumbers d
+unfolding chanNumbers queue
+numbers-same c d s = λ i. numbersOf (entry-same c d s i) ++ (places (s .datagrams Receive i) ++ places (s .datagrams Send i))
 
 entries-same :
     (cs ds : List Chan) → length cs ≡ length ds → ((k : ℕ) → k < length cs → SameLengths (getD cs k closed) (getD ds k closed)) →
@@ -120,7 +126,7 @@ entries-same [] (d ∷ ds) e s = absurd (let q : 0 ≡ suc (length ds) = e in om
 entries-same (c ∷ cs) [] e s = absurd (let q : suc (length cs) ≡ 0 = e in omega arith)
 entries-same (c ∷ cs) (d ∷ ds) e s =
     let rest = entries-same cs ds (let q : suc (length cs) ≡ suc (length ds) = e in omega arith) (λ k h. s (suc k) (omega arith)) in
-    λ i. numbersOf (entry-same c d (s 0 (omega arith)) i) ++ rest i
+    λ i. numbers-same c d (s 0 (omega arith)) i ++ rest i
 
 -- the ledgers of two good sessions that differ at most in the values of held bytes are the same
 pub ledger-by-lengths :

@@ -1,31 +1,41 @@
 -- What is known of a good session at the number of a channel, and the law of each change, over plain variables.
 -- Assumes nothing.
-use Prim.Native.Nat.{ℕ, _+_, _-_, _*_, _≤_, _<_}
+use Prim.Native.Nat.{ℕ, zero, suc, _+_, _-_, _*_, _≤_, _<_, min}
 use mathlib.Core.Path.{_≡_, refl, sym, ap, subst, _∙_}
-use mathlib.Core.List.{List}
+use mathlib.Core.Bool.{Bool, true, false}
+use mathlib.Core.List.{List, [], _∷_, _++_, append-assoc}
 use native.Mathlib.Omega.{arith}
-use lib.ListN.{length, take, length-append, length-drop}
+use lib.ListN.{length, take, drop, getD, set, replicate, length-append, length-drop}
+use lib.Dec.{ltb, leb}
 use lib.Seq.{take-all}
+use Rattle.rules.specs.declared.Carries.{Carries}
+use Rattle.rules.specs.declared.Carries.the-variants.{Stream, Datagrams}
 use Rattle.rules.specs.declared.ChannelNumber.{ChannelNumber}
 use Rattle.rules.specs.declared.Events.{Events}
 use Rattle.rules.specs.declared.Link.{Link}
 use Rattle.rules.specs.declared.Link.the-variants.{NotYet, Established, Dropped}
 use Rattle.rules.specs.declared.Way.{Way}
 use Rattle.rules.specs.declared.Way.the-variants.{Receive, Send}
-use Rattle.rules.specs.State.{State, Chan, closed, chan, withChan, queue, withQueue, held, room, due, joined, without, marked, fresh, appended, removed}
+use Rattle.rules.specs.Checks.{_⇒_else_}
+use Rattle.rules.specs.Datagrams.{placeCount, another, lessened, total}
+use Rattle.rules.specs.State.{State, Chan, closed, isStream, chan, withChan, queue, withQueue, held, room, due, atOnce, joined, without, counting, marked, fresh, appended, whole, removed}
 use Rattle.rules.specs.Pool.{cellSize, poolSize, grantCap, promisedTo, promised}
 use Rattle.rules.specs.Sound.{SoundChan, Sound}
-use Rattle.rules.proofs.Laws.{each-take}
-use Rattle.rules.proofs.Soundness.{chan-sound}
+use Rattle.rules.proofs.Laws.{by-way, stop, skip, each-take}
+use Rattle.rules.proofs.Datagrams.{Some, first}
+use Rattle.rules.proofs.Soundness.{once-due, chan-sound}
 use Rattle.octets.specs.Parts.{part, pasted, cutOut, spread}
+use Rattle.octets.proofs.Pastes.{length-pasted}
 use Rattle.session.specs.declared.Channel.{Channel}
-use Rattle.session.specs.Book.{ledgerSize, entryIn, withEntry, withList}
-use Rattle.session.specs.Picture.{space, regions, poolOf, linkNumber, linkOf, entry, ledgerOf, baseIn, offset, startIn, shown, Shows, GoodIn}
+use Rattle.session.specs.Book.{ledgerSize, entryAt, numbersOf, entryIn, withEntry, lengthsAt, lengthsFrom, lengthsIn, places, withLength, lessLength, withList}
+use Rattle.session.specs.Picture.{space, regions, poolOf, linkNumber, linkOf, carriesNumber, entry, chanNumbers, ledgerOf, baseIn, offset, startIn, shown, Shows, GoodIn}
 use Rattle.session.specs.Changed.{Numbered, chanIn, Changed, heldIn, dueIn, moreIn, lessIn, Marks, withEvents}
-use Rattle.session.proofs.Ledgers.{ledger-size, entry-read, base-read, entry-written, list-written}
-use Rattle.session.proofs.Regions.{length-regions, length-pad, front, used, used-parts, used-fits, length-region, held-space}
-use Rattle.session.proofs.Views.{number-back}
-use Rattle.session.proofs.Changes.{appended-pool, removed-pool, held-part, closed-pool, opened-pool, marked-pool, due-held}
+use Rattle.session.proofs.Places.{places-size, places-last}
+use Rattle.session.proofs.Ways.{paste-parts, way-read, way-get, way-more, way-first, way-less, wayFront, wayRest, way-parts, way-size, other-lengths}
+use Rattle.session.proofs.Ledgers.{closed-numbers, ledger-size, entry-read, base-read, list-written, before, behind, before-size, ledger-with, ledger-parts}
+use Rattle.session.proofs.Regions.{length-regions, length-pad, front, used, used-parts, used-fits, length-region, held-space, same-queue}
+use Rattle.session.proofs.Views.{number-back, few-lengths}
+use Rattle.session.proofs.Changes.{appended-fits, appended-grant, appended-pool, counted-pool, removed-pool, held-part, closed-pool, opened-pool, marked-pool, due-held}
 
 -- the counts of an entry are those of the channel, for either way
 held-entry : (c : Chan) (w : Way) → heldIn (entry c) w ≡ length (held c w)
@@ -42,13 +52,89 @@ due-entry c Send = refl
 module _ (c : Chan) (l : Link) (k : ℕ) (s : List ℕ) where
   more-entry : (w : Way) → moreIn (entry (marked c l k)) w (length s) ≡ entry (appended (marked c l k) w s)
   unfolding moreIn entry appended withQueue marked queue joined
-  more-entry Receive = λ i. record { grant = c .grant; link = linkNumber l; rx = sym (length-append (c .receive .bytes) s) i; tx = length (c .send .bytes); ready = k }
-  more-entry Send = λ i. record { grant = c .grant; link = linkNumber l; rx = length (c .receive .bytes); tx = sym (length-append (c .send .bytes) s) i; ready = k }
+  more-entry Receive = λ i. record { grant = c .grant; link = linkNumber l; rx = sym (length-append (c .receive .bytes) s) i; tx = length (c .send .bytes); ready = k; carries = carriesNumber (c .carries) }
+  more-entry Send = λ i. record { grant = c .grant; link = linkNumber l; rx = length (c .receive .bytes); tx = sym (length-append (c .send .bytes) s) i; ready = k; carries = carriesNumber (c .carries) }
 
 less-entry : (c : Chan) (w : Way) (k : ℕ) → lessIn (entry c) w k ≡ entry (removed c w k)
 unfolding lessIn entry removed withQueue marked queue without
-less-entry c Receive k = λ i. record { grant = c .grant; link = linkNumber (c .link); rx = sym (length-drop k (c .receive .bytes)) i; tx = length (c .send .bytes); ready = c .ready }
-less-entry c Send k = λ i. record { grant = c .grant; link = linkNumber (c .link); rx = length (c .receive .bytes); tx = sym (length-drop k (c .send .bytes)) i; ready = c .ready - k }
+less-entry c Receive k = λ i. record { grant = c .grant; link = linkNumber (c .link); rx = sym (length-drop k (c .receive .bytes)) i; tx = length (c .send .bytes); ready = c .ready; carries = carriesNumber (c .carries) }
+less-entry c Send k = λ i. record { grant = c .grant; link = linkNumber (c .link); rx = length (c .receive .bytes); tx = sym (length-drop k (c .send .bytes)) i; ready = c .ready - k; carries = carriesNumber (c .carries) }
+
+-- the lengths beside these changes
+appended-lengths : (c : Chan) (l : Link) (k : ℕ) (s : List ℕ) (w v : Way) → queue (appended (marked c l k) w s) v .lengths ≡ queue c v .lengths
+unfolding appended withQueue marked queue joined
+appended-lengths c l k s Receive Receive = refl
+appended-lengths c l k s Receive Send = refl
+appended-lengths c l k s Send Receive = refl
+appended-lengths c l k s Send Send = refl
+
+appended-carries : (c : Chan) (l : Link) (k : ℕ) (s : List ℕ) (w : Way) → appended (marked c l k) w s .carries ≡ c .carries
+unfolding appended withQueue marked
+appended-carries c l k s Receive = refl
+appended-carries c l k s Send = refl
+
+marked-lengths : (c : Chan) (l : Link) (k : ℕ) (v : Way) → queue (marked c l k) v .lengths ≡ queue c v .lengths
+unfolding marked queue
+marked-lengths c l k Receive = refl
+marked-lengths c l k Send = refl
+
+removed-lengths :
+    (c : Chan) (w : Way) (k : ℕ) (v : Way) →
+    queue (withQueue (removed c w k) w (record { bytes = held (removed c w k) w; lengths = queue c w .lengths })) v .lengths ≡ queue c v .lengths
+unfolding removed withQueue marked queue without
+removed-lengths c Receive k Receive = refl
+removed-lengths c Receive k Send = refl
+removed-lengths c Send k Receive = refl
+removed-lengths c Send k Send = refl
+
+-- an entry has no lengths
+entry-lengths : (d : Chan) (w : Way) (ms : List ℕ) → entry d ≡ entry (withQueue d w (record { bytes = held d w; lengths = ms }))
+unfolding entry withQueue queue
+entry-lengths d Receive ms = refl
+entry-lengths d Send ms = refl
+
+lessened-back :
+    (c : Chan) (w : Way) (k : ℕ) →
+    let d = withQueue (removed c w k) w (record { bytes = held (removed c w k) w; lengths = queue c w .lengths }) in
+    withQueue d w (record { bytes = held d w; lengths = lessened (queue d w .lengths) k }) ≡ removed c w k
+unfolding removed withQueue marked queue without
+lessened-back c Receive k = refl
+lessened-back c Send k = refl
+
+none-lessened :
+    (c : Chan) (w : Way) (k : ℕ) → queue c w .lengths ≡ [] →
+    withQueue (removed c w k) w (record { bytes = held (removed c w k) w; lengths = queue c w .lengths }) ≡ removed c w k
+unfolding removed withQueue marked queue without lessened
+none-lessened c Receive k e =
+    let same : c .receive .lengths ≡ lessened (c .receive .lengths) k = e ∙ sym (ap (λ (l : List ℕ). lessened l k) e) in
+    λ i. withQueue c Receive (record { bytes = drop k (c .receive .bytes); lengths = same i })
+none-lessened c Send k e =
+    let same : c .send .lengths ≡ lessened (c .send .lengths) k = e ∙ sym (ap (λ (l : List ℕ). lessened l k) e) in
+    λ i. withQueue (marked c (c .link) (c .ready - k)) Send (record { bytes = drop k (c .send .bytes); lengths = same i })
+
+-- what a number of the ledger says of a channel's kind
+number-stream : (k : Carries) → carriesNumber k ≡ 0 → isStream k ≡ true
+unfolding isStream
+number-stream Stream e = refl
+number-stream Datagrams e = absurd (omega arith)
+
+number-datagrams : (k : Carries) → (carriesNumber k ≡ 0 → ⊥) → isStream k ≡ false
+unfolding isStream
+number-datagrams Stream e = absurd (e refl)
+number-datagrams Datagrams e = refl
+
+-- a channel that is not open has no datagram
+total-none : (ls : List ℕ) → Some ls → total ls ≡ 0 → ls ≡ []
+unfolding total
+total-none [] h e = refl
+total-none (y ∷ ls) h e = absurd (omega (arith, h .0))
+
+unused-lengths : (c : Chan) → SoundChan c → c .grant ≡ 0 → (w : Way) → queue c w .lengths ≡ []
+unused-lengths c h o w = by (isStream (c .carries)) refl
+  where
+    by : (b : Bool) → isStream (c .carries) ≡ b → queue c w .lengths ≡ []
+    by true e = h .lengths w .none e
+    by false e = total-none (queue c w .lengths) (h .lengths w .some) (let f = h .fits w in let d = due-held c h w in omega (arith, h .lengths w .all e))
 
 -- the numbers of a good session
 pub record Bounds (t p : List ℕ) (n : ChannelNumber) : Type 0 where
@@ -157,9 +243,110 @@ module _ (t p : List ℕ) (n : ChannelNumber) (h : Numbered t p n) where
         link-known = let k = link-number-known (c .link) in omega arith;
       }
 
+  -- what stands before the channel's numbers, and behind them
+  abbrev front-of : List ℕ
+  front-of = before a (sound .thirteen) n place
+
+  abbrev rest-of : List ℕ
+  rest-of = behind a (sound .thirteen) n place
+
+  numbered : (d : Chan) → ledgerOf (withChan a n d) ≡ front-of ++ (chanNumbers d ++ rest-of)
+  numbered d = ledger-with a (sound .thirteen) n place d
+
+  -- another entry, the lengths as they were
+  entry-written : (d : Chan) (e : Channel) → e ≡ entry d → ((w : Way) → queue d w .lengths ≡ queue c w .lengths) → withEntry t n e ≡ ledgerOf (withChan a n d)
+  unfolding withEntry chanNumbers queue
+  entry-written d e r same =
+      let x = places (c .receive .lengths) ++ places (c .send .lengths) in
+      (λ i. pasted ((table-is ∙ ledger-parts a (sound .thirteen) n place ∙ ap (λ (l : List ℕ). front-of ++ l) (append-assoc (numbersOf (entry c)) x rest-of)) i) (entryAt (n .0 - 1)) (numbersOf (r i)))
+      ∙ paste-parts front-of (numbersOf (entry c)) (x ++ rest-of) (numbersOf (entry d)) (entryAt (n .0 - 1)) (before-size a (sound .thirteen) n place) refl
+      ∙ ap (λ (l : List ℕ). front-of ++ l) (sym (append-assoc (numbersOf (entry d)) x rest-of))
+      ∙ (λ i. front-of ++ ((numbersOf (entry d) ++ (places (sym (same Receive) i) ++ places (sym (same Send) i))) ++ rest-of)) ∙ sym (numbered d)
+
+  pub entry-size : (e : Channel) (v : List ℕ) → v ≡ withEntry t n e → length v ≡ ledgerSize
+  unfolding withEntry
+  entry-size e v q =
+      let l = good-table t p (h .good) in
+      ap (λ (u : List ℕ). length u) q ∙ length-pasted t (entryAt (n .0 - 1)) (numbersOf e) (omega (arith, h .high)) ∙ l
+
   -- the two arrays with the entry of a channel, and its pool, are the session with that channel
-  changed : (d : Chan) (e : Channel) (u q : List ℕ) → u ≡ withEntry t n e → e ≡ entry d → q ≡ poolOf (withChan a n d) → Changed t p n d u q
-  changed d e u q eᵗ r s = record { ledger = eᵗ ∙ (λ i. withEntry (table-is i) n (r i)) ∙ entry-written a (sound .thirteen) n d place; pool = s }
+  changed :
+      (d : Chan) (e : Channel) (u q : List ℕ) → u ≡ withEntry t n e → e ≡ entry d → ((w : Way) → queue d w .lengths ≡ queue c w .lengths) →
+      q ≡ poolOf (withChan a n d) → Changed t p n d u q
+  changed d e u q eᵗ r same s = record { ledger = eᵗ ∙ entry-written d e r same; pool = s }
+
+  -- the places of a way in the ledger with another channel
+  module _ (d : Chan) (some : (w : Way) → Some (queue d w .lengths)) (few : (w : Way) → length (queue d w .lengths) ≤ placeCount) (w : Way) where
+    abbrev ls : List ℕ
+    ls = queue d w .lengths
+
+    abbrev at-way : ℕ
+    at-way = lengthsAt n w
+
+    in-parts : ledgerOf (withChan a n d) ≡ wayFront front-of d w ++ (places ls ++ wayRest rest-of d w)
+    in-parts = numbered d ∙ way-parts front-of rest-of d w
+
+    front-size : length (wayFront front-of d w) ≡ at-way
+    front-size = way-size front-of d (entryAt (n .0 - 1)) w (before-size a (sound .thirteen) n place)
+
+    -- the lengths are read
+    pub lengths-there : lengthsIn (ledgerOf (withChan a n d)) n w ≡ ls
+    lengths-there =
+        ap (λ (u : List ℕ). lengthsFrom placeCount (drop at-way u)) in-parts ∙ way-read (wayFront front-of d w) (wayRest rest-of d w) ls at-way front-size (some w) (few w)
+
+    -- one length more, and fewer bytes of the first
+    more-written : (k : ℕ) → length ls + min 1 k ≤ placeCount → withLength (ledgerOf (withChan a n d)) n w k ≡ ledgerOf (withChan a n (withQueue d w (counting (queue d w) k)))
+    unfolding withLength counting another
+    more-written zero h = ap (λ (y : Chan). ledgerOf (withChan a n y)) (sym (same-queue d w))
+    more-written (suc k) h =
+        (λ i. set (in-parts i) (at-way + length (lengths-there i)) (suc k))
+        ∙ way-more (wayFront front-of d w) (wayRest rest-of d w) ls at-way front-size k (omega arith)
+        ∙ sym (numbered (withQueue d w (counting (queue d w) (suc k))) ∙ other-lengths front-of rest-of d w (another ls (suc k)))
+
+    less-written : (k : ℕ) → lessLength (ledgerOf (withChan a n d)) n w k ≡ ledgerOf (withChan a n (withQueue d w (record { bytes = held d w; lengths = lessened ls k })))
+    unfolding lessLength
+    less-written k =
+        (λ i. ltb k (getD (in-parts i) at-way 0) ⇒ set (in-parts i) at-way (getD (in-parts i) at-way 0 - k) else pasted (in-parts i) at-way (part (at-way + 1) (at-way + placeCount) (in-parts i) ++ 0 ∷ []))
+        ∙ way-less (wayFront front-of d w) (wayRest rest-of d w) ls at-way front-size k (few w)
+        ∙ sym (numbered (withQueue d w (record { bytes = held d w; lengths = lessened ls k })) ∙ other-lengths front-of rest-of d w (lessened ls k))
+
+  -- the lengths of the channel itself
+  own-some : (w : Way) → Some (queue c w .lengths)
+  own-some w = chan-sound a n sound .lengths w .some
+
+  own-few : (w : Way) → length (queue c w .lengths) ≤ placeCount
+  own-few w = few-lengths c (chan-sound a n sound) w
+
+  -- the first length, and the last place, as the ledger has them
+  pub first-read : (w : Way) → getD t (lengthsAt n w) 0 ≡ first (queue c w .lengths)
+  first-read w =
+      ap (λ (u : List ℕ). getD u (lengthsAt n w) 0) (table-is ∙ ledger-parts a (sound .thirteen) n place ∙ way-parts front-of rest-of c w)
+      ∙ way-first (wayFront front-of c w) (wayRest rest-of c w) (queue c w .lengths) (lengthsAt n w) (way-size front-of c (entryAt (n .0 - 1)) w (before-size a (sound .thirteen) n place))
+
+  pub last-read : (w : Way) → ltb 0 (getD t (lengthsAt n w + 15) 0) ≡ leb placeCount (length (queue c w .lengths))
+  last-read w =
+      ap (λ (u : List ℕ). ltb 0 (getD u (lengthsAt n w + 15) 0)) (table-is ∙ ledger-parts a (sound .thirteen) n place ∙ way-parts front-of rest-of c w)
+      ∙ ap (ltb 0) (way-get (wayFront front-of c w) (wayRest rest-of c w) (queue c w .lengths) (lengthsAt n w) (way-size front-of c (entryAt (n .0 - 1)) w (before-size a (sound .thirteen) n place)) 15 (omega arith))
+      ∙ places-last (queue c w .lengths) (own-some w) (own-few w)
+
+  -- what the channel carries, by the number that its entry has
+  pub stream-is : x .carries ≡ 0 → isStream (c .carries) ≡ true
+  unfolding entry
+  stream-is e = number-stream (c .carries) (sym (ap (λ (y : Channel). y .carries) entry-is) ∙ e)
+
+  pub datagrams-is : (x .carries ≡ 0 → ⊥) → isStream (c .carries) ≡ false
+  unfolding entry
+  datagrams-is e = number-datagrams (c .carries) (λ q. e (ap (λ (y : Channel). y .carries) entry-is ∙ q))
+
+  -- what may be handed out at once, from the entry or from the first length
+  pub once-stream : (e : Channel) (w : Way) → e ≡ x → e .carries ≡ 0 → dueIn e w ≡ atOnce c w
+  unfolding atOnce
+  once-stream e w q z =
+      ap (λ (y : Channel). dueIn y w) (q ∙ entry-is) ∙ due-entry c w ∙ sym (stop _ _ _ (stream-is (sym (ap (λ (y : Channel). y .carries) q) ∙ z)))
+
+  pub once-datagram : (e : Channel) (w : Way) → e ≡ x → (e .carries ≡ 0 → ⊥) → getD t (lengthsAt n w) 0 ≡ atOnce c w
+  unfolding atOnce
+  once-datagram e w q z = first-read w ∙ sym (skip _ _ _ (datagrams-is (λ y. z (ap (λ (v : Channel). v .carries) q ∙ y))))
 
   grant-is : x .grant ≡ c .grant
   unfolding entry
@@ -179,6 +366,7 @@ module _ (t p : List ℕ) (n : ChannelNumber) (h : Numbered t p n) where
         rx = (m .rx ∙ ap (λ (y : Channel). y .rx) entry-is) i;
         tx = (m .tx ∙ ap (λ (y : Channel). y .tx) entry-is) i;
         ready = e .ready;
+        carries = (m .carries ∙ ap (λ (y : Channel). y .carries) entry-is) i;
       }
 
   marked-held : (e : Channel) (w : Way) → Marks e x → heldIn e w ≡ heldIn x w
@@ -210,67 +398,142 @@ module _ (t p : List ℕ) (n : ChannelNumber) (h : Numbered t p n) where
       (omega (arith, b .size), omega (arith, b .capped))
 
   pub removing :
-      (e : Channel) (w : Way) (at k : ℕ) → e ≡ x → at ≡ startIn t n (e .grant) w → k ≤ due c w →
+      (e : Channel) (w : Way) (at k : ℕ) → e ≡ x → at ≡ startIn t n (e .grant) w → k ≤ atOnce c w →
       (at + heldIn e w ≤ length p) × (k ≤ heldIn e w) × (k ≤ dueIn e w)
   removing e w at k q r f =
       let b = bounds in
       let hs = chan-sound a n sound in
+      let u = once-due c w hs in
       let d = due-held c hs w in
       let y : heldIn e w ≡ length (held c w) = ap (λ (z : Channel). heldIn z w) q ∙ held-is w in
       let z : dueIn e w ≡ due c w = ap (λ (v : Channel). dueIn v w) (q ∙ entry-is) ∙ due-entry c w in
       let l : at ≡ startIn t n (x .grant) w = r ∙ ap (λ (v : Channel). startIn t n (v .grant) w) q in
-      let u = way-fits w (heldIn x w) (held-fits w) in
+      let wf = way-fits w (heldIn x w) (held-fits w) in
       let v = held-is w in
       (omega (arith, b .size), omega arith, omega arith)
 
   -- bytes come to a way: with the count that was found, the entry and the two arrays that were left
-  pub append-law :
-      (e f : Channel) (w : Way) (s u q : List ℕ) (h at : ℕ) → Marks e x → length s ≤ room c w →
-      h ≡ heldIn e w → at ≡ startIn t n (e .grant) w → f ≡ moreIn e w (length s) → q ≡ pasted p (at + h) s → u ≡ withEntry t n f →
-      Changed t p n (appended (marked c (linkOf (e .link)) (e .ready)) w s) u q
-  append-law e f w s u q h from m r eʰ eᵃ eᶠ eᵖ eᵗ =
-      let d = marked c (linkOf (e .link)) (e .ready) in
-      let k = eʰ ∙ marked-held e w m ∙ held-is w in
-      let g = eᵃ ∙ ap (λ (y : ℕ). startIn t n y w) (m .grant ∙ grant-is) in
-      changed (appended d w s) f u q eᵗ
-      (eᶠ ∙ ap (λ (y : Channel). moreIn y w (length s)) (marks-entry e m) ∙ more-entry c (linkOf (e .link)) (e .ready) s w)
-      (eᵖ ∙ (λ i. pasted (pool-is i) (g i + k i) s) ∙ appended-pool a n sound place at front-is (linkOf (e .link)) (e .ready) w s r)
+  module _ (e f : Channel) (w : Way) (s u q : List ℕ) (there from k : ℕ) (m : Marks e x) (r : length s ≤ room c w)
+      (eʰ : there ≡ heldIn e w) (eᵃ : from ≡ startIn t n (e .grant) w) (eᶠ : f ≡ moreIn e w (length s)) (eᵖ : q ≡ pasted p (from + there) s) where
+    abbrev d : Chan
+    d = appended (marked c (linkOf (e .link)) (e .ready)) w s
+
+    joins-entry : f ≡ entry d
+    joins-entry = eᶠ ∙ ap (λ (y : Channel). moreIn y w (length s)) (marks-entry e m) ∙ more-entry c (linkOf (e .link)) (e .ready) s w
+
+    joins-lengths : (v : Way) → queue d v .lengths ≡ queue c v .lengths
+    joins-lengths v = appended-lengths c (linkOf (e .link)) (e .ready) s w v
+
+    joins-pool : q ≡ poolOf (withChan a n d)
+    joins-pool =
+        let l = eʰ ∙ marked-held e w m ∙ held-is w in
+        let g = eᵃ ∙ ap (λ (y : ℕ). startIn t n y w) (m .grant ∙ grant-is) in
+        eᵖ ∙ (λ i. pasted (pool-is i) (g i + l i) s) ∙ appended-pool a n sound place (baseIn t (n .0 - 1)) front-is (linkOf (e .link)) (e .ready) w s r
+
+    joins-carries : d .carries ≡ c .carries
+    joins-carries = appended-carries c (linkOf (e .link)) (e .ready) s w
+
+    -- of a stream the entry alone is written
+    pub append-stream : e .carries ≡ 0 → u ≡ withEntry t n f → Changed t p n (whole d w k) u q
+    unfolding whole
+    append-stream z eᵗ =
+        subst (λ (y : Chan). Changed t p n y u q) (sym (stop _ _ _ (ap isStream joins-carries ∙ stream-is (sym (m .carries) ∙ z)))) (changed d f u q eᵗ joins-entry joins-lengths joins-pool)
+
+    -- of datagrams a length more, too
+    pub append-datagram :
+        (e .carries ≡ 0 → ⊥) → length (queue c w .lengths) + min 1 k ≤ placeCount → (v : List ℕ) → v ≡ withEntry t n f → u ≡ withLength v n w k →
+        Changed t p n (whole d w k) u q
+    unfolding whole
+    append-datagram z fit v eᵛ eᵗ =
+        let kind = ap isStream joins-carries ∙ datagrams-is (λ y. z (m .carries ∙ y)) in
+        let size = ap (λ (l : List ℕ). length l) (joins-lengths w) in
+        subst (λ (y : Chan). Changed t p n y u q) (sym (skip _ _ _ kind))
+        (record {
+          ledger =
+              eᵗ ∙ ap (λ (l : List ℕ). withLength l n w k) (eᵛ ∙ entry-written d f joins-entry joins-lengths)
+              ∙ more-written d (λ j. subst Some (sym (joins-lengths j)) (own-some j)) (λ j. subst (λ (l : List ℕ). length l ≤ placeCount) (sym (joins-lengths j)) (own-few j)) w k (omega arith);
+          pool = joins-pool ∙ counted-pool a n sound place d w k (appended-fits c (linkOf (e .link)) (e .ready) s (chan-sound a n sound .fits) w r) (appended-grant c (linkOf (e .link)) (e .ready) s w);
+        })
+
+    -- what the ledger then has of the way's lengths
+    pub joins-read : (v : List ℕ) → v ≡ withEntry t n f → lengthsIn v n w ≡ queue c w .lengths
+    joins-read v eᵛ =
+        ap (λ (l : List ℕ). lengthsIn l n w) (eᵛ ∙ entry-written d f joins-entry joins-lengths)
+        ∙ lengths-there d (λ j. subst Some (sym (joins-lengths j)) (own-some j)) (λ j. subst (λ (l : List ℕ). length l ≤ placeCount) (sym (joins-lengths j)) (own-few j)) w ∙ joins-lengths w
 
   -- the first bytes of a way go
-  pub remove-law :
-      (e f : Channel) (w : Way) (u q : List ℕ) (h from k : ℕ) → e ≡ x → from ≡ startIn t n (e .grant) w → k ≤ due c w →
-      h ≡ heldIn e w → f ≡ lessIn e w k → q ≡ cutOut p from k (from + h) → u ≡ withEntry t n f →
-      Changed t p n (removed c w k) u q
-  remove-law e f w u q h from k eᵉ eᵃ r eʰ eᶠ eᵖ eᵗ =
-      let m = eʰ ∙ ap (λ (y : Channel). heldIn y w) eᵉ ∙ held-is w in
-      let g = eᵃ ∙ ap (λ (y : Channel). startIn t n (y .grant) w) eᵉ ∙ ap (λ (y : ℕ). startIn t n y w) grant-is in
-      changed (removed c w k) f u q eᵗ (eᶠ ∙ ap (λ (y : Channel). lessIn y w k) (eᵉ ∙ entry-is) ∙ less-entry c w k)
-      (eᵖ ∙ (λ i. cutOut (pool-is i) (g i) k (g i + m i)) ∙ removed-pool a n sound place at front-is w k r)
+  module _ (e f : Channel) (w : Way) (u q : List ℕ) (there from k : ℕ) (eᵉ : e ≡ x) (eᵃ : from ≡ startIn t n (e .grant) w) (r : k ≤ atOnce c w)
+      (eʰ : there ≡ heldIn e w) (eᶠ : f ≡ lessIn e w k) (eᵖ : q ≡ cutOut p from k (from + there)) where
+    less-pool : q ≡ poolOf (withChan a n (removed c w k))
+    less-pool =
+        let m = eʰ ∙ ap (λ (y : Channel). heldIn y w) eᵉ ∙ held-is w in
+        let g = eᵃ ∙ ap (λ (y : Channel). startIn t n (y .grant) w) eᵉ ∙ ap (λ (y : ℕ). startIn t n y w) grant-is in
+        eᵖ ∙ (λ i. cutOut (pool-is i) (g i) k (g i + m i)) ∙ removed-pool a n sound place (baseIn t (n .0 - 1)) front-is w k r
+
+    -- the channel without the bytes, the lengths as they were
+    abbrev kept-lengths : Chan
+    kept-lengths = withQueue (removed c w k) w (record { bytes = held (removed c w k) w; lengths = queue c w .lengths })
+
+    kept-entry : f ≡ entry kept-lengths
+    kept-entry = eᶠ ∙ ap (λ (y : Channel). lessIn y w k) (eᵉ ∙ entry-is) ∙ less-entry c w k ∙ entry-lengths (removed c w k) w (queue c w .lengths)
+
+    kept-same : (v : Way) → queue kept-lengths v .lengths ≡ queue c v .lengths
+    kept-same v = removed-lengths c w k v
+
+    pub remove-stream : e .carries ≡ 0 → u ≡ withEntry t n f → Changed t p n (removed c w k) u q
+    remove-stream z eᵗ =
+        let none = chan-sound a n sound .lengths w .none (stream-is (sym (ap (λ (y : Channel). y .carries) eᵉ) ∙ z)) in
+        record { ledger = eᵗ ∙ entry-written kept-lengths f kept-entry kept-same ∙ ap (λ (y : Chan). ledgerOf (withChan a n y)) (none-lessened c w k none); pool = less-pool }
+
+    pub remove-datagram : (v : List ℕ) → v ≡ withEntry t n f → u ≡ lessLength v n w k → Changed t p n (removed c w k) u q
+    remove-datagram v eᵛ eᵗ =
+        record {
+          ledger =
+              eᵗ ∙ ap (λ (l : List ℕ). lessLength l n w k) (eᵛ ∙ entry-written kept-lengths f kept-entry kept-same)
+              ∙ less-written kept-lengths (λ j. subst Some (sym (kept-same j)) (own-some j)) (λ j. subst (λ (l : List ℕ). length l ≤ placeCount) (sym (kept-same j)) (own-few j)) w k
+              ∙ ap (λ (y : Chan). ledgerOf (withChan a n y)) (lessened-back c w k);
+          pool = less-pool;
+        }
 
   -- the region goes, or an empty one comes
   pub close-law :
-      (g : ℕ) (u q : List ℕ) (from sp end : ℕ) → g ≡ x .grant → from ≡ at → sp ≡ space g → end ≡ baseIn t 7 → q ≡ cutOut p from (2 * sp) end →
-      u ≡ withEntry t n (record { grant = 0; link = 0; rx = 0; tx = 0; ready = 0 }) → Changed t p n closed u q
-  unfolding closed entry queue
-  close-law g u q from sp end eᵍ eᵃ eˢ eᵉ eᵖ eᵗ =
+      (g : ℕ) (u v q : List ℕ) (from sp end : ℕ) → g ≡ x .grant → from ≡ at → sp ≡ space g → end ≡ baseIn t 7 → q ≡ cutOut p from (2 * sp) end →
+      v ≡ withEntry t n (record { grant = 0; link = 0; rx = 0; tx = 0; ready = 0; carries = 0 }) → u ≡ pasted v (lengthsAt n Receive) (replicate 32 0) → Changed t p n closed u q
+  unfolding withEntry chanNumbers
+  close-law g u v q from sp end eᵍ eᵃ eˢ eᵉ eᵖ eᵛ eᵗ =
       let m = eˢ ∙ ap space (eᵍ ∙ grant-is) in
-      changed closed _ u q eᵗ refl
-      (eᵖ ∙ (λ i. cutOut (pool-is i) (eᵃ i) (2 * m i) ((eᵉ ∙ sym used-is) i)) ∙ closed-pool a n sound place at front-is)
+      let six : List ℕ = replicate 6 0 in
+      let y = places (c .receive .lengths) ++ places (c .send .lengths) in
+      let size = length-append (places (c .receive .lengths)) (places (c .send .lengths)) in
+      let f = before-size a (sound .thirteen) n place in
+      let fs = length-append front-of six in
+      record {
+        ledger =
+            eᵗ
+            ∙ ap (λ (l : List ℕ). pasted l (lengthsAt n Receive) (replicate 32 0))
+            (eᵛ
+            ∙ (λ i. pasted ((table-is ∙ ledger-parts a (sound .thirteen) n place ∙ ap (λ (l : List ℕ). front-of ++ l) (append-assoc (numbersOf (entry c)) y rest-of)) i) (entryAt (n .0 - 1)) six)
+            ∙ paste-parts front-of (numbersOf (entry c)) (y ++ rest-of) six (entryAt (n .0 - 1)) f refl ∙ sym (append-assoc front-of six (y ++ rest-of)))
+            ∙ paste-parts (front-of ++ six) y rest-of (replicate 32 0) (lengthsAt n Receive) (omega arith) (omega (arith, size, places-size (c .receive .lengths), places-size (c .send .lengths)))
+            ∙ append-assoc front-of six (replicate 32 0 ++ rest-of) ∙ sym (numbered closed ∙ ap (λ (l : List ℕ). front-of ++ (l ++ rest-of)) closed-numbers);
+        pool = eᵖ ∙ (λ i. cutOut (pool-is i) (eᵃ i) (2 * m i) ((eᵉ ∙ sym used-is) i)) ∙ closed-pool a n sound place at front-is;
+      }
 
   pub open-law :
-      (g : ℕ) (k : Link) (l : ℕ) (u q : List ℕ) (from sp end : ℕ) → c .grant ≡ 0 → baseIn t 7 + 2 * space g ≤ poolSize →
-      from ≡ at → sp ≡ space g → end ≡ baseIn t 7 → l ≡ linkNumber k → q ≡ spread p from (2 * sp) end →
-      u ≡ withEntry t n (record { grant = g; link = l; rx = 0; tx = 0; ready = 0 }) → Changed t p n (fresh g k) u q
+      (g : ℕ) (k : Link) (j : Carries) (l z : ℕ) (u q : List ℕ) (from sp end : ℕ) → c .grant ≡ 0 → baseIn t 7 + 2 * space g ≤ poolSize →
+      from ≡ at → sp ≡ space g → end ≡ baseIn t 7 → l ≡ linkNumber k → z ≡ carriesNumber j → q ≡ spread p from (2 * sp) end →
+      u ≡ withEntry t n (record { grant = g; link = l; rx = 0; tx = 0; ready = 0; carries = z }) → Changed t p n (fresh g k j) u q
   unfolding fresh entry queue
-  open-law g k l u q from sp end o f eᵃ eˢ eᵉ eˡ eᵖ eᵗ =
+  open-law g k j l z u q from sp end o f eᵃ eˢ eᵉ eˡ eᶻ eᵖ eᵗ =
       let v = used-is in
-      changed (fresh g k) _ u q eᵗ (λ i. record { grant = g; link = eˡ i; rx = 0; tx = 0; ready = 0 })
-      (eᵖ ∙ (λ i. spread (pool-is i) (eᵃ i) (2 * eˢ i) ((eᵉ ∙ sym used-is) i)) ∙ opened-pool a n sound place at front-is g k o (omega arith))
+      let none = unused-lengths c (chan-sound a n sound) o in
+      changed (fresh g k j) _ u q eᵗ (λ i. record { grant = g; link = eˡ i; rx = 0; tx = 0; ready = 0; carries = eᶻ i }) (by-way _ (sym (none Receive)) (sym (none Send)))
+      (eᵖ ∙ (λ i. spread (pool-is i) (eᵃ i) (2 * eˢ i) ((eᵉ ∙ sym used-is) i)) ∙ opened-pool a n sound place at front-is g k j o (omega arith))
 
   -- another link and another count of ready bytes
   pub mark-law : (e : Channel) (u : List ℕ) → Marks e x → u ≡ withEntry t n e → Changed t p n (marked c (linkOf (e .link)) (e .ready)) u p
   mark-law e u m eᵗ =
-      changed (marked c (linkOf (e .link)) (e .ready)) e u p eᵗ (marks-entry e m)
+      changed (marked c (linkOf (e .link)) (e .ready)) e u p eᵗ (marks-entry e m) (marked-lengths c (linkOf (e .link)) (e .ready))
       (pool-is ∙ sym (marked-pool a n sound place (linkOf (e .link)) (e .ready)))
 
   -- the first bytes held for a way lie in the pool

@@ -6,8 +6,8 @@ use mathlib.Core.Bool.{Bool, true, false}
 use mathlib.Core.List.{List, [], _∷_, _++_, append-assoc}
 use native.Mathlib.Omega.{arith}
 use native.Mathlib.Nat.{le-of-suc-le-suc, not-suc-le-zero, zero-add}
-use lib.ListN.{length, take, drop, getD, set, length-append, getD-replicate, List·getD-append}
-use lib.Seq.{take-at, drop-at, getD-append-add, take-append-add, drop-append-add, sets-eq}
+use lib.ListN.{length, take, drop, getD, set, replicate, length-append, getD-replicate, take-append-drop, List·getD-append}
+use lib.Seq.{take-at, drop-at, getD-append-add, take-append-add, drop-append-add, length-take-le, sets-eq}
 use Rattle.rules.specs.declared.Events.{Events}
 use Rattle.rules.specs.declared.ChannelNumber.{ChannelNumber}
 use Rattle.rules.specs.Profile.{profileSize}
@@ -15,52 +15,84 @@ use Rattle.rules.specs.State.{State, Chan, closed, chan, withChan, queue}
 use Rattle.rules.specs.Pool.{cellSize, cells, promisedTo}
 use Rattle.octets.specs.Parts.{pasted}
 use Rattle.session.specs.declared.Channel.{Channel}
-use Rattle.session.specs.Book.{availableAt, statusAt, channelsAt, entrySize, ledgerSize, entryAt, numbersOf, entryIn, withEntry, listed, listedNumber, withList}
-use Rattle.session.specs.Picture.{space, linkNumber, entry, entriesOf, headsOf, ledgerOf, baseIn}
+use Rattle.session.specs.Book.{availableAt, statusAt, channelsAt, entrySize, ledgerSize, entryAt, numbersOf, entryIn, places, listed, listedNumber, withList}
+use Rattle.session.specs.Picture.{space, linkNumber, entry, chanNumbers, entriesOf, headsOf, ledgerOf, baseIn}
 use Rattle.session.specs.Changed.{withEvents}
+use Rattle.session.proofs.Places.{places-size}
 
 -- an entry put number by number
-pub entry-put : (t : List ℕ) (at : ℕ) (e : Channel) → at + entrySize ≤ length t →
-    set (set (set (set (set t at (e .grant)) (at + 1) (e .link)) (at + 2) (e .rx)) (at + 3) (e .tx)) (at + 4) (e .ready) ≡ pasted t at (numbersOf e)
+pub entry-put : (t : List ℕ) (at : ℕ) (e : Channel) → at + 6 ≤ length t →
+    set (set (set (set (set (set t at (e .grant)) (at + 1) (e .link)) (at + 2) (e .rx)) (at + 3) (e .tx)) (at + 4) (e .ready)) (at + 5) (e .carries) ≡ pasted t at (numbersOf e)
 unfolding pasted
 entry-put t at e h =
     let e1 : at + 1 ≡ suc at = omega arith in
     let e2 : at + 2 ≡ suc (suc at) = omega arith in
     let e3 : at + 3 ≡ suc (suc (suc at)) = omega arith in
     let e4 : at + 4 ≡ suc (suc (suc (suc at))) = omega arith in
-    (λ i. set (set (set (set (set t at (e .grant)) (e1 i) (e .link)) (e2 i) (e .rx)) (e3 i) (e .tx)) (e4 i) (e .ready))
-    ∙ sets-eq (numbersOf e) t at h ∙ append-assoc (take at t) (numbersOf e) (drop (at + 5) t)
+    let e5 : at + 5 ≡ suc (suc (suc (suc (suc at)))) = omega arith in
+    (λ i. set (set (set (set (set (set t at (e .grant)) (e1 i) (e .link)) (e2 i) (e .rx)) (e3 i) (e .tx)) (e4 i) (e .ready)) (e5 i) (e .carries))
+    ∙ sets-eq (numbersOf e) t at h ∙ append-assoc (take at t) (numbersOf e) (drop (at + 6) t)
 
--- the numbers of channels, one entry after the other
-entry-numbers : (cs : List Chan) (k j : ℕ) → j < entrySize → getD (entriesOf cs) (entrySize * k + j) 0 ≡ getD (numbersOf (entry (getD cs k closed))) j 0
-unfolding entriesOf entry closed queue
-entry-numbers [] k j h = sym (getD-replicate {A = ℕ} entrySize j 0 0 h)
+-- the numbers of channels, one after the other
+pub numbers-size : (c : Chan) → length (chanNumbers c) ≡ entrySize
+unfolding chanNumbers
+numbers-size c =
+    let r = c .receive .lengths in
+    let s = c .send .lengths in
+    let e = length-append (numbersOf (entry c)) (places r ++ places s) in
+    let f = length-append (places r) (places s) in
+    omega (arith, e, f, places-size r, places-size s)
+
+pub closed-numbers : chanNumbers closed ≡ replicate entrySize 0
+unfolding chanNumbers entry closed queue places
+closed-numbers = refl
+
+entry-numbers : (cs : List Chan) (k j : ℕ) → j < entrySize → getD (entriesOf cs) (entrySize * k + j) 0 ≡ getD (chanNumbers (getD cs k closed)) j 0
+unfolding entriesOf
+entry-numbers [] k j h = sym (ap (λ (l : List ℕ). getD l j 0) closed-numbers ∙ getD-replicate {A = ℕ} entrySize j 0 0 h)
 entry-numbers (c ∷ cs) zero j h =
-    ap (λ (i : ℕ). getD (numbersOf (entry c) ++ entriesOf cs) i 0) (zero-add j) ∙ List·getD-append (numbersOf (entry c)) (entriesOf cs) 0 j h
+    ap (λ (i : ℕ). getD (chanNumbers c ++ entriesOf cs) i 0) (zero-add j) ∙ List·getD-append (chanNumbers c) (entriesOf cs) 0 j (omega (arith, numbers-size c))
 entry-numbers (c ∷ cs) (suc k) j h =
-    ap (λ (i : ℕ). getD (numbersOf (entry c) ++ entriesOf cs) i 0) (let e : entrySize * suc k + j ≡ entrySize + (entrySize * k + j) = omega arith in e)
-    ∙ getD-append-add (numbersOf (entry c)) (entriesOf cs) (entrySize * k + j) 0 ∙ entry-numbers cs k j h
+    ap (λ (i : ℕ). getD (chanNumbers c ++ entriesOf cs) i 0) (let e : entrySize * suc k + j ≡ length (chanNumbers c) + (entrySize * k + j) = omega (arith, numbers-size c) in e)
+    ∙ getD-append-add (chanNumbers c) (entriesOf cs) (entrySize * k + j) 0 ∙ entry-numbers cs k j h
 
 length-entries : (cs : List Chan) → length (entriesOf cs) ≡ entrySize * length cs
 unfolding entriesOf
 length-entries [] = refl
-length-entries (c ∷ cs) = let ih = length-entries cs in omega arith
+length-entries (c ∷ cs) = let ih = length-entries cs in let e = length-append (chanNumbers c) (entriesOf cs) in omega (arith, numbers-size c)
+
+-- those of one channel, and what stands behind them
+entries-block :
+    (cs : List Chan) (k : ℕ) → k < length cs →
+    drop (entrySize * k) (entriesOf cs) ≡ chanNumbers (getD cs k closed) ++ drop (entrySize * k + entrySize) (entriesOf cs)
+unfolding entriesOf
+entries-block [] k h = absurd (not-suc-le-zero h)
+entries-block (c ∷ cs) zero h =
+    ap (λ (l : List ℕ). chanNumbers c ++ l) (sym (drop-at (chanNumbers c) (entriesOf cs) (entrySize * 0 + entrySize) (numbers-size c)))
+entries-block (c ∷ cs) (suc k) h =
+    let x = chanNumbers c in
+    let r = entriesOf cs in
+    let p : entrySize * suc k ≡ length x + entrySize * k = omega (arith, numbers-size c) in
+    let q : entrySize * suc k + entrySize ≡ length x + (entrySize * k + entrySize) = omega (arith, numbers-size c) in
+    ap (λ (j : ℕ). drop j (x ++ r)) p ∙ drop-append-add x r (entrySize * k) ∙ entries-block cs k (le-of-suc-le-suc h)
+    ∙ ap (λ (l : List ℕ). chanNumbers (getD cs k closed) ++ l) (sym (ap (λ (j : ℕ). drop j (x ++ r)) q ∙ drop-append-add x r (entrySize * k + entrySize)))
 
 entries-set :
     (cs : List Chan) (k : ℕ) (d : Chan) → k < length cs →
-    take (entrySize * k) (entriesOf cs) ++ (numbersOf (entry d) ++ drop (entrySize * k + entrySize) (entriesOf cs)) ≡ entriesOf (set cs k d)
+    take (entrySize * k) (entriesOf cs) ++ (chanNumbers d ++ drop (entrySize * k + entrySize) (entriesOf cs)) ≡ entriesOf (set cs k d)
 unfolding entriesOf
 entries-set [] k d h = absurd (not-suc-le-zero h)
-entries-set (c ∷ cs) zero d h = refl
+entries-set (c ∷ cs) zero d h = ap (λ (l : List ℕ). chanNumbers d ++ l) (drop-at (chanNumbers c) (entriesOf cs) (entrySize * 0 + entrySize) (numbers-size c))
 entries-set (c ∷ cs) (suc k) d h =
-    let e = numbersOf (entry c) in
+    let e = chanNumbers c in
     let r = entriesOf cs in
     let p : take (entrySize * suc k) (e ++ r) ≡ e ++ take (entrySize * k) r =
-    ap (λ (j : ℕ). take j (e ++ r)) (let q : entrySize * suc k ≡ entrySize + entrySize * k = omega arith in q) ∙ take-append-add e r (entrySize * k) in
+    ap (λ (j : ℕ). take j (e ++ r)) (let q : entrySize * suc k ≡ length e + entrySize * k = omega (arith, numbers-size c) in q) ∙ take-append-add e r (entrySize * k) in
     let s : drop (entrySize * suc k + entrySize) (e ++ r) ≡ drop (entrySize * k + entrySize) r =
-    ap (λ (j : ℕ). drop j (e ++ r)) (let q : entrySize * suc k + entrySize ≡ entrySize + (entrySize * k + entrySize) = omega arith in q)
+    ap (λ (j : ℕ). drop j (e ++ r)) (let q : entrySize * suc k + entrySize ≡ length e + (entrySize * k + entrySize) = omega (arith, numbers-size c) in q)
     ∙ drop-append-add e r (entrySize * k + entrySize) in
-    (λ i. p i ++ (numbersOf (entry d) ++ s i)) ∙ ap (λ (x : List ℕ). e ++ x) (entries-set cs k d (le-of-suc-le-suc h))
+    (λ i. p i ++ (chanNumbers d ++ s i)) ∙ append-assoc e (take (entrySize * k) r) (chanNumbers d ++ drop (entrySize * k + entrySize) r)
+    ∙ ap (λ (x : List ℕ). e ++ x) (entries-set cs k d (le-of-suc-le-suc h))
 
 cells-more : (cs : List Chan) (k : ℕ) → k < length cs → promisedTo (take (suc k) cs) ≡ promisedTo (take k cs) + 2 * cells (getD cs k closed .grant)
 unfolding promisedTo
@@ -133,14 +165,14 @@ module _ (a : State) (thirteen : length (a .profile) ≡ profileSize) where
       let y = listedNumber (e .status) in
       ap (λ (l : List ℕ). set l statusAt y) (head-written rest 0 availableAt x refl) ∙ head-written (set rest 0 x) 1 statusAt y refl
 
-  number-read : (k j at : ℕ) → j < entrySize → at ≡ entryAt k + j → getD (ledgerOf a) at 0 ≡ getD (numbersOf (entry (getD (a .chans) k closed))) j 0
+  number-read : (k j at : ℕ) → j < entrySize → at ≡ entryAt k + j → getD (ledgerOf a) at 0 ≡ getD (chanNumbers (getD (a .chans) k closed)) j 0
   number-read k j at h e =
       let p : at ≡ length front + (entrySize * k + j) = omega (arith, front-size) in
       (λ i. getD (parts i) (p i) 0) ∙ getD-append-add front (entriesOf (a .chans)) (entrySize * k + j) 0 ∙ entry-numbers (a .chans) k j h
 
   -- the entry of a channel is read
   pub entry-read : (n : ChannelNumber) → entryIn (ledgerOf a) n ≡ entry (chan a n)
-  unfolding chan entry
+  unfolding chan chanNumbers entry
   entry-read n =
       let k = n .0 - 1 in
       λ i.
@@ -150,14 +182,15 @@ module _ (a : State) (thirteen : length (a .profile) ≡ profileSize) where
         rx = number-read k 2 (entryAt k + 2) (omega arith) refl i;
         tx = number-read k 3 (entryAt k + 3) (omega arith) refl i;
         ready = number-read k 4 (entryAt k + 4) (omega arith) refl i;
+        carries = number-read k 5 (entryAt k + 5) (omega arith) refl i;
       }
 
   pub grant-read : (k : ℕ) → getD (ledgerOf a) (entryAt k) 0 ≡ getD (a .chans) k closed .grant
-  unfolding entry
+  unfolding chanNumbers entry
   grant-read k = number-read k 0 (entryAt k) (omega arith) (omega arith)
 
   pub link-read : (k : ℕ) → getD (ledgerOf a) (entryAt k + 1) 0 ≡ linkNumber (getD (a .chans) k closed .link)
-  unfolding entry
+  unfolding chanNumbers entry
   link-read k = number-read k 1 (entryAt k + 1) (omega arith) refl
 
   -- the regions stand one after the other from the first cell on
@@ -170,16 +203,36 @@ module _ (a : State) (thirteen : length (a .profile) ≡ profileSize) where
       let m : promisedTo (take (suc k) (a .chans)) ≡ promisedTo (take k (a .chans)) + 2 * cells (getD (a .chans) k closed .grant) = cells-more (a .chans) k h in
       omega arith
 
-  -- another entry in the place of a channel
-  pub entry-written : (n : ChannelNumber) (d : Chan) → n .0 - 1 < length (a .chans) → withEntry (ledgerOf a) n (entry d) ≡ ledgerOf (withChan a n d)
-  unfolding withEntry pasted withChan ledgerOf headsOf
-  entry-written n d h =
-      let k = n .0 - 1 in
-      let y = entriesOf (a .chans) in
-      let p : entryAt k ≡ length front + entrySize * k = omega (arith, front-size) in
-      let q : entryAt k + entrySize ≡ length front + (entrySize * k + entrySize) = omega (arith, front-size) in
-      (λ i. take (p i) (parts i) ++ (numbersOf (entry d) ++ drop (q i) (parts i)))
-      ∙ (λ i. take-append-add front y (entrySize * k) i ++ (numbersOf (entry d) ++ drop-append-add front y (entrySize * k + entrySize) i))
-      ∙ append-assoc front (take (entrySize * k) y) (numbersOf (entry d) ++ drop (entrySize * k + entrySize) y)
-      ∙ ap (λ (z : List ℕ). front ++ z) (entries-set (a .chans) k d h)
-      ∙ append-assoc (a .profile) (headsOf a) (entriesOf (set (a .chans) k d))
+  -- the ledger in parts: what stands before the numbers of a channel, these, and what stands behind them; and with another channel there
+  module _ (n : ChannelNumber) (h : n .0 - 1 < length (a .chans)) where
+    abbrev k : ℕ
+    k = n .0 - 1
+
+    abbrev y : List ℕ
+    y = entriesOf (a .chans)
+
+    pub before : List ℕ
+    before = front ++ take (entrySize * k) y
+
+    pub behind : List ℕ
+    behind = drop (entrySize * k + entrySize) y
+
+    pub before-size : length before ≡ entryAt k
+    unfolding before
+    before-size =
+        let e = length-append front (take (entrySize * k) y) in
+        let f = length-take-le (entrySize * k) y (let n = length-entries (a .chans) in omega arith) in
+        omega (arith, front-size)
+
+    pub ledger-with : (d : Chan) → ledgerOf (withChan a n d) ≡ before ++ (chanNumbers d ++ behind)
+    unfolding before behind withChan ledgerOf headsOf
+    ledger-with d =
+        sym (append-assoc (a .profile) (headsOf a) (entriesOf (set (a .chans) k d)))
+        ∙ ap (λ (z : List ℕ). front ++ z) (sym (entries-set (a .chans) k d h))
+        ∙ sym (append-assoc front (take (entrySize * k) y) (chanNumbers d ++ drop (entrySize * k + entrySize) y))
+
+    pub ledger-parts : ledgerOf a ≡ before ++ (chanNumbers (chan a n) ++ behind)
+    unfolding before behind chan
+    ledger-parts =
+        parts ∙ ap (λ (z : List ℕ). front ++ z) (sym (take-append-drop (entrySize * k) y) ∙ ap (λ (z : List ℕ). take (entrySize * k) y ++ z) (entries-block (a .chans) k h))
+        ∙ sym (append-assoc front (take (entrySize * k) y) (chanNumbers (getD (a .chans) k closed) ++ drop (entrySize * k + entrySize) y))

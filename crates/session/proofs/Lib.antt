@@ -1,4 +1,7 @@
+pub mod Places
+pub mod Ways
 pub mod Ledgers
+pub mod Lengths
 pub mod Regions
 pub mod Changes
 pub mod Views

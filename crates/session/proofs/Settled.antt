@@ -11,6 +11,10 @@ use Rattle.session.proofs.base.Kinds as base-kinds
 use Rattle.session.proofs.base.Reads as base-reads
 use Rattle.session.proofs.start_of.Kinds as start-of-kinds
 use Rattle.session.proofs.start_of.Reads as start-of-reads
+use Rattle.session.proofs.is_crowded.Kinds as is-crowded-kinds
+use Rattle.session.proofs.is_crowded.Reads as is-crowded-reads
+use Rattle.session.proofs.at_once.Kinds as at-once-kinds
+use Rattle.session.proofs.at_once.Reads as at-once-reads
 use Rattle.session.proofs.free_cells.Kinds as free-cells-kinds
 use Rattle.session.proofs.free_cells.Reads as free-cells-reads
 use Rattle.session.proofs.append.Kinds as append-kinds
@@ -48,6 +52,12 @@ start-of-settled κs a _ x y v w p q = (p ∙ sym q, refl)
 
 pub free-cells-settled : Determined 1 free-cells-kinds.ps free-cells-kinds.r free-cells-reads.Pre free-cells-reads.Post
 free-cells-settled κs a _ x y v w p q = (p ∙ sym q, refl)
+
+pub is-crowded-settled : Determined 2 is-crowded-kinds.ps is-crowded-kinds.r is-crowded-reads.Pre is-crowded-reads.Post
+is-crowded-settled κs a _ x y v w p q = (p ∙ sym q, refl)
+
+pub at-once-settled : Determined 2 at-once-kinds.ps at-once-kinds.r at-once-reads.Pre at-once-reads.Post
+at-once-settled κs a _ x y v w p q = (p ∙ sym q, refl)
 
 pub append-settled : Determined 3 append-kinds.ps append-kinds.r append-reads.Pre append-reads.Post
 append-settled κs a _ x y v w p q = (refl, λ i. (ledger-alike p q i, (pool-alike p q i, v .1 .1)))

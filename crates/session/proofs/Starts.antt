@@ -15,8 +15,8 @@ use Rattle.rules.specs.Pool.{poolSize, cells}
 use Rattle.rules.specs.State.{start, closed, queue}
 use Rattle.octets.specs.Parts.{part, pasted}
 use Rattle.octets.proofs.Copies.{length-part}
-use Rattle.session.specs.Book.{ledgerSize}
-use Rattle.session.specs.Picture.{space, pad, region, regions, poolOf, entry, entriesOf, headsOf, ledgerOf}
+use Rattle.session.specs.Book.{ledgerSize, places}
+use Rattle.session.specs.Picture.{space, pad, region, regions, poolOf, entry, chanNumbers, entriesOf, headsOf, ledgerOf}
 
 zeros-drop : (a n : ℕ) → a ≤ n → drop a (replicate {A = ℕ} n 0) ≡ replicate (n - a) 0
 zeros-drop zero n h = ap (λ (k : ℕ). replicate k 0) (let e : n ≡ n - 0 = omega arith in e)
@@ -72,7 +72,7 @@ over-all d s e =
 
 -- the front of a profile, put over as many zeros as the ledger has numbers, is the ledger of a fresh session
 pub start-table : (p : List ℕ) (m : ℕ) → m ≡ min (length p) profileSize → pasted (replicate ledgerSize 0) 0 (part 0 m p) ≡ ledgerOf (start p)
-unfolding pasted ledgerOf headsOf start entriesOf entry closed queue
+unfolding pasted ledgerOf headsOf start entriesOf chanNumbers entry closed queue places
 start-table p m e =
     let s = part 0 m p in
     let n : 0 + length s ≤ profileSize = let k = length-part 0 m p (omega arith) in omega arith in

@@ -6,15 +6,21 @@ use mathlib.Core.List.{List, [], _∷_, _++_, append-assoc}
 use native.Mathlib.Omega.{arith}
 use lib.ListN.{length, take, drop, replicate}
 use lib.Seq.{take-at, drop-at}
+use Rattle.rules.specs.declared.Carries.{Carries}
+use Rattle.rules.specs.declared.Carries.the-variants.{Stream, Datagrams}
 use Rattle.rules.specs.declared.Link.{Link}
 use Rattle.rules.specs.declared.Link.the-variants.{NotYet, Established, Dropped}
+use Rattle.rules.specs.declared.Way.{Way}
 use Rattle.rules.specs.declared.Way.the-variants.{Receive, Send}
-use Rattle.rules.specs.State.{State, Chan, queue, held, start}
+use Rattle.rules.specs.Datagrams.{placeCount}
+use Rattle.rules.specs.State.{State, Chan, queue, held, placesUsed, start}
 use Rattle.rules.specs.Pool.{poolSize}
 use Rattle.rules.specs.Sound.{Each, SoundChan, Sound}
 use Rattle.rules.proofs.Soundness.{start-sound}
-use Rattle.session.specs.Picture.{space, pad, region, regions, poolOf, linkNumber, linkOf, entry, entriesOf, ledgerOf, picture, chanFrom, chansFrom, shown, view, Shows, GoodIn, Good}
-use Rattle.session.proofs.Ledgers.{entries-behind, profile-before, available-read, status-read}
+use Rattle.session.specs.Book.{entrySize, lengthsFrom, places}
+use Rattle.session.specs.Picture.{space, pad, region, regions, poolOf, linkNumber, linkOf, carriesNumber, carriesOf, entry, chanNumbers, entriesOf, ledgerOf, picture, chanFrom, chansFrom, shown, view, Shows, GoodIn, Good}
+use Rattle.session.proofs.Places.{places-size, places-read}
+use Rattle.session.proofs.Ledgers.{numbers-size, entries-behind, profile-before, available-read, status-read}
 use Rattle.session.proofs.Regions.{length-way, length-region}
 
 -- a link is read back from its number, and the number from its link
@@ -27,6 +33,16 @@ pub number-back : (n : ℕ) → n ≤ 2 → linkNumber (linkOf n) ≡ n
 number-back zero h = refl
 number-back (suc zero) h = refl
 number-back (suc (suc n)) h = omega arith
+
+pub carries-back : (k : Carries) → carriesOf (carriesNumber k) ≡ k
+carries-back Stream = refl
+carries-back Datagrams = refl
+
+-- the lengths of a way have a place each
+pub few-lengths : (c : Chan) → SoundChan c → (w : Way) → length (queue c w .lengths) ≤ placeCount
+unfolding placesUsed queue
+few-lengths c h Receive = h .lengths Receive .few
+few-lengths c h Send = omega (arith, h .lengths Send .few)
 
 -- from two on a number is that of a dropped link
 pub link-dropped : (n : ℕ) → 2 ≤ n → Dropped ≡ linkOf n
@@ -48,26 +64,50 @@ module _ (c : Chan) (h : SoundChan c) (w : List ℕ) where
   unfolding region
   ways-apart = append-assoc (pad sp (held c Receive)) (pad sp (held c Send)) w
 
-  chan-back : chanFrom (entry c) (region c ++ w) ≡ c
-  unfolding chanFrom entry queue
-  chan-back =
+  module _ (z : List ℕ) where
+    lengths-apart : (places (c .receive .lengths) ++ places (c .send .lengths)) ++ z ≡ places (c .receive .lengths) ++ (places (c .send .lengths) ++ z)
+    lengths-apart = append-assoc (places (c .receive .lengths)) (places (c .send .lengths)) z
+
+    received-back : lengthsFrom placeCount ((places (c .receive .lengths) ++ places (c .send .lengths)) ++ z) ≡ c .receive .lengths
+    unfolding queue
+    received-back =
+        ap (lengthsFrom placeCount) lengths-apart ∙ places-read (c .receive .lengths) (places (c .send .lengths) ++ z) (h .lengths Receive .some) (few-lengths c h Receive)
+
+    sent-back : lengthsFrom placeCount (drop placeCount ((places (c .receive .lengths) ++ places (c .send .lengths)) ++ z)) ≡ c .send .lengths
+    unfolding queue
+    sent-back =
+        ap (λ (l : List ℕ). lengthsFrom placeCount (drop placeCount l)) lengths-apart
+        ∙ ap (lengthsFrom placeCount) (drop-at (places (c .receive .lengths)) (places (c .send .lengths) ++ z) placeCount (places-size (c .receive .lengths)))
+        ∙ places-read (c .send .lengths) z (h .lengths Send .some) (few-lengths c h Send)
+
+  chan-back : (z : List ℕ) → chanFrom (chanNumbers c ++ z) (region c ++ w) ≡ c
+  unfolding chanFrom chanNumbers entry queue
+  chan-back z =
       let r = ap (λ (p : List ℕ). take (length (held c Receive)) p) ways-apart ∙ take-pad sp (held c Receive) (pad sp (held c Send) ++ w) in
       let s = ap (λ (p : List ℕ). take (length (held c Send)) (drop sp p)) ways-apart
       ∙ ap (λ (p : List ℕ). take (length (held c Send)) p) (drop-at (pad sp (held c Receive)) (pad sp (held c Send) ++ w) sp (length-way c (h .fits) Receive))
       ∙ take-pad sp (held c Send) w in
-      λ i. record { grant = c .grant; link = link-back (c .link) i; receive = record { bytes = r i }; send = record { bytes = s i }; ready = c .ready }
+      λ i.
+      record {
+        grant = c .grant;
+        link = link-back (c .link) i;
+        carries = carries-back (c .carries) i;
+        receive = record { bytes = r i; lengths = received-back z i };
+        send = record { bytes = s i; lengths = sent-back z i };
+        ready = c .ready;
+      }
 
   rest-back : drop (2 * sp) (region c ++ w) ≡ w
   rest-back = drop-at (region c) w (2 * sp) (length-region c (h .fits))
 
 chans-back : (k : ℕ) (cs : List Chan) (w : List ℕ) → length cs ≡ k → Each SoundChan cs → chansFrom k (entriesOf cs) (regions cs ++ w) ≡ cs
-unfolding chansFrom entriesOf regions entry
+unfolding chansFrom entriesOf regions chanNumbers entry
 chans-back zero [] w e h = refl
 chans-back zero (c ∷ cs) w e h = absurd (let q : suc (length cs) ≡ 0 = e in omega arith)
 chans-back (suc k) [] w e h = absurd (let q : 0 ≡ suc k = e in omega arith)
 chans-back (suc k) (c ∷ cs) w e h =
     ap (λ (p : List ℕ). chansFrom (suc k) (entriesOf (c ∷ cs)) p) (append-assoc (region c) (regions cs) w)
-    ∙ (λ i. chan-back c (h .0) (regions cs ++ w) i ∷ chansFrom k (entriesOf cs) (rest-back c (h .0) (regions cs ++ w) i))
+    ∙ (λ i. chan-back c (h .0) (regions cs ++ w) (entriesOf cs) i ∷ chansFrom k (drop-at (chanNumbers c) (entriesOf cs) entrySize (numbers-size c) i) (rest-back c (h .0) (regions cs ++ w) i))
     ∙ ap (λ (r : List Chan). c ∷ r) (chans-back k cs w (let q : suc (length cs) ≡ suc k = e in omega arith) (h .1))
 
 -- the picture of a sound state shows that state

@@ -1,14 +1,19 @@
 -- The ledger's numbers: where they stand, and the entry of a channel among them.
 use Prim.Native.Nat.{ℕ, zero, suc, _+_, _-_, _*_}
 use mathlib.Core.Bool.{Bool, true, false}
-use mathlib.Core.List.{List, [], _∷_}
-use lib.ListN.{getD, set}
+use mathlib.Core.List.{List, [], _∷_, _++_}
+use lib.ListN.{length, getD, set, take, drop, replicate}
+use lib.Dec.{ltb, eqb}
+use Rattle.rules.specs.Checks.{_⇒_else_}
+use Rattle.rules.specs.Datagrams.{placeCount}
+use Rattle.rules.specs.declared.Way.{Way}
+use Rattle.rules.specs.declared.Way.the-variants.{Receive, Send}
 use Rattle.rules.specs.declared.ChannelNumber.{ChannelNumber}
 use Rattle.rules.specs.declared.Events.{Events}
-use Rattle.octets.specs.Parts.{pasted}
+use Rattle.octets.specs.Parts.{part, pasted}
 use Rattle.session.specs.declared.Channel.{Channel}
 
--- behind the profile stand two numbers that tell whether 09 and 0A are listed, then an entry for each channel; and the size of all
+-- behind the profile stand two numbers that tell whether 09 and 0A are listed, then an entry for each channel, six numbers and the lengths of datagrams for receive and for send; and the size of all
 abbrev pub availableAt : ℕ
 availableAt = 13
 
@@ -19,10 +24,10 @@ abbrev pub channelsAt : ℕ
 channelsAt = 15
 
 abbrev pub entrySize : ℕ
-entrySize = 5
+entrySize = 38
 
 abbrev pub ledgerSize : ℕ
-ledgerSize = 50
+ledgerSize = 281
 
 -- where the entry of a channel begins; k counts the channels before it
 abbrev pub entryAt : ℕ → ℕ
@@ -31,11 +36,18 @@ entryAt k = entrySize * k + channelsAt
 -- the entry whose numbers begin at a place
 abbrev pub entryFrom : List ℕ → ℕ → Channel
 entryFrom t at =
-    record { grant = getD t at 0; link = getD t (at + 1) 0; rx = getD t (at + 2) 0; tx = getD t (at + 3) 0; ready = getD t (at + 4) 0 }
+    record {
+      grant = getD t at 0;
+      link = getD t (at + 1) 0;
+      rx = getD t (at + 2) 0;
+      tx = getD t (at + 3) 0;
+      ready = getD t (at + 4) 0;
+      carries = getD t (at + 5) 0;
+    }
 
 -- the numbers of an entry
 abbrev pub numbersOf : Channel → List ℕ
-numbersOf e = e .grant ∷ e .link ∷ e .rx ∷ e .tx ∷ e .ready ∷ []
+numbersOf e = e .grant ∷ e .link ∷ e .rx ∷ e .tx ∷ e .ready ∷ e .carries ∷ []
 
 -- the entry of a channel
 abbrev pub entryIn : List ℕ → ChannelNumber → Channel
@@ -44,6 +56,42 @@ entryIn t n = entryFrom t (entryAt (n .0 - 1))
 -- the numbers with another entry for a channel
 unfoldable pub withEntry : List ℕ → ChannelNumber → Channel → List ℕ
 withEntry t n e = pasted t (entryAt (n .0 - 1)) (numbersOf e)
+
+-- where the lengths of a way stand behind the beginning of an entry
+abbrev pub lengthsIn-entry : Way → ℕ
+lengthsIn-entry Receive = 6
+lengthsIn-entry Send = 22
+
+-- where the lengths of a channel and a way stand
+abbrev pub lengthsAt : ChannelNumber → Way → ℕ
+lengthsAt n w = entryAt (n .0 - 1) + lengthsIn-entry w
+
+-- the lengths among so many numbers: those before the first 0
+unfoldable pub lengthsFrom : ℕ → List ℕ → List ℕ
+lengthsFrom zero t = []
+lengthsFrom (suc k) [] = []
+lengthsFrom (suc k) (x ∷ t) = let rest = lengthsFrom k t in eqb x 0 ⇒ [] else x ∷ rest
+
+-- the lengths of a channel and a way
+abbrev pub lengthsIn : List ℕ → ChannelNumber → Way → List ℕ
+lengthsIn t n w = lengthsFrom placeCount (drop (lengthsAt n w) t)
+
+-- the places of a way: its lengths, and zeros behind them
+unfoldable pub places : List ℕ → List ℕ
+places ls = take placeCount (ls ++ replicate placeCount 0)
+
+-- the numbers with one length more for a channel and a way, at the first place that is free; no bytes make none
+unfoldable pub withLength : List ℕ → ChannelNumber → Way → ℕ → List ℕ
+withLength t n w zero = t
+withLength t n w (suc k) = set t (lengthsAt n w + length (lengthsIn t n w)) (suc k)
+
+-- the numbers with the first length fewer by k, or, where that leaves none, the others moved to the front
+unfoldable pub lessLength : List ℕ → ChannelNumber → Way → ℕ → List ℕ
+lessLength t n w k =
+    let at = lengthsAt n w in
+    let x = getD t at 0 in
+    ltb k x ⇒ set t at (x - k) else
+    pasted t at (part (at + 1) (at + placeCount) t ++ 0 ∷ [])
 
 -- whether an event is listed, by its number, and the number
 abbrev pub listed : ℕ → Bool

@@ -5,7 +5,7 @@ use lib.ListN.{length, take}
 use Rattle.rules.specs.declared.ChannelNumber.{ChannelNumber}
 use Rattle.rules.specs.declared.Way.{Way}
 use Rattle.rules.specs.declared.Way.the-variants.{Receive, Send}
-use Rattle.rules.specs.State.{State, Chan, chan, held}
+use Rattle.rules.specs.State.{State, Chan, chan, queue, held}
 use Rattle.rules.specs.Pool.{cellSize, cells, promisedTo}
 
 -- the first cell of a channel and a way: behind all cells of the channels before it, receive before send
@@ -38,3 +38,5 @@ pub record SameLengths (c d : Chan) : Type 0 where
   pub link : c .link ≡ d .link
   pub lengths : (w : Way) → length (held c w) ≡ length (held d w)
   pub ready : c .ready ≡ d .ready
+  pub carries : c .carries ≡ d .carries
+  pub datagrams : (w : Way) → queue c w .lengths ≡ queue d w .lengths

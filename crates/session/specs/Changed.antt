@@ -35,18 +35,19 @@ dueIn e Send = e .ready
 
 -- an entry that counts bytes more for a way, and one without its first bytes
 unfoldable pub moreIn : Channel → Way → ℕ → Channel
-moreIn e Receive k = record { grant = e .grant; link = e .link; rx = e .rx + k; tx = e .tx; ready = e .ready }
-moreIn e Send k = record { grant = e .grant; link = e .link; rx = e .rx; tx = e .tx + k; ready = e .ready }
+moreIn e Receive k = record { grant = e .grant; link = e .link; rx = e .rx + k; tx = e .tx; ready = e .ready; carries = e .carries }
+moreIn e Send k = record { grant = e .grant; link = e .link; rx = e .rx; tx = e .tx + k; ready = e .ready; carries = e .carries }
 
 unfoldable pub lessIn : Channel → Way → ℕ → Channel
-lessIn e Receive k = record { grant = e .grant; link = e .link; rx = e .rx - k; tx = e .tx; ready = e .ready }
-lessIn e Send k = record { grant = e .grant; link = e .link; rx = e .rx; tx = e .tx - k; ready = e .ready - k }
+lessIn e Receive k = record { grant = e .grant; link = e .link; rx = e .rx - k; tx = e .tx; ready = e .ready; carries = e .carries }
+lessIn e Send k = record { grant = e .grant; link = e .link; rx = e .rx; tx = e .tx - k; ready = e .ready - k; carries = e .carries }
 
 -- an entry with the grant and the counts of another; its link and its ready bytes may be others
 pub record Marks (e x : Channel) : Type 0 where
   pub grant : e .grant ≡ x .grant
   pub rx : e .rx ≡ x .rx
   pub tx : e .tx ≡ x .tx
+  pub carries : e .carries ≡ x .carries
   pub link : e .link ≤ 2
 
 -- the state with another event list

@@ -3,7 +3,10 @@ use Prim.Native.Nat.{ℕ, zero, suc, _+_, _-_, _*_}
 use mathlib.Core.Path.{_≡_}
 use mathlib.Core.List.{List, [], _∷_, _++_}
 use lib.ListN.{length, take, drop, getD, replicate}
+use Rattle.rules.specs.declared.Carries.{Carries}
+use Rattle.rules.specs.declared.Carries.the-variants.{Stream, Datagrams}
 use Rattle.rules.specs.declared.ChannelNumber.{ChannelNumber}
+use Rattle.rules.specs.Datagrams.{placeCount}
 use Rattle.rules.specs.declared.Link.{Link}
 use Rattle.rules.specs.declared.Link.the-variants.{NotYet, Established, Dropped}
 use Rattle.rules.specs.declared.Way.{Way}
@@ -14,7 +17,7 @@ use Rattle.rules.specs.Pool.{cellSize, poolSize, cells}
 use Rattle.rules.specs.Sound.{Sound}
 use Rattle.session.specs.declared.Channel.{Channel}
 use Rattle.session.specs.declared.Session.{Session}
-use Rattle.session.specs.Book.{availableAt, statusAt, channelsAt, entrySize, entryAt, entryFrom, numbersOf, listed, listedNumber}
+use Rattle.session.specs.Book.{availableAt, statusAt, channelsAt, entrySize, entryAt, entryFrom, numbersOf, lengthsIn-entry, lengthsFrom, places, listed, listedNumber}
 
 -- the bytes of the cells that a grant promises each way
 unfoldable pub space : ℕ → ℕ
@@ -48,6 +51,15 @@ linkOf zero = NotYet
 linkOf (suc zero) = Established
 linkOf (suc (suc n)) = Dropped
 
+-- the number by which the ledger has what a channel carries, and what a number means
+abbrev pub carriesNumber : Carries → ℕ
+carriesNumber Stream = 0
+carriesNumber Datagrams = 1
+
+abbrev pub carriesOf : ℕ → Carries
+carriesOf zero = Stream
+carriesOf (suc n) = Datagrams
+
 -- a channel as the ledger has it
 unfoldable pub entry : Chan → Channel
 entry c =
@@ -57,11 +69,16 @@ entry c =
       rx = length (held c Receive);
       tx = length (held c Send);
       ready = c .ready;
+      carries = carriesNumber (c .carries);
     }
+
+-- its numbers, and the lengths of the datagrams that are due each way, zeros behind them
+unfoldable pub chanNumbers : Chan → List ℕ
+chanNumbers c = numbersOf (entry c) ++ (places (c .receive .lengths) ++ places (c .send .lengths))
 
 unfoldable pub entriesOf : List Chan → List ℕ
 entriesOf [] = []
-entriesOf (c ∷ cs) = numbersOf (entry c) ++ entriesOf cs
+entriesOf (c ∷ cs) = chanNumbers c ++ entriesOf cs
 
 -- the numbers between the profile and the entries: whether 09 and 0A are listed
 unfoldable pub headsOf : State → List ℕ
@@ -88,21 +105,23 @@ offset grant Send = space grant
 abbrev pub startIn : List ℕ → ChannelNumber → ℕ → Way → ℕ
 startIn t n grant w = baseIn t (n .0 - 1) + offset grant w
 
--- a channel, read back from its entry and the bytes from its region on
-unfoldable pub chanFrom : Channel → List ℕ → Chan
-chanFrom e p =
+-- a channel, read back from the numbers from its entry on and the bytes from its region on
+unfoldable pub chanFrom : List ℕ → List ℕ → Chan
+chanFrom t p =
+    let e = entryFrom t 0 in
     record {
       grant = e .grant;
       link = linkOf (e .link);
-      receive = record { bytes = take (e .rx) p };
-      send = record { bytes = take (e .tx) (drop (space (e .grant)) p) };
+      carries = carriesOf (e .carries);
+      receive = record { bytes = take (e .rx) p; lengths = lengthsFrom placeCount (drop (lengthsIn-entry Receive) t) };
+      send = record { bytes = take (e .tx) (drop (space (e .grant)) p); lengths = lengthsFrom placeCount (drop (lengthsIn-entry Send) t) };
       ready = e .ready;
     }
 
 -- so many channels, read back from their entries and their regions
 unfoldable pub chansFrom : ℕ → List ℕ → List ℕ → List Chan
 chansFrom zero t p = []
-chansFrom (suc k) t p = chanFrom (entryFrom t 0) p ∷ chansFrom k (drop entrySize t) (drop (2 * space (getD t 0 0)) p)
+chansFrom (suc k) t p = chanFrom t p ∷ chansFrom k (drop entrySize t) (drop (2 * space (getD t 0 0)) p)
 
 -- the state that the record's two arrays show
 unfoldable pub shown : List ℕ → List ℕ → State

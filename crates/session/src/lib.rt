@@ -1,6 +1,7 @@
 // The session record, and every change of it.
 use octets;
 use pool::Pool;
+use rules::Carries;
 use rules::ChannelNumber;
 use rules::Events;
 use rules::Link;
@@ -8,12 +9,16 @@ use rules::Refusal;
 use rules::Way;
 ghost use mathlib.Core.Path.{_≡_};
 ghost use Prim.Native.Nat.{_+_, _-_, _*_, _/_, _≤_, min};
-ghost use lib.ListN.{length};
+ghost use lib.ListN.{length, replicate};
+ghost use lib.Dec.{leb};
 ghost use Rattle.rules.specs.Pool.{cellCount, cellSize, poolSize, cells, unpromised};
-ghost use Rattle.rules.specs.State.{start, room, due, closed, fresh, marked, appended, removed};
+ghost use Rattle.rules.specs.declared.Way.the-variants.{Receive};
+ghost use Rattle.rules.specs.Datagrams.{placeCount};
+ghost use Rattle.rules.specs.State.{start, room, atOnce, queue, closed, fresh, marked, appended, whole, removed};
+ghost use Rattle.octets.specs.Parts.{pasted};
 ghost use Rattle.rules.specs.Own.{capped};
-ghost use Rattle.session.specs.Book.{ledgerSize, entryIn, withEntry, withList};
-ghost use Rattle.session.specs.Picture.{Good, Shows, linkNumber, linkOf, ledgerOf, shown, baseIn, startIn};
+ghost use Rattle.session.specs.Book.{ledgerSize, entryIn, withEntry, lengthsAt, lengthsIn, withLength, lessLength, withList};
+ghost use Rattle.session.specs.Picture.{Good, Shows, linkNumber, linkOf, carriesNumber, ledgerOf, shown, baseIn, startIn};
 ghost use Rattle.session.specs.Changed.{Numbered, chanIn, Changed, heldIn, dueIn, moreIn, lessIn, Marks};
 
 // The numbers by which the ledger has a link.
@@ -22,6 +27,11 @@ pub const NOT_YET: u16 = 0;
 pub const ESTABLISHED: u16 = 1;
 
 pub const DROPPED: u16 = 2;
+
+// The numbers by which the ledger has what a channel carries.
+pub const STREAM: u16 = 0;
+
+pub const DATAGRAMS: u16 = 1;
 
 // The ledger, which is numbers: where they stand, and how many there are.
 pub struct Ledger {}
@@ -35,18 +45,23 @@ impl Ledger {
 
     pub const CHANNELS_AT: usize = 15;
 
-    pub const ENTRY: usize = 5;
+    pub const ENTRY: usize = 38;
 
-    pub const SIZE: usize = 50;
+    pub const LENGTHS: usize = 6;
+
+    pub const PLACES: usize = 16;
+
+    pub const SIZE: usize = 281;
 }
 
-// A channel: its grant (0 where it is not open), its link by number, how many bytes are held each way, and how many of those to send are ready.
+// A channel: its grant (0 where it is not open), its link by number, how many bytes are held each way, how many of those to send are ready, and what it carries by number.
 pub struct Channel {
     pub grant: u16,
     pub link: u16,
     pub rx: u16,
     pub tx: u16,
     pub ready: u16,
+    pub carries: u16,
 }
 
 // What a host keeps for a card: the ledger as numbers (the profile's, two of the event list, an entry for each channel), and the pool in which every held byte lies.
@@ -101,6 +116,16 @@ impl Channel {
         }
     }
 
+    // How many bytes of a way are due to be handed out.
+    fn due(self, way: Way) -> usize
+        ensures { λ r. ⌜ r ≡ dueIn self way ⌝ }
+    {
+        match way {
+            Way::Receive => self.rx as usize,
+            Way::Send => self.ready as usize,
+        }
+    }
+
     // The entry that counts bytes more for a way.
     fn more(self, way: Way, count: usize) -> Channel
         requires { ⌜ heldIn self way + count ≤ 65535 ⌝ }
@@ -143,6 +168,7 @@ pub fn entry(ledger: &[u16; Ledger::SIZE], n: ChannelNumber) -> Channel
         rx: ledger[at + 2],
         tx: ledger[at + 3],
         ready: ledger[at + 4],
+        carries: ledger[at + 5],
     }
 }
 
@@ -157,6 +183,7 @@ pub fn put_entry(ledger: &mut [u16; Ledger::SIZE], n: ChannelNumber, c: Channel)
     ledger[at + 2] = c.rx;
     ledger[at + 3] = c.tx;
     ledger[at + 4] = c.ready;
+    ledger[at + 5] = c.carries;
 }
 
 // Where the region of channel k begins: the regions of the channels before it stand one after the other.
@@ -195,7 +222,103 @@ pub fn free_cells(ledger: &[u16; Ledger::SIZE]) -> usize
     Pool::CELLS - base(ledger, 7) / Pool::CELL_SIZE
 }
 
-// Bytes come to a way: they stand behind those held. The entry is the channel's, but that its link and its ready bytes may be new.
+// Where the lengths of a channel and a way stand.
+fn lengths_at(n: ChannelNumber, way: Way) -> usize
+    requires { ⌜ (1 ≤ n .0) × (n .0 ≤ 7) ⌝ }
+    ensures { λ r. ⌜ r ≡ lengthsAt n way ⌝ }
+{
+    let at = Ledger::ENTRY * (n.0 as usize - 1) + Ledger::CHANNELS_AT + Ledger::LENGTHS;
+    match way {
+        Way::Receive => at,
+        Way::Send => at + Ledger::PLACES,
+    }
+}
+
+// Whether every place of a way has a datagram.
+pub fn is_crowded(
+    ledger: &[u16; Ledger::SIZE],
+    pool: &[u8; Pool::SIZE],
+    n: ChannelNumber,
+    way: Way,
+) -> bool
+    requires { ⌜ Numbered (now ledger) (now pool) n ⌝ }
+    ensures { λ r. ⌜ r ≡ leb placeCount (length (queue (chanIn (now (ledger .entry)) (now (pool .entry)) n) way .lengths)) ⌝ }
+{
+    let at = lengths_at(n, way);
+    0 < ledger[at + (Ledger::PLACES - 1)]
+}
+
+// How many bytes of a way may be handed out at once: of a stream all that are due, of datagrams those of the first.
+pub fn at_once(
+    ledger: &[u16; Ledger::SIZE],
+    pool: &[u8; Pool::SIZE],
+    n: ChannelNumber,
+    c: Channel,
+    way: Way,
+) -> usize
+    requires { ⌜ Numbered (now ledger) (now pool) n × (c ≡ entryIn (now ledger) n) ⌝ }
+    ensures { λ r. ⌜ r ≡ atOnce (chanIn (now (ledger .entry)) (now (pool .entry)) n) way ⌝ }
+{
+    if c.carries == STREAM {
+        return c.due(way);
+    }
+    let at = lengths_at(n, way);
+    let first = &ledger[at];
+    *first as usize
+}
+
+// How many datagrams of a way are whole.
+fn whole_count(ledger: &[u16; Ledger::SIZE], n: ChannelNumber, way: Way) -> usize
+    requires { ⌜ (1 ≤ n .0) × (n .0 ≤ 7) × (length (now ledger) ≡ ledgerSize) ⌝ }
+    ensures { λ r. ⌜ r ≡ length (lengthsIn (now (ledger .entry)) n way) ⌝ }
+{
+    let at = lengths_at(n, way);
+    let mut i: usize = 0;
+    while i < Ledger::PLACES {
+        if ledger[at + i] < 1 {
+            return i;
+        }
+        i += 1;
+    }
+    i
+}
+
+// One datagram more of so many bytes, at the first place that is free; no bytes make none.
+fn count_whole(ledger: &mut [u16; Ledger::SIZE], n: ChannelNumber, way: Way, len: usize)
+    requires { ⌜ (1 ≤ n .0) × (n .0 ≤ 7) × (length (now ledger) ≡ ledgerSize) × (len ≤ 65535) ⌝ }
+    requires { ⌜ length (lengthsIn (now ledger) n way) + min 1 len ≤ placeCount ⌝ }
+    ensures { λ _. ⌜ now (ledger .exit) ≡ withLength (now (ledger .entry)) n way len ⌝ }
+{
+    if len < 1 {
+        return;
+    }
+    let at = lengths_at(n, way);
+    let i = whole_count(ledger, n, way);
+    ledger[at + i] = len as u16;
+}
+
+// The first bytes of a way's first datagram go: what is left of it is the first, or the others move to the front.
+fn count_less(ledger: &mut [u16; Ledger::SIZE], n: ChannelNumber, way: Way, count: usize)
+    requires { ⌜ (1 ≤ n .0) × (n .0 ≤ 7) × (length (now ledger) ≡ ledgerSize) ⌝ }
+    ensures { λ _. ⌜ now (ledger .exit) ≡ lessLength (now (ledger .entry)) n way count ⌝ }
+{
+    let at = lengths_at(n, way);
+    let p = &ledger[at];
+    let first = *p as usize;
+    if count < first {
+        ledger[at] = (first - count) as u16;
+        return;
+    }
+    let mut i: usize = 1;
+    while i < Ledger::PLACES {
+        let next = ledger[at + i];
+        ledger[at + i - 1] = next;
+        i += 1;
+    }
+    ledger[at + (Ledger::PLACES - 1)] = 0;
+}
+
+// Bytes come to a way: they stand behind those held, and of datagrams the last `len` that are then due are a whole one. The entry is the channel's, but that its link and its ready bytes may be new.
 pub fn append(
     ledger: &mut [u16; Ledger::SIZE],
     pool: &mut [u8; Pool::SIZE],
@@ -203,14 +326,20 @@ pub fn append(
     c: Channel,
     way: Way,
     bytes: &[u8],
+    len: usize,
 )
     requires { ⌜ Numbered (now ledger) (now pool) n × Marks c (entryIn (now ledger) n) ⌝ }
     requires { ⌜ length (now bytes) ≤ room (chanIn (now ledger) (now pool) n) way ⌝ }
-    ensures { λ _. ⌜ Changed (now (ledger .entry)) (now (pool .entry)) n (appended (marked (chanIn (now (ledger .entry)) (now (pool .entry)) n) (linkOf (c .link)) (c .ready)) way (now (bytes .entry))) (now (ledger .exit)) (now (pool .exit)) ⌝ }
+    requires { ⌜ (len ≤ 65535) × (length (queue (chanIn (now ledger) (now pool) n) way .lengths) + min 1 len ≤ placeCount) ⌝ }
+    ensures { λ _. ⌜ Changed (now (ledger .entry)) (now (pool .entry)) n (whole (appended (marked (chanIn (now (ledger .entry)) (now (pool .entry)) n) (linkOf (c .link)) (c .ready)) way (now (bytes .entry))) way len) (now (ledger .exit)) (now (pool .exit)) ⌝ }
 {
     let at = start_of(ledger, n, c.grant, way) + c.held(way);
     octets::put(pool, at, bytes);
     put_entry(ledger, n, c.more(way, bytes.len()));
+    if c.carries == STREAM {
+        return;
+    }
+    count_whole(ledger, n, way, len);
 }
 
 // The first `count` bytes of a way, which begins at `at`, go: the rest move to the front.
@@ -224,11 +353,28 @@ pub fn remove(
     count: usize,
 )
     requires { ⌜ Numbered (now ledger) (now pool) n × (c ≡ entryIn (now ledger) n) × (at ≡ startIn (now ledger) n (c .grant) way) ⌝ }
-    requires { ⌜ count ≤ due (chanIn (now ledger) (now pool) n) way ⌝ }
+    requires { ⌜ count ≤ atOnce (chanIn (now ledger) (now pool) n) way ⌝ }
     ensures { λ _. ⌜ Changed (now (ledger .entry)) (now (pool .entry)) n (removed (chanIn (now (ledger .entry)) (now (pool .entry)) n) way count) (now (ledger .exit)) (now (pool .exit)) ⌝ }
 {
     octets::cut(pool, at, count, at + c.held(way));
     put_entry(ledger, n, c.less(way, count));
+    if c.carries == STREAM {
+        return;
+    }
+    count_less(ledger, n, way, count);
+}
+
+// Clears the lengths of a channel.
+fn clear_lengths(ledger: &mut [u16; Ledger::SIZE], n: ChannelNumber)
+    requires { ⌜ (1 ≤ n .0) × (n .0 ≤ 7) × (length (now ledger) ≡ ledgerSize) ⌝ }
+    ensures { λ _. ⌜ now (ledger .exit) ≡ pasted (now (ledger .entry)) (lengthsAt n Receive) (replicate 32 0) ⌝ }
+{
+    let at = lengths_at(n, Way::Receive);
+    let mut i: usize = 0;
+    while i < 2 * Ledger::PLACES {
+        ledger[at + i] = 0;
+        i += 1;
+    }
 }
 
 // The channel ends: its region goes, and the later ones move down into its cells.
@@ -250,8 +396,20 @@ pub fn close_channel(
         rx: 0,
         tx: 0,
         ready: 0,
+        carries: STREAM,
     };
     put_entry(ledger, n, none);
+    clear_lengths(ledger, n);
+}
+
+// The number of what a channel carries.
+fn carries_number(carries: Carries) -> u16
+    ensures { λ r. ⌜ r ≡ carriesNumber carries ⌝ }
+{
+    match carries {
+        Carries::Stream => STREAM,
+        Carries::Datagrams => DATAGRAMS,
+    }
 }
 
 // The channel is opened with a grant: an empty region comes, and the later ones move up.
@@ -261,10 +419,11 @@ pub fn open_channel(
     n: ChannelNumber,
     grant: u16,
     link: Link,
+    carries: Carries,
 )
     requires { ⌜ Numbered (now ledger) (now pool) n ⌝ }
     requires { ⌜ (chanIn (now ledger) (now pool) n .grant ≡ 0) × (2 * cells grant ≤ unpromised (shown (now ledger) (now pool))) ⌝ }
-    ensures { λ _. ⌜ Changed (now (ledger .entry)) (now (pool .entry)) n (fresh grant link) (now (ledger .exit)) (now (pool .exit)) ⌝ }
+    ensures { λ _. ⌜ Changed (now (ledger .entry)) (now (pool .entry)) n (fresh grant link carries) (now (ledger .exit)) (now (pool .exit)) ⌝ }
 {
     let at = base(ledger, (n.0 - 1) as usize);
     let used = base(ledger, 7);
@@ -275,6 +434,7 @@ pub fn open_channel(
         rx: 0,
         tx: 0,
         ready: 0,
+        carries: carries_number(carries),
     };
     put_entry(ledger, n, empty);
 }

@@ -3,7 +3,7 @@
 use mathlib.Core.Path.{ap}
 use native.Mathlib.Omega.{arith}
 use Rattle.session.specs.Picture.{space}
-use Rattle.session.proofs.Facts.{bounds, close-law}
+use Rattle.session.proofs.Facts.{bounds, close-law, entry-size}
 use borrow.Author.Needs.{needs}
 use Rattle.session.proofs.close_channel.Statement.{statement}
 use Rattle.session.proofs.close_channel.Tie as tie
@@ -34,16 +34,23 @@ put-entry-requires c κs =
     let b = bounds _ _ _ (s .pre .0) in
     (s .pre .0 .low, s .pre .0 .high, b .table)
 
+clear-lengths-requires : tie.Need-clear-lengths-requires
+clear-lengths-requires c κs =
+    let e : tie.After-put-entry = search in
+    let s : tie.Start = search in
+    (s .pre .0 .low, s .pre .0 .high, entry-size _ _ _ (s .pre .0) _ _ (e .put-entry .ensures))
+
 returns : tie.Need-returns
 unfolding space
 returns c =
+    let e : tie.After-put-entry = search in
     let u : tie.After-cut = search in
     let p : tie.After-space = search in
     let o : tie.After-base2 = search in
     let b : tie.After-base = search in
     let s : tie.Start = search in
-    close-law _ _ _ (s .pre .0) (s .args .grant) _ _ _ _ _ (s .pre .1) (b .base .ensures .0) (p .space .ensures .0) (o .base2 .ensures .0)
-    (u .cut .ensures) (c .put-entry .ensures)
+    close-law _ _ _ (s .pre .0) (s .args .grant) _ _ _ _ _ _ (s .pre .1) (b .base .ensures .0) (p .space .ensures .0) (o .base2 .ensures .0)
+    (u .cut .ensures) (e .put-entry .ensures) (c .clear-lengths .ensures)
 
 pub close-channel-spec : {M : Type 1} → statement M
 close-channel-spec =
@@ -57,4 +64,5 @@ close-channel-spec =
     (λ c. search needs)
     cut-requires
     put-entry-requires
+    clear-lengths-requires
     returns)

@@ -36,6 +36,7 @@ put-entry-requires c κs =
 returns : tie.Need-returns
 unfolding space unpromised
 returns c =
+    let k : tie.After-carries-number = search in
     let l : tie.After-link-number = search in
     let u : tie.After-spread-at = search in
     let p : tie.After-space = search in
@@ -43,8 +44,8 @@ returns c =
     let b : tie.After-base = search in
     let s : tie.Start = search in
     let f = bounds _ _ _ (s .pre .0) in
-    open-law _ _ _ (s .pre .0) (s .args .grant) (s .args .link) _ _ _ _ _ _ (s .pre .1 .0) (omega (arith, s .pre .1 .1, f .used-is))
-    (b .base .ensures .0) (p .space .ensures .0) (o .base2 .ensures .0) (l .link-number .ensures) (u .spread-at .ensures) (c .put-entry .ensures)
+    open-law _ _ _ (s .pre .0) (s .args .grant) (s .args .link) (s .args .carries) _ _ _ _ _ _ _ (s .pre .1 .0) (omega (arith, s .pre .1 .1, f .used-is))
+    (b .base .ensures .0) (p .space .ensures .0) (o .base2 .ensures .0) (l .link-number .ensures) (k .carries-number .ensures) (u .spread-at .ensures) (c .put-entry .ensures)
 
 pub open-channel-spec : {M : Type 1} → statement M
 open-channel-spec =
@@ -57,6 +58,7 @@ open-channel-spec =
     (λ c κs. search needs)
     (λ c. search needs)
     spread-at-requires
+    (λ c κs. search needs)
     (λ c κs. search needs)
     put-entry-requires
     returns)
