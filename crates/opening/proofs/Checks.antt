@@ -8,6 +8,7 @@ use native.Mathlib.Omega.{arith}
 use lib.ListN.{length, getD}
 use lib.Dec.{ltb, eqb}
 use borrow.Author.Tests.{lt-ltb, le-ltb, leb-false, eq-eqb, ne-eqb}
+use Rattle.rules.specs.declared.Carries.{Carries}
 use Rattle.rules.specs.declared.ChannelNumber.{ChannelNumber}
 use Rattle.rules.specs.declared.Details.{Details}
 use Rattle.rules.specs.declared.Link.{Link}
@@ -18,7 +19,7 @@ use Rattle.rules.specs.State.{State, Chan, closed, isOpen, chan, withChan, fres
 use Rattle.rules.specs.Pool.{cellCount, cellSize, cells, unpromised, grantFor}
 use Rattle.rules.specs.Table.{bearerFits}
 use Rattle.rules.specs.Reading.{bearerIn}
-use Rattle.rules.specs.Own.{Reply, reply, error, problem, done, opened, bit1, plain, openBefore, opening}
+use Rattle.rules.specs.Own.{Reply, reply, error, problem, done, opened, bit1, plain, openBefore, opening, served, carriedBy}
 use Rattle.rules.specs.Written.{bearerBytes}
 use Rattle.rules.proofs.Laws.{branch, stop, skip, not-not}
 use Rattle.rules.proofs.Grants.{Granted, grant-law}
@@ -137,19 +138,19 @@ module _ (t p : List ℕ) (g : GoodIn t p) (d : Details) (v : List ℕ) (size pr
   unserved e w = left-answers d all (error 0x30) t p count before after (stop _ _ _ (served-is ∙ e)) g w
 
   module _ (s : not x ≡ false) where
-    pub untcp : (protocol ≡ 0x02 → ⊥) → Stands (response d (problem 0x06)) count before after → answer t p
+    pub uncarried : (y₁ : Bool) → y₁ ≡ served protocol → not y₁ ≡ true → Stands (response d (problem 0x06)) count before after → answer t p
     unfolding opening
-    untcp e w = left-answers d all (problem 0x06) t p count before after (skip _ _ _ (served-is ∙ s) ∙ stop _ _ _ (ap not (ne-eqb protocol 0x02 e))) g w
+    uncarried y₁ q e w = left-answers d all (problem 0x06) t p count before after (skip _ _ _ (served-is ∙ s) ∙ stop _ _ _ (ap not (sym q) ∙ e)) g w
 
-    module _ (c : protocol ≡ 0x02) where
-      tcp : not (eqb protocol 0x02) ≡ false
-      tcp = ap not (eq-eqb protocol 0x02 c)
+    module _ (y₁ : Bool) (q : y₁ ≡ served protocol) (c : not y₁ ≡ false) where
+      carried : not (served protocol) ≡ false
+      carried = ap not (sym q) ∙ c
 
       pub sizeless : size < 1 → Stands (response d (problem 0x04)) count before after → answer t p
       unfolding opening
       sizeless e w =
           left-answers d all (problem 0x04) t p count before after
-          (skip _ _ _ (served-is ∙ s) ∙ skip _ _ _ tcp ∙ stop _ _ _ (eq-eqb size 0 (omega arith))) g w
+          (skip _ _ _ (served-is ∙ s) ∙ skip _ _ _ carried ∙ stop _ _ _ (eq-eqb size 0 (omega arith))) g w
 
       module _ (z : 1 ≤ size) (n k : ℕ) (en : n ≡ channels t) (ek : k ≡ openFrom t 0 n) where
         asked : eqb size 0 ≡ false
@@ -159,7 +160,7 @@ module _ (t p : List ℕ) (g : GoodIn t p) (d : Details) (v : List ℕ) (size pr
         unfolding opening
         numberless e w =
             left-answers d all (problem 0x01) t p count before after
-            (skip _ _ _ (served-is ∙ s) ∙ skip _ _ _ tcp ∙ skip _ _ _ asked
+            (skip _ _ _ (served-is ∙ s) ∙ skip _ _ _ carried ∙ skip _ _ _ asked
             ∙ stop _ _ _ (eq-eqb _ _ (sym (number-is t p g n k en ek) ∙ e ∙ channels-is t p g n k en ek))) g w
 
         module _ (u : k ≡ n → ⊥) (f : ℕ) (ef : f ≡ cellCount - baseIn t 7 / cellSize) where
@@ -167,13 +168,13 @@ module _ (t p : List ℕ) (g : GoodIn t p) (d : Details) (v : List ℕ) (size pr
           unfolding opening
           cellless e w =
               left-answers d all (problem 0x04) t p count before after
-              (skip _ _ _ (served-is ∙ s) ∙ skip _ _ _ tcp ∙ skip _ _ _ asked ∙ skip _ _ _ (ne-eqb _ _ (unused t p g n k en ek u))
+              (skip _ _ _ (served-is ∙ s) ∙ skip _ _ _ carried ∙ skip _ _ _ asked ∙ skip _ _ _ (ne-eqb _ _ (unused t p g n k en ek u))
               ∙ stop _ _ _ (lt-ltb _ 2 (subst (λ (j : ℕ). j < 2) (free-is t p g f ef) e))) g w
 
           -- the reply that opens the channel j + 1 with the grant w
           abbrev made : ℕ → ℕ → Link → ℕ → Reply
           made j w link y =
-              reply (withChan b (record { 0 = j + 1 }) (fresh w link))
+              reply (withChan b (record { 0 = j + 1 }) (fresh w link (carriedBy protocol)))
               (done y (opened (record { number = record { 0 = j + 1 }; link = link }) (bearerIn v) w))
 
           module _ (w : ℕ) (link : Link) (y : ℕ) (ew : w ≡ grantFor size f) (el : link ≡ (bit1 (d .qualifier) ⇒ Established else NotYet))
@@ -183,18 +184,18 @@ module _ (t p : List ℕ) (g : GoodIn t p) (d : Details) (v : List ℕ) (size pr
             opens e =
                 let ek′ = number-is t p g n k en ek in
                 let ew′ = grant-is t p g f ef size w ew in
-                skip _ _ _ (served-is ∙ s) ∙ skip _ _ _ tcp ∙ skip _ _ _ asked ∙ skip _ _ _ (ne-eqb _ _ (unused t p g n k en ek u))
+                skip _ _ _ (served-is ∙ s) ∙ skip _ _ _ carried ∙ skip _ _ _ asked ∙ skip _ _ _ (ne-eqb _ _ (unused t p g n k en ek u))
                 ∙ skip _ _ _ (le-ltb _ 2 (subst (λ (j : ℕ). 2 ≤ j) (free-is t p g f ef) e))
                 ∙ sym (λ j. made (ek′ j) (ew′ j) (el j) (ltb (ew′ j) size ⇒ 0x07 else plain i)) ∙ ap (made k w link) (sym ey)
 
             pub open-done :
-                (m r : List ℕ) → 2 ≤ f → Changed t p (record { 0 = k + 1 }) (fresh w link) m r →
+                (m r : List ℕ) (j : Carries) → 2 ≤ f → j ≡ carriedBy protocol → Changed t p (record { 0 = k + 1 }) (fresh w link j) m r →
                 Stands (response d (done y (opened (record { number = record { 0 = k + 1 }; link = link }) (bearerIn v) w))) count before after →
                 answer m r
-            open-done m r e h stands =
+            open-done m r j e kind h stands =
                 let grant = granted t p g f ef size w ew in
                 let number : ChannelNumber = record { 0 = k + 1 } in
                 told-answers d all _ _ m r count before after (opens e)
-                (with-sound b number (fresh w link) (g .sound) (place t p number (numbered t p g n k en ek u)) (fresh-sound w link (grant .capped))
-                (fresh-cells b number w link (grant .fits)))
-                h stands
+                (with-sound b number (fresh w link (carriedBy protocol)) (g .sound) (place t p number (numbered t p g n k en ek u)) (fresh-sound w link (carriedBy protocol) (grant .capped))
+                (fresh-cells b number w link (carriedBy protocol) (grant .fits)))
+                (subst (λ (x : Carries). Changed t p number (fresh w link x) m r) kind h) stands

@@ -6,6 +6,7 @@ use profile::serves;
 use responses::tell_opened;
 use responses::tell_problem;
 use responses::tell_result;
+use rules::Carries;
 use rules::ChannelNumber;
 use rules::Details;
 use rules::Link;
@@ -21,7 +22,7 @@ ghost use Rattle.rules.specs.declared.Link.the-variants.{NotYet, Established};
 ghost use Rattle.rules.specs.Checks.{_⇒_else_};
 ghost use Rattle.rules.specs.Table.{bearerFits};
 ghost use Rattle.rules.specs.Reading.{bearerIn};
-ghost use Rattle.rules.specs.Own.{bit1, opening};
+ghost use Rattle.rules.specs.Own.{bit1, opening, served, carriedBy};
 ghost use Rattle.session.specs.declared.Ended.the-variants.{Wrote};
 ghost use Rattle.session.specs.Book.{ledgerSize};
 ghost use Rattle.session.specs.Picture.{GoodIn, shown};
@@ -29,7 +30,9 @@ ghost use Rattle.session.specs.Calls.{Answers};
 ghost use Rattle.own.specs.Replies.{told};
 ghost use Rattle.opening.specs.Unused.{openFrom};
 
-// The protocol that is served: TCP.
+// The protocols that are served: UDP, which carries datagrams, and TCP, which carries a stream.
+const UDP: u8 = 0x01;
+
 const TCP: u8 = 0x02;
 
 // How many channels, of the first n, stand open before the first that does not; n where none is unused.
@@ -58,6 +61,27 @@ fn link_by(qualifier: u8) -> Link
     Link::NotYet
 }
 
+// Whether a protocol is served.
+fn is_served(protocol: u8) -> bool
+    ensures { λ r. ⌜ r ≡ served protocol ⌝ }
+{
+    match protocol {
+        UDP => true,
+        TCP => true,
+        _ => false,
+    }
+}
+
+// What a channel carries, by its protocol.
+fn carried_by(protocol: u8) -> Carries
+    ensures { λ r. ⌜ r ≡ carriedBy protocol ⌝ }
+{
+    if protocol == UDP {
+        return Carries::Datagrams;
+    }
+    Carries::Stream
+}
+
 // OPEN CHANNEL: the lowest unused number is opened; 07 if it grants less than asked.
 pub fn open(
     ledger: &mut [u16; Ledger::SIZE],
@@ -75,7 +99,7 @@ pub fn open(
     if !serves(ledger, bearer[0]) {
         return tell_result(out, d, 0x30);
     }
-    if protocol != TCP {
+    if !is_served(protocol) {
         return tell_problem(out, d, 0x06);
     }
     if size < 1 {
@@ -93,7 +117,8 @@ pub fn open(
     let grant = Pool::grant(size, free);
     let number = ChannelNumber((k + 1) as u8);
     let link = link_by(d.qualifier);
-    open_channel(ledger, pool, number, grant, link);
+    let carries = carried_by(protocol);
+    open_channel(ledger, pool, number, grant, link, carries);
     let result = short_or(grant < size, 0x07, ignored);
     tell_opened(out, d, result, number, link, bearer, grant)
 }

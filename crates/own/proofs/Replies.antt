@@ -13,11 +13,11 @@ use Rattle.rules.specs.declared.Details.{Details}
 use Rattle.rules.specs.declared.Way.the-variants.{Receive}
 use Rattle.rules.specs.Checks.{_⇒_else_}
 use Rattle.rules.specs.Sound.{Sound}
-use Rattle.rules.specs.State.{State, Chan, chan, withChan, closed, isOpen, queue, withQueue, held, due, without, removed}
+use Rattle.rules.specs.State.{State, Chan, chan, withChan, closed, isOpen, queue, withQueue, held, due, atOnce, without, removed}
 use Rattle.rules.specs.Own.{Reply, Result, Further, reply, error, problem, done, nothing, received, capped, plain, closing, receiving}
 use Rattle.rules.specs.Written.{resultBytes, resultObjects, responseObjects, responseBytes, furtherObjects}
 use Rattle.rules.proofs.Laws.{stop, skip, not-not}
-use Rattle.rules.proofs.Soundness.{chan-sound, closed-sound, removed-sound, with-sound, same-sound, closed-cells}
+use Rattle.rules.proofs.Soundness.{once-due, chan-sound, closed-sound, removed-sound, with-sound, same-sound, closed-cells}
 use Rattle.octets.specs.Parts.{part}
 use Rattle.session.specs.declared.Channel.{Channel}
 use Rattle.session.specs.declared.Ended.the-variants.{Wrote}
@@ -103,20 +103,20 @@ module _ (t p : List ℕ) (n : ChannelNumber) (h : Numbered t p n) (e : Channel)
     receive-unopened o s = left-answers d (receiving a n w i) (problem 0x03) t p count before after (stop _ _ _ (unopened o)) (h .good) s
 
   -- so many bytes are handed out
-  module _ (w k m : ℕ) (y : k ≡ min w m) (z : m ≡ min (e .rx) 237) where
+  module _ (w k m once : ℕ) (y : k ≡ min w m) (z : m ≡ min once 237) (o₁ : once ≡ atOnce c Receive) where
     rx-found : e .rx ≡ length (held c Receive)
     unfolding entry
     rx-found = ap (λ (x : Channel). x .rx) found
 
     pub handed-few : (k ≤ 237) × (k ≤ e .rx)
-    handed-few = omega arith
-
-    pub handed-due : k ≤ due c Receive
     unfolding due
-    handed-due = let r = rx-found in omega arith
+    handed-few = let r = rx-found in let u = once-due c Receive (chan-sound a n (h .good .sound)) in (omega arith, omega arith)
 
-    handed-is : k ≡ min w (min (length (held c Receive)) 237)
-    handed-is = y ∙ ap (min w) (z ∙ ap (λ (j : ℕ). min j 237) rx-found)
+    pub handed-once : k ≤ atOnce c Receive
+    handed-once = omega arith
+
+    handed-is : k ≡ min w (min (atOnce c Receive) 237)
+    handed-is = y ∙ ap (min w) (z ∙ ap (λ (j : ℕ). min j 237) o₁)
 
     left-is : capped (e .rx - k) ≡ capped (length (held (removed c Receive k) Receive))
     unfolding removed withQueue without queue
@@ -130,7 +130,7 @@ module _ (t p : List ℕ) (n : ChannelNumber) (h : Numbered t p n) (e : Channel)
     unfolding receiving removed withQueue
     receive-done d i count x left at u r before after o l s v g f =
         let from = l ∙ ap (λ (b : Channel). startIn t n (b .grant) Receive) q in
-        let data-is = ap (λ (j : ℕ). part j (j + k) p) from ∙ held-read t p n h Receive k (omega (arith, rx-found)) in
+        let data-is = ap (λ (j : ℕ). part j (j + k) p) from ∙ held-read t p n h Receive k (omega (arith, rx-found, handed-few)) in
         told-answers d (receiving a n w i) (withChan a n (removed c Receive k))
         (done (ltb k w ⇒ 0x02 else plain i) (received (take k (held c Receive)) (capped (length (held (removed c Receive k) Receive))))) u r count before after
         (skip _ _ _ (unclosed o)
@@ -139,5 +139,5 @@ module _ (t p : List ℕ) (n : ChannelNumber) (h : Numbered t p n) (e : Channel)
         reply (withChan a n (removed c Receive j))
         (done (ltb j w ⇒ 0x02 else plain i) (received (take j (held c Receive)) (capped (length (held (removed c Receive j) Receive))))))
         (sym handed-is))
-        (same-sound a n (removed c Receive k) (h .good .sound) (not-not _ (unclosed o)) (removed-sound c (chan-sound a n (h .good .sound)) Receive k handed-due) refl)
+        (same-sound a n (removed c Receive k) (h .good .sound) (not-not _ (unclosed o)) (removed-sound c (chan-sound a n (h .good .sound)) Receive k handed-once) refl)
         s (subst (λ (b : List ℕ). Stands b count before after) (λ j. response d (done (v j) (received (data-is j) ((g ∙ left-is) j)))) f)

@@ -14,9 +14,11 @@ use session::Channel;
 use session::ESTABLISHED;
 use session::Ledger;
 use session::append;
+use session::at_once;
 use session::capped;
 use session::close_channel;
 use session::entry;
+use session::is_crowded;
 use session::least;
 use session::link_of;
 use session::remove;
@@ -27,13 +29,15 @@ ghost use Prim.Native.Nat.{_+_, _≤_};
 ghost use lib.ListN.{length};
 ghost use Rattle.rules.specs.Checks.{_⇒_else_, every, member};
 ghost use Rattle.rules.specs.Profile.{profileSize, allowsEvent};
-ghost use Rattle.rules.specs.State.{isDropped};
+ghost use Rattle.rules.specs.declared.Way.the-variants.{Send};
+ghost use Rattle.rules.specs.State.{isDropped, crowded};
 ghost use Rattle.rules.specs.Own.{plain, listing, closing, receiving, sending};
 ghost use Rattle.session.specs.declared.Ended.the-variants.{Wrote};
 ghost use Rattle.session.specs.Picture.{GoodIn, linkOf, shown};
 ghost use Rattle.session.specs.Calls.{Answers};
-ghost use Rattle.session.specs.Changed.{Numbered};
-ghost use Rattle.own.specs.Replies.{told, sentEntry};
+ghost use Rattle.session.specs.Book.{entryIn};
+ghost use Rattle.session.specs.Changed.{Numbered, chanIn};
+ghost use Rattle.own.specs.Replies.{told, sentEntry, sentWhole};
 
 // The most bytes that an answer to RECEIVE DATA carries.
 const DATA_CAP: usize = 237;
@@ -130,7 +134,7 @@ pub fn close(
     tell_result(out, d, plain(ignored))
 }
 
-// RECEIVE DATA: the least of the request, the bytes held and 237 is handed out; 02 if that is fewer than asked.
+// RECEIVE DATA: the least of the request, what may be handed out at once and 237 is handed out; 02 if that is fewer than asked.
 pub fn receive(
     ledger: &mut [u16; Ledger::SIZE],
     pool: &mut [u8; Pool::SIZE],
@@ -148,7 +152,8 @@ pub fn receive(
         return tell_problem(out, d, 0x03);
     }
     let held = c.rx as usize;
-    let handed = least(request as usize, least(held, DATA_CAP));
+    let most = at_once(ledger, pool, n, c, Way::Receive);
+    let handed = least(request as usize, least(most, DATA_CAP));
     let result = short_or(handed < request as usize, 0x02, ignored);
     let left = capped(held - handed);
     let at = start_of(ledger, n, c.grant, Way::Receive);
@@ -169,9 +174,41 @@ fn sent_entry(c: Channel, qualifier: u8, count: usize) -> Channel
             rx: c.rx,
             tx: c.tx,
             ready: (c.tx as usize + count) as u16,
+            carries: c.carries,
         };
     }
     c
+}
+
+// How many bytes so many more of SEND DATA make a whole datagram: with qualifier bit 1 set all that are not ready, else none.
+fn sent_whole(c: Channel, qualifier: u8, count: usize) -> usize
+    requires { ⌜ (c .tx + count ≤ 65535) × (c .ready ≤ c .tx) ⌝ }
+    ensures { λ r. ⌜ r ≡ sentWhole c qualifier count ⌝ }
+{
+    if qualifier % 2 == 1 {
+        return c.tx as usize + count - c.ready as usize;
+    }
+    0
+}
+
+// Whether bytes of SEND DATA would begin a datagram for which there is no place; they join the unfinished one, if there is one.
+fn lacks_place(
+    ledger: &[u16; Ledger::SIZE],
+    pool: &[u8; Pool::SIZE],
+    n: ChannelNumber,
+    c: Channel,
+    bytes: &[u8],
+) -> bool
+    requires { ⌜ Numbered (now ledger) (now pool) n × (c ≡ entryIn (now ledger) n) ⌝ }
+    ensures { λ r. ⌜ r ≡ crowded (chanIn (now (ledger .entry)) (now (pool .entry)) n) Send (now (bytes .entry)) ⌝ }
+{
+    if bytes.len() < 1 {
+        return false;
+    }
+    if c.ready < c.tx {
+        return false;
+    }
+    is_crowded(ledger, pool, n, Way::Send)
 }
 
 // Whether a link was dropped.
@@ -210,9 +247,13 @@ pub fn send(
     if room < bytes.len() {
         return tell_problem(out, d, 0x04);
     }
+    if lacks_place(ledger, pool, n, c, bytes) {
+        return tell_problem(out, d, 0x04);
+    }
     let left = capped(room - bytes.len());
     let count = tell_sent(out, d, plain(ignored), left);
     let joined = sent_entry(c, d.qualifier, bytes.len());
-    append(ledger, pool, n, joined, Way::Send, bytes);
+    let len = sent_whole(c, d.qualifier, bytes.len());
+    append(ledger, pool, n, joined, Way::Send, bytes, len);
     count
 }

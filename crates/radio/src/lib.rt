@@ -10,20 +10,26 @@ use session::DROPPED;
 use session::ESTABLISHED;
 use session::Ended;
 use session::Ledger;
+use session::STREAM;
 use session::Session;
 use session::append;
+use session::at_once;
 use session::capped;
 use session::entry;
+use session::is_crowded;
 use session::least;
 use session::put_entry;
 use session::remove;
 use session::start_of;
 ghost use mathlib.Core.Path.{_≡_};
+ghost use mathlib.Core.Bool.{not, _&&_};
 ghost use Prim.Native.Nat.{_≤_};
 ghost use lib.ListN.{length};
+ghost use lib.Dec.{ltb};
+ghost use Rattle.rules.specs.State.{isStream};
 ghost use Rattle.rules.specs.Radio.{arrival, taking, dropping};
 ghost use Rattle.session.specs.Book.{ledgerSize};
-ghost use Rattle.session.specs.Picture.{Good, GoodIn, shown, view};
+ghost use Rattle.session.specs.Picture.{Good, GoodIn, carriesOf, shown, view};
 ghost use Rattle.session.specs.Calls.{overlaid, Answers};
 ghost use Rattle.radio.specs.Permits.{permitIn, Usable, arrivalTold, dropTold};
 
@@ -113,7 +119,7 @@ fn tell_drop(out: &mut [u8], n: ChannelNumber)
     octets::put(out, 0, &event);
 }
 
-// An arrival on a channel that may be used: R6, or the bytes are stored whole and event 09 tells of them.
+// An arrival on a channel that may be used: R6 and R11, or the bytes are stored whole and event 09 tells of them.
 fn accept(
     ledger: &mut [u16; Ledger::SIZE],
     pool: &mut [u8; Pool::SIZE],
@@ -130,10 +136,13 @@ fn accept(
     if c.grant as usize - held < bytes.len() {
         return Ended::Refused(Refusal::Overfull);
     }
-    append(ledger, pool, n, c, Way::Receive, bytes);
     if bytes.len() == 0 {
         return Ended::Wrote(0);
     }
+    if is_crowded(ledger, pool, n, Way::Receive) {
+        return Ended::Refused(Refusal::NoPlace);
+    }
+    append(ledger, pool, n, c, Way::Receive, bytes, bytes.len());
     if listed < 1 {
         return Ended::Wrote(0);
     }
@@ -161,7 +170,17 @@ pub fn arrival_in(
     }
 }
 
-// A take on a channel that may be used: as many ready bytes as fit the buffer.
+// R12: the channel carries datagrams, and the buffer has no room for the one that would be handed out.
+fn is_short(carries: u16, room: usize, most: usize) -> bool
+    ensures { λ r. ⌜ r ≡ not (isStream (carriesOf carries)) && ltb room most ⌝ }
+{
+    if carries == STREAM {
+        return false;
+    }
+    room < most
+}
+
+// A take on a channel that may be used: R12, or as many ready bytes as fit the buffer, of datagrams the oldest finished one, whole.
 fn hand_over(
     ledger: &mut [u16; Ledger::SIZE],
     pool: &mut [u8; Pool::SIZE],
@@ -172,7 +191,11 @@ fn hand_over(
     requires { ⌜ Usable (now ledger) (now pool) n c ⌝ }
     ensures { λ r. ⌜ Answers (taking (shown (now (ledger .entry)) (now (pool .entry))) (length (now (out .entry))) n) (now (ledger .exit)) (now (pool .exit)) r (now (out .entry)) (now (out .exit)) ⌝ }
 {
-    let count = least(out.len(), c.ready as usize);
+    let most = at_once(ledger, pool, n, c, Way::Send);
+    if is_short(c.carries, out.len(), most) {
+        return Ended::Refused(Refusal::Undersized);
+    }
+    let count = least(out.len(), most);
     let at = start_of(ledger, n, c.grant, Way::Send);
     octets::put_part(out, 0, pool, at, at + count);
     remove(ledger, pool, n, c, Way::Send, at, count);
@@ -250,7 +273,7 @@ pub fn arrival(s: Session, n: ChannelNumber, bytes: &[u8], out: &mut [u8]) -> An
     }
 }
 
-// The radio takes the bytes of a channel that are ready, as many as fit.
+// The radio takes the bytes of a channel that are ready: as many as fit, of datagrams the oldest finished one, whole.
 pub fn take(s: Session, n: ChannelNumber, out: &mut [u8]) -> Answered
     requires { ⌜ Good s ⌝ }
     ensures { λ r. ⌜ Answers (taking (view s) (length (now (out .entry))) n) (r .session .ledger) (r .session .pool) (r .ended) (now (out .entry)) (now (out .exit)) ⌝ }

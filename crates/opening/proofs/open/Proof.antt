@@ -3,7 +3,7 @@
 use native.Mathlib.Omega.{arith}
 use denote.Ref.{now}
 use Rattle.session.proofs.Facts.{good-table}
-use Rattle.opening.proofs.Checks.{bearer-there, bearer-few, numbers, few-channels, numbered, unopened, grant-fits, unserved, untcp, sizeless, numberless, cellless, open-done}
+use Rattle.opening.proofs.Checks.{bearer-there, bearer-few, numbers, few-channels, numbered, unopened, grant-fits, unserved, uncarried, sizeless, numberless, cellless, open-done}
 use borrow.Author.Needs.{needs}
 use Rattle.opening.proofs.open.Statement.{statement}
 use Rattle.opening.proofs.open.Tie as tie
@@ -35,20 +35,22 @@ returns-2 : tie.Need-returns-2
 returns-2 c =
     let r : tie.After-tell-problem = search in
     let i2 : tie.Then2 = search in
+    let a : tie.After-is-served = search in
     let i1 : tie.Else1 = search in
     let v : tie.After-serves = search in
     let s : tie.Start = search in
-    untcp _ (now (s .args .pool)) (s .pre .0) (s .args .d) (now (s .args .bearer)) (s .args .size) (s .args .protocol) (s .args .ignored) _ (v .serves .ensures) _ _ _ (i1 .if1 .left) (i2 .if2 .taken) (r .tell-problem .ensures)
+    uncarried _ (now (s .args .pool)) (s .pre .0) (s .args .d) (now (s .args .bearer)) (s .args .size) (s .args .protocol) (s .args .ignored) _ (v .serves .ensures) _ _ _ (i1 .if1 .left) _ (a .is-served .ensures) (i2 .if2 .taken) (r .tell-problem .ensures)
 
 returns-3 : tie.Need-returns-3
 returns-3 c =
     let r : tie.After-tell-problem2 = search in
     let i3 : tie.Then3 = search in
     let i2 : tie.Else2 = search in
+    let a : tie.After-is-served = search in
     let i1 : tie.Else1 = search in
     let v : tie.After-serves = search in
     let s : tie.Start = search in
-    sizeless _ (now (s .args .pool)) (s .pre .0) (s .args .d) (now (s .args .bearer)) (s .args .size) (s .args .protocol) (s .args .ignored) _ (v .serves .ensures) _ _ _ (i1 .if1 .left) (i2 .if2 .left) (i3 .if3 .taken) (r .tell-problem2 .ensures)
+    sizeless _ (now (s .args .pool)) (s .pre .0) (s .args .d) (now (s .args .bearer)) (s .args .size) (s .args .protocol) (s .args .ignored) _ (v .serves .ensures) _ _ _ (i1 .if1 .left) _ (a .is-served .ensures) (i2 .if2 .left) (i3 .if3 .taken) (r .tell-problem2 .ensures)
 
 channels-of-requires : tie.Need-channels-of-requires
 channels-of-requires c κs =
@@ -70,10 +72,11 @@ returns-4 c =
     let n : tie.After-channels-of = search in
     let i3 : tie.Else3 = search in
     let i2 : tie.Else2 = search in
+    let a : tie.After-is-served = search in
     let i1 : tie.Else1 = search in
     let v : tie.After-serves = search in
     let s = start v in
-    numberless _ (now (s .args .pool)) (s .pre .0) (s .args .d) (now (s .args .bearer)) (s .args .size) (s .args .protocol) (s .args .ignored) _ (v .serves .ensures) _ _ _ (i1 .if1 .left) (i2 .if2 .left) (i3 .if3 .left) _ _ (n .channels-of .ensures) (k .open-before .ensures) (i4 .if4 .taken) (r .tell-problem3 .ensures)
+    numberless _ (now (s .args .pool)) (s .pre .0) (s .args .d) (now (s .args .bearer)) (s .args .size) (s .args .protocol) (s .args .ignored) _ (v .serves .ensures) _ _ _ (i1 .if1 .left) _ (a .is-served .ensures) (i2 .if2 .left) (i3 .if3 .left) _ _ (n .channels-of .ensures) (k .open-before .ensures) (i4 .if4 .taken) (r .tell-problem3 .ensures)
 
 free-cells-requires : tie.Need-free-cells-requires
 free-cells-requires c κs =
@@ -91,13 +94,14 @@ returns-5 c =
     let n : tie.After-channels-of = search in
     let i3 : tie.Else3 = search in
     let i2 : tie.Else2 = search in
+    let a : tie.After-is-served = search in
     let i1 : tie.Else1 = search in
     let v : tie.After-serves = search in
     let s = start v in
-    cellless _ (now (s .args .pool)) (s .pre .0) (s .args .d) (now (s .args .bearer)) (s .args .size) (s .args .protocol) (s .args .ignored) _ (v .serves .ensures) _ _ _ (i1 .if1 .left) (i2 .if2 .left) (i3 .if3 .left) _ _ (n .channels-of .ensures) (k .open-before .ensures) (i4 .if4 .left) _ (f .free-cells .ensures) (i5 .if5 .taken) (r .tell-problem4 .ensures)
+    cellless _ (now (s .args .pool)) (s .pre .0) (s .args .d) (now (s .args .bearer)) (s .args .size) (s .args .protocol) (s .args .ignored) _ (v .serves .ensures) _ _ _ (i1 .if1 .left) _ (a .is-served .ensures) (i2 .if2 .left) (i3 .if3 .left) _ _ (n .channels-of .ensures) (k .open-before .ensures) (i4 .if4 .left) _ (f .free-cells .ensures) (i5 .if5 .taken) (r .tell-problem4 .ensures)
 
 -- the number that is opened is one of the seven
-add-number : tie.Need-add-t36
+add-number : tie.Need-add-t37
 add-number c =
     let i4 : tie.Else4 = search in
     let k : tie.After-open-before = search in
@@ -107,7 +111,7 @@ add-number c =
     let o = numbered _ _ (s .pre .0) _ _ (n .channels-of .ensures) (k .open-before .ensures) (i4 .if4 .left) in
     omega (arith, o .high)
 
-cast-number : tie.Need-cast-t20
+cast-number : tie.Need-cast-t21
 cast-number c =
     let i4 : tie.Else4 = search in
     let k : tie.After-open-before = search in
@@ -147,6 +151,7 @@ returns-6 c =
     let r : tie.After-tell-opened = search in
     let y : tie.After-short-or = search in
     let o : tie.After-open-channel = search in
+    let z : tie.After-carried-by = search in
     let l : tie.After-link-by = search in
     let w : tie.After-grant = search in
     let i5 : tie.Else5 = search in
@@ -156,11 +161,12 @@ returns-6 c =
     let n : tie.After-channels-of = search in
     let i3 : tie.Else3 = search in
     let i2 : tie.Else2 = search in
+    let a : tie.After-is-served = search in
     let i1 : tie.Else1 = search in
     let v : tie.After-serves = search in
     let s = start v in
-    open-done _ (now (s .args .pool)) (s .pre .0) (s .args .d) (now (s .args .bearer)) (s .args .size) (s .args .protocol) (s .args .ignored) _ (v .serves .ensures) _ _ _ (i1 .if1 .left) (i2 .if2 .left) (i3 .if3 .left) _ _ (n .channels-of .ensures) (k .open-before .ensures) (i4 .if4 .left) _ (f .free-cells .ensures) _ _ _ (w .grant .ensures) (l .link-by .ensures) (y .short-or .ensures) _ _
-    (i5 .if5 .left) (o .open-channel .ensures) (r .tell-opened .ensures)
+    open-done _ (now (s .args .pool)) (s .pre .0) (s .args .d) (now (s .args .bearer)) (s .args .size) (s .args .protocol) (s .args .ignored) _ (v .serves .ensures) _ _ _ (i1 .if1 .left) _ (a .is-served .ensures) (i2 .if2 .left) (i3 .if3 .left) _ _ (n .channels-of .ensures) (k .open-before .ensures) (i4 .if4 .left) _ (f .free-cells .ensures) _ _ _ (w .grant .ensures) (l .link-by .ensures) (y .short-or .ensures) _ _ _
+    (i5 .if5 .left) (z .carried-by .ensures) (o .open-channel .ensures) (r .tell-opened .ensures)
 
 pub open-spec : {M : Type 1} → statement M
 open-spec =
@@ -171,6 +177,7 @@ open-spec =
     (λ c κs. search needs)
     (λ c. search needs)
     returns
+    (λ c κs. search needs)
     (λ c κs. search needs)
     (λ c. search needs)
     returns-2
@@ -189,6 +196,7 @@ open-spec =
     (λ c κs. search needs)
     add-number
     cast-number
+    (λ c κs. search needs)
     (λ c κs. search needs)
     open-channel-requires
     (λ c κs. search needs)

@@ -4,7 +4,7 @@ use native.Mathlib.Omega.{arith}
 use Rattle.rules.specs.declared.Way.the-variants.{Receive}
 use Rattle.session.specs.Changed.{heldIn}
 use Rattle.session.proofs.Facts.{bounds, held-within}
-use Rattle.own.proofs.Replies.{receive-unopened, handed-few, handed-due, receive-done}
+use Rattle.own.proofs.Replies.{receive-unopened, handed-few, handed-once, receive-done}
 use borrow.Author.Needs.{needs}
 use Rattle.own.proofs.receive.Statement.{statement}
 use Rattle.own.proofs.receive.Tie as tie
@@ -22,6 +22,22 @@ returns c =
     let s : tie.Start = search in
     receive-unopened _ _ _ (s .pre .0) _ (e .entry .ensures) (s .args .d) (s .args .request) (s .args .ignored) _ _ _ (i .if1 .taken) (p .tell-problem .ensures)
 
+at-once-requires : tie.Need-at-once-requires
+at-once-requires c κs =
+    let e : tie.After-entry = search in
+    let s : tie.Start = search in
+    (s .pre .0, e .entry .ensures)
+
+sub-capped : tie.Need-sub-capped
+sub-capped c =
+    let k : tie.After-least2 = search in
+    let m : tie.After-least = search in
+    let v : tie.After-at-once = search in
+    let e : tie.After-entry = search in
+    let s : tie.Start = search in
+    let f = handed-few _ _ _ (s .pre .0) _ (e .entry .ensures) (s .args .request) _ _ _ (k .least2 .ensures) (m .least .ensures) (v .at-once .ensures) in
+    omega arith
+
 start-of-requires : tie.Need-start-of-requires
 start-of-requires c κs =
     let s : tie.Start = search in
@@ -33,9 +49,10 @@ tell-received-requires c κs =
     let o : tie.After-start-of = search in
     let k : tie.After-least2 = search in
     let m : tie.After-least = search in
+    let v : tie.After-at-once = search in
     let e : tie.After-entry = search in
     let s : tie.Start = search in
-    let f = handed-few _ _ _ (s .pre .0) _ (e .entry .ensures) (s .args .request) _ _ (k .least2 .ensures) (m .least .ensures) in
+    let f = handed-few _ _ _ (s .pre .0) _ (e .entry .ensures) (s .args .request) _ _ _ (k .least2 .ensures) (m .least .ensures) (v .at-once .ensures) in
     (omega (arith, s .pre .1), held-within _ _ _ (s .pre .0) _ Receive _ _ (e .entry .ensures) (o .start-of .ensures) (f .1))
 
 remove-requires : tie.Need-remove-requires
@@ -43,9 +60,10 @@ remove-requires c κs =
     let o : tie.After-start-of = search in
     let k : tie.After-least2 = search in
     let m : tie.After-least = search in
+    let v : tie.After-at-once = search in
     let e : tie.After-entry = search in
     let s : tie.Start = search in
-    ((s .pre .0, e .entry .ensures, o .start-of .ensures), handed-due _ _ _ (s .pre .0) _ (e .entry .ensures) (s .args .request) _ _ (k .least2 .ensures) (m .least .ensures))
+    ((s .pre .0, e .entry .ensures, o .start-of .ensures), handed-once _ _ _ (s .pre .0) _ (e .entry .ensures) (s .args .request) _ _ _ (k .least2 .ensures) (m .least .ensures) (v .at-once .ensures))
 
 returns-2 : tie.Need-returns-2
 returns-2 c =
@@ -56,10 +74,11 @@ returns-2 c =
     let x : tie.After-short-or = search in
     let k : tie.After-least2 = search in
     let m : tie.After-least = search in
+    let v : tie.After-at-once = search in
     let i : tie.Else1 = search in
     let e : tie.After-entry = search in
     let s : tie.Start = search in
-    receive-done _ _ _ (s .pre .0) _ (e .entry .ensures) (s .args .request) _ _ (k .least2 .ensures) (m .least .ensures) (s .args .d) (s .args .ignored) _ _ _ _ _ _ _ _
+    receive-done _ _ _ (s .pre .0) _ (e .entry .ensures) (s .args .request) _ _ _ (k .least2 .ensures) (m .least .ensures) (v .at-once .ensures) (s .args .d) (s .args .ignored) _ _ _ _ _ _ _ _
     (i .if1 .left) (o .start-of .ensures) (r .remove .ensures) (x .short-or .ensures) (l .capped .ensures) (w .tell-received .ensures)
 
 pub receive-spec : {M : Type 1} → statement M
@@ -71,10 +90,11 @@ receive-spec =
     (λ c. search needs)
     returns
     (λ c. search needs)
+    at-once-requires
     (λ c κs. search needs)
     (λ c κs. search needs)
     (λ c κs. search needs)
-    (λ c. search needs)
+    sub-capped
     (λ c κs. search needs)
     start-of-requires
     (λ c. search needs)

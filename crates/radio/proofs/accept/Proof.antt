@@ -2,21 +2,32 @@
 -- Assumes nothing.
 use native.Mathlib.Omega.{arith}
 use denote.Ref.{now}
-use Rattle.radio.proofs.Ends.{marks-own, accept-fits, accept-room, accept-overfull, accept-empty, accept-unlisted, accept-told}
+use Rattle.radio.proofs.Ends.{marks-own, accept-fits, accept-room, accept-count, accept-place, accept-overfull, accept-empty, accept-crowded, accept-unlisted, accept-told}
 use borrow.Author.Needs.{needs}
 use Rattle.radio.proofs.accept.Statement.{statement}
 use Rattle.radio.proofs.accept.Tie as tie
 
-returns-4 : tie.Need-returns-4
-returns-4 c =
-    let w : tie.After-tell-arrival = search in
-    let l : tie.Else3 = search in
-    let e : tie.Else2 = search in
-    let o : tie.After-append = search in
-    let f : tie.Else1 = search in
+append-requires : tie.Need-append-requires
+append-requires c κs =
+    let e : tie.Else3 = search in
+    let i : tie.After-is-crowded = search in
+    let r : tie.Else1 = search in
     let s : tie.Start = search in
-    accept-told (s .pre .0) (now (s .args .bytes)) _ (s .pre .1) (f .if1 .left) _ _ (o .append .ensures) _ (e .if2 .left) (l .if3 .left)
-    (w .tell-arrival .ensures)
+    let room = accept-room (s .pre .0) (r .if1 .left) in
+    ((search needs, search marks-own), (omega arith, (search accept-count, accept-place (s .pre .0) _ _ (i .is-crowded .ensures) (e .if3 .left))))
+
+returns-5 : tie.Need-returns-5
+returns-5 c =
+    let w : tie.After-tell-arrival = search in
+    let l : tie.Else4 = search in
+    let o : tie.After-append = search in
+    let f : tie.Else3 = search in
+    let i : tie.After-is-crowded = search in
+    let e : tie.Else2 = search in
+    let r : tie.Else1 = search in
+    let s : tie.Start = search in
+    accept-told (s .pre .0) (now (s .args .bytes)) _ (s .pre .1) (r .if1 .left) (e .if2 .left) _ (i .is-crowded .ensures) (f .if3 .left)
+    _ _ (o .append .ensures) _ (l .if4 .left) (w .tell-arrival .ensures)
 
 pub accept-spec : {M : Type 1} → statement M
 accept-spec =
@@ -27,10 +38,12 @@ accept-spec =
     (λ c. search needs)
     (λ c. let s : tie.Start = search in omega (arith, accept-fits (s .pre .0)))
     (λ c. search accept-overfull)
-    (λ c κs. ((search needs, search marks-own), search accept-room))
     (λ c. search accept-empty)
+    (λ c κs. search needs)
+    (λ c. search accept-crowded)
+    append-requires
     (λ c. search accept-unlisted)
     (λ c. search needs)
     (λ c κs. search needs)
     (λ c. search needs)
-    returns-4)
+    returns-5)
