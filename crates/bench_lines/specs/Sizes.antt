@@ -14,4 +14,4 @@ abbrev pub answerSize : ℕ
 answerSize = 3230
 
 abbrev pub commandSize : ℕ
-commandSize = 515
+commandSize = 516

@@ -48,24 +48,24 @@ struct Turn {
 
 // Prints a refusal as a line, and tells the place behind it.
 fn print_refusal(refusal: Refusal, out: &mut [u8], at: usize) -> usize
-    requires { ⌜ at + 3 ≤ length (now out) ⌝ }
-    ensures { λ r. ⌜ r ≤ at + 3 ⌝ }
+    requires { ⌜ at + 4 ≤ length (now out) ⌝ }
+    ensures { λ r. ⌜ r ≤ at + 4 ⌝ }
 {
     print(out, at, Ended::Refused(refusal), b"")
 }
 
 // Prints a value as a line, "--" if it is empty, and tells the place behind it.
 fn print_value(value: &[u8], out: &mut [u8], at: usize) -> usize
-    requires { ⌜ at + 2 * length (now value) + 3 ≤ length (now out) ⌝ }
-    ensures { λ r. ⌜ (at < r) × (r ≤ at + 2 * length (now (value .entry)) + 3) ⌝ }
+    requires { ⌜ at + 2 * length (now value) + 4 ≤ length (now out) ⌝ }
+    ensures { λ r. ⌜ (at < r) × (r ≤ at + 2 * length (now (value .entry)) + 4) ⌝ }
 {
     print(out, at, Ended::Wrote(value.len()), value)
 }
 
 // Prints a further value on the line that ends before `at`, behind a space.
 fn print_more(value: &[u8], out: &mut [u8], at: usize) -> usize
-    requires { ⌜ (1 ≤ at) × (at + 2 * length (now value) + 3 ≤ length (now out)) ⌝ }
-    ensures { λ r. ⌜ (at < r) × (r ≤ at + 2 * length (now (value .entry)) + 3) ⌝ }
+    requires { ⌜ (1 ≤ at) × (at + 2 * length (now value) + 4 ≤ length (now out)) ⌝ }
+    ensures { λ r. ⌜ (at < r) × (r ≤ at + 2 * length (now (value .entry)) + 4) ⌝ }
 {
     out[at - 1] = 32;
     print_value(value, out, at)
@@ -73,16 +73,16 @@ fn print_more(value: &[u8], out: &mut [u8], at: usize) -> usize
 
 // Prints the bytes from `start` up to `end` as a further value.
 fn print_part(s: &[u8], start: usize, end: usize, out: &mut [u8], at: usize) -> usize
-    requires { ⌜ (start ≤ end) × (end ≤ length (now s)) × (1 ≤ at) × (at + 2 * (end - start) + 3 ≤ length (now out)) ⌝ }
-    ensures { λ r. ⌜ (at < r) × (r ≤ at + 2 * (end - start) + 3) ⌝ }
+    requires { ⌜ (start ≤ end) × (end ≤ length (now s)) × (1 ≤ at) × (at + 2 * (end - start) + 4 ≤ length (now out)) ⌝ }
+    ensures { λ r. ⌜ (at < r) × (r ≤ at + 2 * (end - start) + 4) ⌝ }
 {
     print_more(&s[start..end], out, at)
 }
 
 // Prints one byte as a further value.
 fn print_byte(value: u8, out: &mut [u8], at: usize) -> usize
-    requires { ⌜ (1 ≤ at) × (at + 5 ≤ length (now out)) ⌝ }
-    ensures { λ r. ⌜ (at < r) × (r ≤ at + 5) ⌝ }
+    requires { ⌜ (1 ≤ at) × (at + 6 ≤ length (now out)) ⌝ }
+    ensures { λ r. ⌜ (at < r) × (r ≤ at + 6) ⌝ }
 {
     let bytes = [value];
     print_more(&bytes, out, at)
@@ -90,8 +90,8 @@ fn print_byte(value: u8, out: &mut [u8], at: usize) -> usize
 
 // Prints two bytes as a further value.
 fn print_pair(high: u8, low: u8, out: &mut [u8], at: usize) -> usize
-    requires { ⌜ (1 ≤ at) × (at + 7 ≤ length (now out)) ⌝ }
-    ensures { λ r. ⌜ (at < r) × (r ≤ at + 7) ⌝ }
+    requires { ⌜ (1 ≤ at) × (at + 8 ≤ length (now out)) ⌝ }
+    ensures { λ r. ⌜ (at < r) × (r ≤ at + 8) ⌝ }
 {
     let bytes = [high, low];
     print_more(&bytes, out, at)
@@ -99,8 +99,8 @@ fn print_pair(high: u8, low: u8, out: &mut [u8], at: usize) -> usize
 
 // Prints a channel with its link as a status.
 fn print_status(n: ChannelNumber, link: Link, out: &mut [u8], at: usize) -> usize
-    requires { ⌜ (1 ≤ at) × (at + 7 ≤ length (now out)) ⌝ }
-    ensures { λ r. ⌜ (at < r) × (r ≤ at + 7) ⌝ }
+    requires { ⌜ (1 ≤ at) × (at + 8 ≤ length (now out)) ⌝ }
+    ensures { λ r. ⌜ (at < r) × (r ≤ at + 8) ⌝ }
 {
     match link {
         Link::NotYet => print_pair(n.0, 0x00, out, at),
@@ -111,8 +111,8 @@ fn print_status(n: ChannelNumber, link: Link, out: &mut [u8], at: usize) -> usiz
 
 // Prints the bearer in its place, and the grant.
 fn print_grant(s: &[u8], start: usize, end: usize, grant: u16, out: &mut [u8], at: usize) -> usize
-    requires { ⌜ (start ≤ end) × (end ≤ length (now s)) × (1 ≤ at) × (at + 2 * (end - start) + 10 ≤ length (now out)) ⌝ }
-    ensures { λ r. ⌜ (at < r) × (r ≤ at + 2 * (end - start) + 10) ⌝ }
+    requires { ⌜ (start ≤ end) × (end ≤ length (now s)) × (1 ≤ at) × (at + 2 * (end - start) + 12 ≤ length (now out)) ⌝ }
+    ensures { λ r. ⌜ (at < r) × (r ≤ at + 2 * (end - start) + 12) ⌝ }
 {
     let behind = print_part(s, start, end, out, at);
     print_pair((grant / 256) as u8, (grant % 256) as u8, out, behind)
@@ -148,8 +148,8 @@ fn print_statuses(s: &[u8], start: usize, count: usize, out: &mut [u8], at: usiz
 // Prints what follows the result, each value from what was read or from its place.
 fn print_further(s: &[u8], further: Further, out: &mut [u8], at: usize) -> usize
     requires { ⌜ FurtherAt further (now s) ⌝ }
-    requires { ⌜ (1 ≤ at) × (at + 2 * length (now s) + 10 ≤ length (now out)) ⌝ }
-    ensures { λ r. ⌜ r ≤ at + 2 * length (now (s .entry)) + 10 ⌝ }
+    requires { ⌜ (1 ≤ at) × (at + 2 * length (now s) + 12 ≤ length (now out)) ⌝ }
+    ensures { λ r. ⌜ r ≤ at + 2 * length (now (s .entry)) + 12 ⌝ }
 {
     match further {
         Further::Plain => at,
@@ -166,8 +166,8 @@ fn print_further(s: &[u8], further: Further, out: &mut [u8], at: usize) -> usize
 // Prints the result, with its cause if it has one, and what follows it.
 fn print_verdict(s: &[u8], verdict: Verdict, out: &mut [u8], at: usize) -> usize
     requires { ⌜ VerdictAt verdict (now s) ⌝ }
-    requires { ⌜ (1 ≤ at) × (at + 2 * length (now s) + 15 ≤ length (now out)) ⌝ }
-    ensures { λ r. ⌜ r ≤ at + 2 * length (now (s .entry)) + 15 ⌝ }
+    requires { ⌜ (1 ≤ at) × (at + 2 * length (now s) + 18 ≤ length (now out)) ⌝ }
+    ensures { λ r. ⌜ r ≤ at + 2 * length (now (s .entry)) + 18 ⌝ }
 {
     match verdict {
         Verdict::Error(result) => print_byte(result, out, at),

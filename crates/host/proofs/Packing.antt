@@ -10,7 +10,7 @@ use Rattle.rules.specs.declared.ChannelNumber.{ChannelNumber}
 use Rattle.rules.specs.declared.Way.the-variants.{Send}
 use Rattle.rules.specs.Words.{numberOf, refusalOf}
 use Rattle.rules.specs.Pool.{grantCap}
-use Rattle.rules.specs.State.{State, chan, held}
+use Rattle.rules.specs.State.{State, chan, held, atOnce}
 use Rattle.rules.specs.Command.{Answer, Outcome, wrote, refused}
 use Rattle.rules.specs.Radio.{taking}
 use Rattle.rules.specs.Run.{Call, starting, commanding, arriving, takingOut, droppingLink, step}
@@ -38,13 +38,13 @@ unfolding Fits endedOf
 within-fits k (wrote s) h w = omega arith
 within-fits k (refused r) h w = tt
 
--- what a take hands out is ready, and so within the grant
+-- what a take hands out is held, and so within the grant
 take-within : (a : State) (buffer : ℕ) (n : ChannelNumber) → Sound a → Within grantCap (taking a buffer n .outcome)
 take-within a buffer n h =
     taking-cases (λ (x : Answer). Within grantCap (x .outcome)) a (λ _. tt) buffer n
-    (λ _.
+    (λ _ _.
     let s = chan-sound a n h in
-    let t = length-take (min buffer (chan a n .ready)) (held (chan a n) Send) in omega (arith, s .capped, s .fits Send))
+    let t = length-take (min buffer (atOnce (chan a n) Send)) (held (chan a n) Send) in omega (arith, s .capped, s .fits Send))
 
 call-fits : (a : State) (c : Call) → Sound a → Fits (endedOf (step a c .outcome))
 unfolding step

@@ -2,17 +2,18 @@
 -- Assumes nothing.
 use Prim.Native.Nat.{ℕ, _+_, _-_, _*_, _≤_, _<_}
 use mathlib.Core.Path.{_≡_, refl, sym, ap, subst, _∙_}
-use mathlib.Core.List.{List, [], _∷_}
+use mathlib.Core.List.{List, [], _∷_, _++_}
 use mathlib.Core.Option.{Option, none, some}
 use native.Mathlib.Omega.{arith}
 use lib.ListN.{length, take, drop, length-append, length-take, length-drop}
 use lib.Seq.{take-append-seam}
 use Rattle.rules.specs.Command.{Outcome, wrote, refused}
 use Rattle.rules.specs.Lines.{hex, printed}
+use Rattle.rules.proofs.Laws.{branch}
 use Rattle.session.specs.declared.Ended.{Ended}
 use Rattle.session.specs.declared.Ended.the-variants.{Wrote, Refused}
 use Rattle.session.specs.Calls.{endedOf, writtenBy, overlaid}
-use Rattle.text.specs.Sizes.{keptCap}
+use Rattle.text.specs.Sizes.{keptCap, shortLine}
 use Rattle.text.specs.declared.Frame.{Frame}
 use Rattle.text.specs.declared.Frame.the-variants.{Bytes}
 use Rattle.text.specs.declared.Gathered.{Gathered}
@@ -46,9 +47,9 @@ pub count-within : (o : Outcome) (x : Ended) (before after : List ℕ) → (x �
 count-within o x before after t =
     subst (λ (y : Ended). countOf y ≤ length after) (sym (t .0)) (subst (λ (s : List ℕ). countOf (endedOf o) ≤ length s) (sym (t .1)) (front-within o before))
 
--- a printed line has its line feed, and at most two digits for each byte of the buffer, or two characters
+-- a printed line has its line feed, and at most two digits for each byte of the buffer, or three characters
 abbrev Few : List ℕ → ℕ → Type 0
-Few l n = (1 ≤ length l) × (length l ≤ 2 * n + 3)
+Few l n = (1 ≤ length l) × (length l ≤ 2 * n + shortLine)
 
 written-few : (t : List ℕ) (n : ℕ) → length t ≤ n → Few (lineOf (wrote t)) n
 unfolding printed
@@ -62,10 +63,10 @@ written-few (b ∷ t) n h =
 line-few : (x : Ended) (s : List ℕ) → Few (lineOf (outcomeOf x s)) (length s)
 unfolding outcomeOf printed
 line-few (Wrote k) s = written-few (take k s) (length s) (let e = length-take k s in omega arith)
-line-few (Refused r) s = (omega arith, omega arith)
+line-few (Refused r) s = branch (λ (l : List ℕ). Few (82 ∷ l ++ 10 ∷ []) (length s)) _ _ _ (λ _. (omega arith, omega arith)) (λ _. (omega arith, omega arith))
 
 pub line-within :
-    (x : Ended) (s : List ℕ) (r at : ℕ) → r ≡ at + length (lineOf (outcomeOf x s)) → (at < r) × (r ≤ at + 2 * length s + 3)
+    (x : Ended) (s : List ℕ) (r at : ℕ) → r ≡ at + length (lineOf (outcomeOf x s)) → (at < r) × (r ≤ at + 2 * length s + shortLine)
 line-within x s r at e = let few = line-few x s in (omega (arith, few .0), omega (arith, few .1))
 
 -- what was read of a chunk: not more than there is, and something where there is anything

@@ -6,11 +6,12 @@ use mathlib.Core.List.{List, [], _∷_, _++_}
 use native.Mathlib.Omega.{arith}
 use lib.ListN.{length, getD, set, take, length-append}
 use lib.Seq.{length-take-le}
+use borrow.Author.Tests.{lt-ltb, le-ltb}
 use Rattle.rules.specs.declared.Refusal.{Refusal}
-use Rattle.rules.specs.declared.Refusal.the-variants.{ShortBuffer, CommandSize, NoChannel, Unopened, Unlinked, Overfull, UnfitRecord, NoResponse, Unreadable}
 use Rattle.rules.specs.Words.{numberOf}
 use Rattle.rules.specs.Command.{wrote, refused}
-use Rattle.rules.specs.Lines.{digitOf, hex, printed}
+use Rattle.rules.specs.Lines.{digitOf, hex, decimal, printed}
+use Rattle.rules.proofs.Laws.{stop, skip}
 use Rattle.session.specs.declared.Ended.{Ended}
 use Rattle.session.specs.declared.Ended.the-variants.{Wrote, Refused}
 use Rattle.text.specs.Sizes.{shortLine}
@@ -69,17 +70,6 @@ unfolding printed
 no-line [] e = refl
 no-line (b ∷ s) e = absurd (let z : length (b ∷ s) ≡ 0 = e in omega arith)
 
-pub number-small : (r : Refusal) → numberOf r ≤ 9
-number-small ShortBuffer = omega arith
-number-small CommandSize = omega arith
-number-small NoChannel = omega arith
-number-small Unopened = omega arith
-number-small Unlinked = omega arith
-number-small Overfull = omega arith
-number-small UnfitRecord = omega arith
-number-small NoResponse = omega arith
-number-small Unreadable = omega arith
-
 -- a line that was printed: it stands in the output, and its end is told
 abbrev Line : List ℕ → List ℕ → ℕ → List ℕ → ℕ → Type 0
 Line l before at after r = (after ≡ pasted before at l) × (r ≡ at + length l)
@@ -88,13 +78,21 @@ line-as : (t u before : List ℕ) (at : ℕ) (after : List ℕ) (r : ℕ) → t 
 line-as t u before at after r e w = subst (λ (l : List ℕ). Line l before at after r) e w
 
 module _ (before : List ℕ) (at : ℕ) (after : List ℕ) where
-  pub nothing-line : (s : List ℕ) → length s ≡ 0 → after ≡ pasted before at (45 ∷ 45 ∷ 10 ∷ []) → Line (lineOf (wrote s)) before at after (at + shortLine)
+  pub nothing-line : (s : List ℕ) → length s ≡ 0 → after ≡ pasted before at (45 ∷ 45 ∷ 10 ∷ []) → Line (lineOf (wrote s)) before at after (at + 3)
   nothing-line s e w = line-as _ _ before at after _ (no-line s e) (w, refl)
 
-  pub refused-line :
-      (r : Refusal) (n : ℕ) → n ≡ numberOf r → after ≡ pasted before at (82 ∷ (n + 48) ∷ 10 ∷ []) → Line (lineOf (refused r)) before at after (at + shortLine)
-  unfolding printed
-  refused-line r n e w = line-as _ _ before at after _ (ap (λ (k : ℕ). 82 ∷ (k + 48) ∷ 10 ∷ []) e) (w, refl)
+  -- R and the number: one digit, or tens and ones
+  module _ (r : Refusal) (n : ℕ) (is : n ≡ numberOf r) where
+    pub refused-line : n < 10 → after ≡ pasted before at (82 ∷ (n + 48) ∷ 10 ∷ []) → Line (lineOf (refused r)) before at after (at + 3)
+    unfolding printed
+    refused-line h w =
+        line-as _ _ before at after _ (ap (λ (l : List ℕ). 82 ∷ l ++ 10 ∷ []) (sym (stop _ _ _ (lt-ltb n 10 h)) ∙ ap decimal is)) (w, refl)
+
+    pub refused-long :
+        10 ≤ n → after ≡ pasted before at (82 ∷ (n / 10 + 48) ∷ (n % 10 + 48) ∷ 10 ∷ []) → Line (lineOf (refused r)) before at after (at + shortLine)
+    unfolding printed
+    refused-long h w =
+        line-as _ _ before at after _ (ap (λ (l : List ℕ). 82 ∷ l ++ 10 ∷ []) (sym (skip _ _ _ (le-ltb n 10 h)) ∙ ap decimal is)) (w, refl)
 
   -- the digits and the line feed
   pub hexed-line :

@@ -21,9 +21,9 @@ eventSize = 16
 abbrev pub takeCap : ℕ
 takeCap = 1500
 
--- a printed line without bytes, and the longest of all
+-- the longest printed line without bytes, R11 or R12, and the longest of all
 abbrev pub shortLine : ℕ
-shortLine = 3
+shortLine = 4
 
 abbrev pub lineCap : ℕ
-lineCap = 3003
+lineCap = 3004

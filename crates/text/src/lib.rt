@@ -36,10 +36,12 @@ impl Line {
 
     pub const TAKEN: usize = 1500;
 
-    // A printed line without bytes, and the longest of all.
-    pub const SHORT: usize = 3;
+    // The least printed line, the longest without bytes, and the longest of all.
+    pub const LEAST: usize = 3;
 
-    pub const PRINTED: usize = 3003;
+    pub const SHORT: usize = 4;
+
+    pub const PRINTED: usize = 3004;
 }
 
 // A line as a frame: so many bytes, or unreadable.
@@ -211,7 +213,7 @@ fn print_written(out: &mut [u8], at: usize, bytes: &[u8]) -> usize
     if bytes.len() == 0 {
         let none = [45u8, 45, 10];
         octets::put(out, at, &none);
-        return at + Line::SHORT;
+        return at + Line::LEAST;
     }
     print_bytes(out, at, bytes);
     let end = at + 2 * bytes.len();
@@ -219,13 +221,19 @@ fn print_written(out: &mut [u8], at: usize, bytes: &[u8]) -> usize
     end + 1
 }
 
-// Prints the line for a refusal, and tells the place behind it.
+// Prints the line for a refusal, its number in decimal, and tells the place behind it.
 fn print_refusal(out: &mut [u8], at: usize, refusal: Refusal) -> usize
     requires { ⌜ at + shortLine ≤ length (now out) ⌝ }
     ensures { λ r. ⌜ now (out .exit) ≡ pasted (now (out .entry)) at (lineOf (refused refusal)) ⌝ }
     ensures { λ r. ⌜ r ≡ at + length (lineOf (refused refusal)) ⌝ }
 {
-    let line = [82u8, refusal.number() + 48, 10];
+    let number = refusal.number();
+    if number < 10 {
+        let line = [82u8, number + 48, 10];
+        octets::put(out, at, &line);
+        return at + Line::LEAST;
+    }
+    let line = [82u8, number / 10 + 48, number % 10 + 48, 10];
     octets::put(out, at, &line);
     at + Line::SHORT
 }

@@ -1,4 +1,4 @@
--- `bench_lines::print_refusal` prints R and a digit.
+-- `bench_lines::print_refusal` prints R and one digit or two.
 -- Assumes nothing.
 use mathlib.Core.List.{[]}
 use native.Mathlib.Omega.{arith}

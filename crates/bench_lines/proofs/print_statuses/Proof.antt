@@ -1,4 +1,4 @@
--- `bench_lines::print_statuses` has room for each status: at most seven bytes of print for four of the response.
+-- `bench_lines::print_statuses` has room for each status: at most eight bytes of print for four of the response.
 -- Assumes nothing.
 use Prim.Native.Nat.{_+_, _-_, _*_, _≤_}
 use mathlib.Core.Path.{_≡_}
@@ -8,7 +8,7 @@ use Rattle.bench_lines.proofs.print_statuses.Statement.{statement}
 use Rattle.bench_lines.proofs.print_statuses.Tie as tie
 
 abbrev Inv-loop : tie.InvT-loop
-Inv-loop s start count out₀ at end₀ i₀ out end i = (i ≤ count) × (at + i ≤ end) × (end ≤ at + 7 * i) × (length out ≡ length out₀)
+Inv-loop s start count out₀ at end₀ i₀ out end i = (i ≤ count) × (at + i ≤ end) × (end ≤ at + 8 * i) × (length out ≡ length out₀)
 
 abbrev μ-loop : tie.MeasureT-loop
 μ-loop s start count out₀ at end₀ i₀ out end i = count - i
