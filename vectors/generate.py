@@ -75,6 +75,8 @@ def size39(n, tag=0xB9):
 BEARER3 = obj(0xB5, "03")
 BEARER2 = obj(0xB5, "02030405061F02")
 TCP = obj(0x3C, "021F90")
+UDP = obj(0x3C, "011F90")                       # a datagram channel
+OTHER = obj(0x3C, "031F90")                     # a transport that no channel has
 
 
 def open_(size, *extra, q=1, bearer=BEARER3, num=1):
@@ -681,9 +683,9 @@ def make_results():
                     "%02X, two flagged and a third one not" % number)
     opening(open_(100, obj(0x04, "0102"), obj(0x04, "0102"), obj(0x04, "01")), "01", "the third 04 has no length rule")
     opening(open_(100, obj(0x04, "0102"), obj(0x04, "0102"), obj(0x04), obj(0x04, "010203")), "01", "nor the fourth")
-    opening(open_(100, TCP, obj(0x3C, "011F90")), "01", "second 3C not TCP: the first counts")
+    opening(open_(100, TCP, OTHER), "01", "second 3C not TCP: the first counts")
     opening(open_(100, TCP, obj(0x3C)), "01", "second 3C has no length rule")
-    opening(open_(100, obj(0x3C, "011F90"), TCP), "3A06", "the first 3C counts")
+    opening(open_(100, OTHER, TCP), "3A06", "the first 3C counts")
     opening(open_(100, size39(200, tag=0x39)), "=8103014001" "82028281" "830101" "38028100" "350103" "39020064",
             "second 39: the first counts")
     opening(open_(100, size39(0, tag=0x39)), "01")
@@ -734,9 +736,9 @@ def make_results():
     for dst in (0x81, 0x83, 0x21, 0x00):
         opening(cmd(0x40, BEARER3, size39(100), q=1, dst=dst), "32", "destination %02X" % dst)
     # own checks
-    for first in ("00", "01", "03", "82", "FF"):
+    for first in ("00", "03", "04", "82", "FF"):
         opening(open_(100, obj(0x3C, first + "1F90")), "3A06", "3C first byte %s" % first)
-    opening(open_(100, obj(0xBC, "011F90")), "3A06", "flagged")
+    opening(open_(100, obj(0xBC, "031F90")), "3A06", "flagged")
     opening(open_(100, obj(0x3C, "020000")), "00", "the port is not looked at")
     opening(open_(100, obj(0x3C, "02FFFF")), "00")
     opening(open_(0), "3A04", "size 0")
@@ -966,7 +968,7 @@ def make_results_profiles():
     s = Script("results_no_bearer02", "00000800010C00000000001FFD")
     s.add(open_(32, bearer=BEARER2), "30", "bearer 02 forbidden")
     s.add(open_(32, bearer=obj(0xB5, "0203")), "32", "its length comes first")
-    s.add(open_(0, obj(0x3C, "011F90"), bearer=BEARER2), "30")
+    s.add(open_(0, OTHER, bearer=BEARER2), "30")
     s.add(open_(32), "00")
     s.add(status(), "..38028100")
 
@@ -1034,23 +1036,23 @@ def make_order():
     s.add(cmd(0x40, obj(0xB5, "01"), size39(10), dst=0x21), "32", "wrong destination before bearer")
     s.add(cmd(0x41, dst=0x21, src=0x82), "32", "wrong source before unopened")
     s.add(recv(1, 1, obj(0x1E, "00")), "32", "wrong length before unopened")
-    s.add(open_(0, obj(0x3C, "011F90"), bearer=obj(0xB5, "01")), "30", "bearer before 3C")
+    s.add(open_(0, OTHER, bearer=obj(0xB5, "01")), "30", "bearer before 3C")
     s.add(open_(10, obj(0x3C, "01"), bearer=obj(0xB5, "01")), "32", "length of 3C before bearer")
     s.add(cmd(0x40, obj(0xB5, "01"), obj(0xB9, "00"), q=1), "32", "length of 39 before bearer")
-    s.add(open_(0, obj(0x3C, "011F90")), "3A06", "3C before size 0")
+    s.add(open_(0, OTHER), "3A06", "3C before size 0")
     s.add(open_(1500), "00")
     s.add(open_(1500), "00")
     s.add(open_(544), "00")
     s.add(open_(544), "00", "four channels, 256 cells")
     s.add(open_(0), "3A04", "size 0 before numbers")
     s.add(open_(10), "3A01", "numbers before cells")
-    s.add(open_(10, obj(0x3C, "011F90")), "3A06", "3C before numbers")
+    s.add(open_(10, OTHER), "3A06", "3C before numbers")
     s.add(close(4), "00")
     s.add(close(3), "00")
     s.add(open_(1088), "00")
     s.add(open_(0), "3A04")
     s.add(open_(10), "3A04", "a number, but no cells")
-    s.add(open_(10, obj(0x3C, "011F90")), "3A06")
+    s.add(open_(10, OTHER), "3A06")
     s.add(drop(1), "--")
     s.add(send(1, data(61, 200)), "3A02")
     s.add(close(2), "00")
@@ -1602,6 +1604,584 @@ def make_churn():
         s.add(take(ch, 1500))
 
 
+# ---------------------------------------------------------------- datagram channels
+
+def udp(size, *extra, **how):
+    """An OPEN CHANNEL for datagrams."""
+    return open_(size, UDP, *extra, **how)
+
+
+def many(s, lines):
+    """Lines with their wants, one behind the other."""
+    for line, want in lines:
+        s.add(line, want)
+
+
+def tell_kind(s, stream):
+    """Two datagrams each way on channel 1, of grant 64: a stream runs them together."""
+    s.add(arr(1, H("4142")), "--")
+    s.add(arr(1, H("43")), "--")
+    if stream:
+        s.add(recv(1, 9), "..830102" "3603" "414243" "370100", "a stream")
+    else:
+        s.add(recv(1, 9), "..830102" "3602" "4142" "370101", "datagrams")
+        s.add(recv(1, 9), "..830102" "3601" "43" "370100")
+    s.add(send(1, H("51")), "..37013F")
+    s.add(send(1, H("5253")), "..37013D")
+    if stream:
+        s.add(take(1, 9), "=515253")
+    else:
+        s.add(take(1, 9), "=51")
+        s.add(take(1, 9), "=5253")
+    s.add(take(1, 9), "--")
+    s.add(close(1), "00")
+
+
+def make_datagrams_kinds():
+    s = Script("datagrams_kinds")
+    opened = "=8103014001" "82028281" "830100" "38028100" "350103" "39020040"
+    s.add(open_(64), opened, "3C absent")
+    tell_kind(s, stream=True)
+    for first, stream in (("01", False), ("02", True)):
+        for rest in ("1F90", "0000", "FFFF", "0102", "0201"):
+            s.add(open_(64, obj(0x3C, first + rest)), opened, "3C %s, the rest is not looked at" % first)
+            tell_kind(s, stream)
+        s.add(open_(64, obj(0xBC, first + "1F90")), opened, "3C %s, flagged" % first)
+        tell_kind(s, stream)
+    for first in ("00", "03", "04", "11", "7F", "80", "81", "82", "FE", "FF"):
+        s.add(open_(64, obj(0x3C, first + "0102")), "=8103014001" "82028281" "83023A06", "3C %s" % first)
+    # two of them: the first counts
+    s.add(open_(64, UDP, TCP), "01", "01, then 02")
+    tell_kind(s, stream=False)
+    s.add(open_(64, TCP, UDP), "01", "02, then 01")
+    tell_kind(s, stream=True)
+    s.add(open_(64, UDP, OTHER), "01", "01, then 03")
+    tell_kind(s, stream=False)
+    s.add(open_(64, OTHER, UDP), "3A06", "03, then 01")
+    s.add(open_(64, UDP, obj(0xBC, "011F90")), "32", "the second one is flagged")
+    for value in ("01", "011F", "011F9000"):
+        s.add(open_(64, obj(0x3C, value)), "32", "3C of length %d" % (len(value) // 2))
+    # the order of the own checks
+    s.add(udp(0, bearer=obj(0xB5, "01")), "30", "the bearer before the size")
+    s.add(open_(0, obj(0x3C, "031F90"), bearer=obj(0xB5, "01")), "30", "the bearer before 3C")
+    s.add(open_(0, obj(0x3C, "FF1F90")), "3A06", "3C before the size")
+    s.add(udp(0), "3A04", "size 0")
+    s.add(status(), "..38020000", "nothing is open")
+    # responses, status, grants and cells are those of a stream
+    s.add(udp(64, q=0), "=8103014000" "82028281" "830100" "38020100" "350103" "39020040", "not yet established")
+    s.add(arr(1, H("41")), "R5")
+    s.add(arr(1), "R5", "no bytes, refused all the same")
+    s.add(take(1, 0), "R5")
+    s.add(close(1), "00")
+    s.add(udp(64, bearer=BEARER2), "=8103014001" "82028281" "830100" "38028100" "350702030405061F02" "39020040",
+          "bearer 02")
+    s.add(close(1), "00")
+    s.add(udp(64, obj(0x5E, "AA")), "=8103014001" "82028281" "830101" "38028100" "350103" "39020040", "an object ignored")
+    s.add(close(1), "00")
+    s.add(udp(1501), "=8103014001" "82028281" "830107" "38028100" "350103" "390205DC", "the cap cuts")
+    s.add(open_(1500), "=8103014001" "82028281" "830100" "38028200" "350103" "390205DC", "a stream beside it")
+    s.add(udp(1500), "=8103014001" "82028281" "830107" "38028300" "350103" "39020440", "68 cells unpromised: 1088")
+    s.add(udp(1), "3A04", "no cells")
+    s.add(open_(1), "3A04")
+    s.add(close(3), "00")
+    s.add(udp(1056), "..830100" "38028300" "350103" "39020420", "two cells stay")
+    s.add(udp(33, q=0), "=8103014000" "82028281" "830107" "38020400" "350103" "39020020", "two cells: 32")
+    s.add(udp(1), "3A01", "no number")
+    s.add(open_(1, obj(0x3C, "001F90")), "3A06", "3C before the numbers")
+    s.add(drop(3), "--")
+    s.add(status(), "=810301440082028281830100" "38028100" "38028200" "38020305" "38020400")
+
+
+def make_datagrams_arrivals():
+    s = Script("datagrams_arrivals")
+    told = "=D60E19010982028281380281003701%02X"
+    s.add(events("09"), "00")
+    s.add(udp(40), "..38028100" "350103" "39020028")
+    s.add(arr(1), "--", "none, into an empty channel: no event")
+    s.add(recv(1, 1), "..830102" "3600" "370100", "and nothing is left of it")
+    for i in range(16):
+        s.add(arr(1, bytes([0x40 + i])), told % (i + 1), "datagram %d" % (i + 1))
+    s.add(arr(1, H("77")), "R11", "a seventeenth")
+    s.add(arr(1, H("77")), "R11", "and again")
+    s.add(arr(1), "--", "none, with 16 held: accepted, no event")
+    s.add(arr(1, data(101, 24)), "R11", "24 bytes fit the grant, not the places")
+    s.add(arr(1, data(101, 25)), "R6", "25 do not: R6 before R11")
+    s.add(arr(1, data(101, 1500)), "R6")
+    s.add(arr(8, H("77")), "R3")
+    s.add(arr(2, H("77")), "R4")
+    s.add(recv(1, 1), "..830100" "3601" "40" "37010F", "a place is free")
+    s.add(arr(1, data(102, 26)), "R6", "26 into room for 25")
+    s.add(arr(1, data(102, 25)), told % 40, "25 fill the grant and the places")
+    s.add(arr(1, H("77")), "R6", "both would apply: R6")
+    s.add(arr(1), "--", "none, with 16 held and a full grant")
+    s.add(arr(1), "--")
+    for i in range(1, 16):
+        s.add(recv(1, 1), "..830100" "3601%02X" "3701%02X" % (0x40 + i, 40 - i))
+    s.add(recv(1, 25), "..830100" "3619" + hx(data(102, 25)) + "370100", "nothing of what was refused")
+    s.add(recv(1, 1), "..830102" "3600" "370100")
+
+    # a full grant with places free
+    s.add(udp(10), "..38028200" "350103" "3902000A")
+    s.add(arr(2, data(103, 11)), "R6", "the grant and one")
+    s.add(arr(2, data(103, 10)), "=D60E190109820282813802820037010A", "the grant")
+    s.add(arr(2, H("77")), "R6")
+    s.add(arr(2), "--", "none, with a full grant")
+    s.add(recv(2, 3), "..830100" "3603" + hx(data(103, 3)) + "370107")
+    s.add(arr(2, H("77787980")), "R6", "four into room for three")
+    s.add(arr(2, H("777879")), "=D60E190109820282813802820037010A", "what was read in part and these fill it")
+    s.add(recv(2, 10), "..830102" "3607" + hx(data(103, 10)[3:]) + "370103")
+    s.add(recv(2, 10), "..830102" "3603" "777879" "370100")
+
+    # the one that was read in part is one of the 16
+    s.add(arr(1, H("616263")), told % 3)
+    for i in range(15):
+        s.add(arr(1, bytes([0x50 + i])), told % (i + 4))
+    s.add(recv(1, 1), "..830100" "3601" "61" "370111", "one of its three bytes")
+    s.add(arr(1, H("77")), "R11", "it is still one of the 16")
+    s.add(arr(1), "--")
+    s.add(recv(1, 0), "..830100" "3600" "370111")
+    s.add(arr(1, H("77")), "R11", "a request of 0 frees no place")
+    s.add(recv(1, 1), "..830100" "3601" "62" "370110", "two of its three")
+    s.add(arr(1, H("77")), "R11")
+    s.add(recv(1, 1), "..830100" "3601" "63" "37010F", "its end")
+    s.add(arr(1, H("78")), told % 16, "the sixteenth again")
+    s.add(arr(1, H("79")), "R11")
+
+    # the link before all of it
+    s.add(events("0A"), "00")
+    s.add(drop(1), "=D60B19010A8202828138020105")
+    s.add(arr(1, H("77")), "R5", "R5 before R11")
+    s.add(arr(1, data(101, 100)), "R5", "R5 before R6")
+    s.add(arr(1), "R5")
+    s.add(recv(1, 9), "..830102" "3601" "50" "37010F")
+    s.add(arr(2, H("41")), "--", "09 is not listed: stored all the same")
+    s.add(arr(2, H("4243")), "--")
+    s.add(events("09"), "00")
+    s.add(arr(2, H("44")), "=D60E1901098202828138028200370104", "at each arrival, all bytes held")
+    s.add(recv(2, 9), "..830102" "3601" "41" "370103")
+    s.add(arr(2, H("45")), "=D60E1901098202828138028200370104")
+
+    # the count of the event is capped
+    s.add(udp(600), "..38028300" "350103" "39020258")
+    s.add(arr(3, data(104, 254)), "=D60E19010982028281380283003701FE")
+    s.add(arr(3, H("61")), "=D60E19010982028281380283003701FF", "255")
+    s.add(arr(3, H("62")), "=D60E19010982028281380283003701FF", "256")
+    s.add(arr(3, data(105, 344)), "=D60E19010982028281380283003701FF", "600: the grant is full")
+    s.add(arr(3, H("63")), "R6")
+    s.add(arr(3), "--")
+
+
+def make_datagrams_received():
+    s = Script("datagrams_received")
+    unk, unk_flagged = obj(0x5E, "AA"), obj(0xDE, "AA")
+    s.add(udp(1500), "..38028100" "350103" "390205DC")
+    s.add(recv(1, 0), "=810301420082028281830100" "3600" "370100", "none held, request 0")
+    s.add(recv(1, 1), "=810301420082028281830102" "3600" "370100", "none held, request 1")
+    many(s, [(arr(1, H("414243")), "--"), (arr(1, H("51")), "--"), (arr(1, H("6162")), "--")])
+    s.add(recv(1, 0), "=810301420082028281830100" "3600" "370106", "request 0 removes nothing")
+    s.add(recv(1, 0, unk), "=810301420082028281830101" "3600" "370106", "an object ignored: 01")
+    s.add(recv(1, 2), "=810301420082028281830100" "3602" "4142" "370104", "2 of 3: within, 00")
+    s.add(recv(1, 0), "=810301420082028281830100" "3600" "370104", "request 0 in the midst of one")
+    s.add(recv(1, 2), "=810301420082028281830102" "3601" "43" "370103", "2 of the 1 left: short, 02")
+    s.add(recv(1, 1), "=810301420082028281830100" "3601" "51" "370102", "exactly one: 00")
+    s.add(recv(1, 9), "=810301420082028281830102" "3602" "6162" "370100", "9 of 2")
+    s.add(recv(1, 9), "=810301420082028281830102" "3600" "370100")
+    many(s, [(arr(1, H("414243")), "--"), (arr(1, H("5152")), "--"), (arr(1, H("61")), "--")])
+    s.add(recv(1, 9), "=810301420082028281830102" "3603" "414243" "370103", "9 of 3 though 6 are held: 02")
+    s.add(recv(1, 1, unk), "=810301420082028281830101" "3601" "51" "370102", "within, an object ignored: 01")
+    s.add(recv(1, 1, unk_flagged), "32", "nothing handed out")
+    s.add(recv(1, 2, unk), "=810301420082028281830102" "3601" "52" "370101", "02 hides 01")
+    s.add(recv(1, 1, unk), "=810301420082028281830101" "3601" "61" "370100", "to the end, an object ignored: 01")
+
+    # about 237
+    a, b, c = data(111, 237), data(112, 238), data(113, 500)
+    s.add(arr(1, a), "--")
+    s.add(arr(1, b), "--")
+    s.add(arr(1, c), "--")
+    s.add(recv(1, 237), "=8103014200820282818301003681ED" + hx(a) + "3701FF", "237 of 237: 00")
+    s.add(recv(1, 238), "=8103014200820282818301023681ED" + hx(b[:237]) + "3701FF", "238 of 238: 237 and 02")
+    s.add(recv(1, 238), "=8103014200820282818301023601" + hx(b[237:]) + "3701FF", "the last byte of it, and no more")
+    s.add(recv(1, 255), "=8103014200820282818301023681ED" + hx(c[:237]) + "3701FF", "255 of 500: 237, 263 left")
+    s.add(recv(1, 7), "=8103014200820282818301003607" + hx(c[237:244]) + "3701FF", "256 left")
+    s.add(recv(1, 1), "=8103014200820282818301003601" + hx(c[244:245]) + "3701FF", "255 left")
+    s.add(recv(1, 1), "=8103014200820282818301003601" + hx(c[245:246]) + "3701FE", "254 left")
+    s.add(recv(1, 255), "=8103014200820282818301023681ED" + hx(c[246:483]) + "370111", "17 left")
+    s.add(recv(1, 237), "=8103014200820282818301023611" + hx(c[483:]) + "370100")
+    many(s, [(arr(1, a), "--"), (arr(1, H("41")), "--"), (arr(1, b[:127]), "--"), (arr(1, c[:128]), "--")])
+    s.add(recv(1, 255), "=8103014200820282818301023681ED" + hx(a) + "3701FF", "255 of 237: 02")
+    s.add(recv(1, 255), "=8103014200820282818301023601" "41" "3701FF", "1 of 256 held: 255 left")
+    s.add(recv(1, 128), "=810301420082028281830102" "367F" + hx(b[:127]) + "370180", "data of 127")
+    s.add(recv(1, 128), "=810301420082028281830100" "368180" + hx(c[:128]) + "370100", "data of 128")
+
+    # the count is of all bytes held, over datagrams
+    for i in range(16):
+        s.add(arr(1, bytes([0x40 + i]) * 17), "--")
+    s.add(recv(1, 15), "..830100" "360F" + "40" * 15 + "3701FF", "257 left")
+    s.add(recv(1, 1), "..830100" "3601" "40" "3701FF", "256 left")
+    s.add(recv(1, 1), "..830100" "3601" "40" "3701FF", "255 left")
+    s.add(recv(1, 1), "..830100" "3601" "41" "3701FE", "254 left")
+    s.add(recv(1, 17), "..830102" "3610" + "41" * 16 + "3701EE", "17 of the 16 left")
+    for i in range(2, 15):
+        s.add(recv(1, 255), "..830102" "3611" + "%02X" % (0x40 + i) * 17 + "3701%02X" % (17 * (15 - i)))
+    s.add(drop(1), "--")
+    s.add(recv(1, 16), "..830100" "3610" + "4F" * 16 + "370101", "after a drop")
+    s.add(recv(1, 2), "..830102" "3601" "4F" "370100")
+    s.add(recv(1, 1), "..830102" "3600" "370100")
+    s.add(recv(2, 0), "3A03")
+
+    # one byte after the other, over many
+    s.add(udp(32), "..38028200" "350103" "39020020")
+    for i in range(8):
+        s.add(arr(2, bytes([0x80 + i, 0x90 + i])), "--")
+        s.add(recv(2, 1), "..830100" "3601%02X" "370101" % (0x80 + i))
+        s.add(arr(2, bytes([0xA0 + i] * 3)), "--")
+        s.add(recv(2, 2), "..830102" "3601%02X" "370103" % (0x90 + i))
+        s.add(recv(2, 3), "..830100" "3603" + "%02X" % (0xA0 + i) * 3 + "370100")
+
+
+def make_datagrams_sent():
+    s = Script("datagrams_sent")
+    unk, unk_flagged = obj(0x5E, "AA"), obj(0xDE, "AA")
+    s.add(udp(40), "..38028100" "350103" "39020028")
+    s.add(send(1, b"", q=0), "=810301430082028281830100" "370128", "no bytes: begins none")
+    s.add(send(1, b"", q=1), "=810301430182028281830100" "370128", "an end, with nothing built: makes none")
+    s.add(take(1, 0), "--", "none is finished, of no bytes neither")
+    s.add(take(1, 40), "--")
+    # over several pieces
+    s.add(send(1, H("41"), q=0), "=810301430082028281830100" "370127", "begins one")
+    s.add(send(1, H("4243"), q=0), "=810301430082028281830100" "370125", "joins it")
+    s.add(send(1, b"", q=0), "=810301430082028281830100" "370125", "a piece without bytes does not end it")
+    s.add(take(1, 40), "--", "it is not finished")
+    s.add(send(1, H("4445"), q=1), "=810301430182028281830100" "370123", "joins and ends it")
+    s.add(send(1, H("51"), q=0), "=810301430082028281830100" "370122", "begins the next")
+    s.add(take(1, 40), "=4142434445", "all pieces, and no byte of the next")
+    s.add(take(1, 40), "--")
+    s.add(send(1, b"", q=1), "=810301430182028281830100" "370127", "an end without bytes")
+    s.add(send(1, b"", q=1), "=810301430182028281830100" "370127", "a second end makes none")
+    s.add(take(1, 40), "=51")
+    s.add(take(1, 0), "--", "there was one only")
+    s.add(send(1, H("61"), q=0xFE), "=81030143FE82028281830100" "370127", "qualifier FE: bit 1 is clear")
+    s.add(take(1, 40), "--")
+    s.add(send(1, H("62"), q=0xFF), "=81030143FF82028281830100" "370126", "qualifier FF: bit 1 is set")
+    s.add(take(1, 40), "=6162")
+    s.add(send(1, H("63"), unk, q=0), "=810301430082028281830101" "370127", "an object ignored")
+    s.add(send(1, H("64"), unk_flagged, q=1), "32", "nothing stored, nothing ended")
+    s.add(take(1, 40), "--")
+    s.add(send(1, b"", unk, q=1), "=810301430182028281830101" "370127")
+    s.add(take(1, 40), "=63")
+
+    # room is bytes alone
+    s.add(send(1, data(121, 39), q=0), "..370101")
+    s.add(send(1, H("7172"), q=0), "3A04", "two bytes into room for one")
+    s.add(send(1, H("7172"), q=1), "3A04", "nothing ended")
+    s.add(take(1, 40), "--")
+    s.add(send(1, H("73"), q=0), "..370100", "fills the grant")
+    s.add(send(1, H("74"), q=0), "3A04")
+    s.add(send(1, H("74"), q=1), "3A04")
+    s.add(send(1, b"", q=0), "..370100", "no bytes need no room")
+    s.add(take(1, 40), "--")
+    s.add(send(1, b"", q=1), "..370100", "nor does an end")
+    s.add(take(1, 40), "=" + hx(data(121, 39)) + "73", "of the whole grant")
+    s.add(send(1, data(122, 41), q=1), "3A04", "the grant and one")
+    s.add(send(1, data(122, 40), q=1), "..370100", "the grant at once")
+    s.add(send(1, H("75"), q=0), "3A04", "a place, but no room")
+    s.add(take(1, 40), "=" + hx(data(122, 40)))
+
+    # sixteen, the unfinished one included
+    for i in range(15):
+        s.add(send(1, bytes([0x40 + i]), q=1), "..3701%02X" % (39 - i), "datagram %d" % (i + 1))
+    s.add(send(1, H("81"), q=0), "..370118", "the sixteenth, not finished")
+    s.add(send(1, H("82"), q=0), "..370117", "joining needs no place")
+    s.add(send(1, b"", q=0), "..370117", "nor does a piece without bytes")
+    s.add(send(1, H("83"), q=1), "..370116", "joined and ended: 16 finished")
+    s.add(send(1, H("91"), q=0), "=81030143008202828183023A04", "would begin a seventeenth")
+    s.add(send(1, H("91"), q=1), "=81030143018202828183023A04", "the same at once")
+    s.add(send(1, H("91"), unk, q=1), "=81030143018202828183023A04")
+    s.add(send(1, data(123, 22), q=0), "3A04", "all the room, no place")
+    s.add(send(1, data(123, 23), q=0), "3A04", "neither room nor place")
+    s.add(send(1, b"", q=0), "..370116", "without bytes, with 16 held")
+    s.add(send(1, b"", q=1), "..370116", "an end, with 16 held")
+    s.add(take(1, 1), "=40", "a place is free")
+    s.add(send(1, H("92"), q=0), "..370116", "begins the sixteenth")
+    s.add(take(1, 1), "=41")
+    s.add(send(1, H("93"), q=0), "..370116", "joins it")
+    s.add(send(1, b"", q=1), "..370116", "ends it: 15 finished")
+    s.add(send(1, H("94"), q=1), "..370115", "16 finished")
+    s.add(send(1, H("95"), q=0), "3A04")
+    for i in range(2, 15):
+        s.add(take(1, 40), "=%02X" % (0x40 + i))
+    s.add(take(1, 40), "=818283", "in order")
+    s.add(take(1, 40), "=9293")
+    s.add(take(1, 40), "=94")
+    s.add(take(1, 40), "--")
+    s.add(send(1, b"", q=0), "..370128", "all room again")
+
+    # sixteen by ends without bytes, the grant full as well
+    s.add(udp(16), "..38028200" "350103" "39020010")
+    for i in range(16):
+        s.add(send(2, bytes([0xA0 + i]), q=0), "..3701%02X" % (15 - i))
+        s.add(send(2, b"", q=1), "..3701%02X" % (15 - i))
+    s.add(send(2, H("B0"), q=0), "3A04", "neither room nor place")
+    s.add(send(2, b"", q=1), "..370100")
+    for i in range(16):
+        s.add(take(2, 1), "=%02X" % (0xA0 + i))
+    s.add(take(2, 0), "--")
+
+    # a link not yet established
+    s.add(udp(32, q=0), "..38020300" "350103" "39020020")
+    s.add(send(3, H("C1"), q=0), "..37011F", "builds on it")
+    s.add(take(3, 32), "R5")
+    s.add(status(), "..38028100" "38028200" "38020300")
+    s.add(send(3, H("C2"), q=1), "..37011E", "ends and establishes")
+    s.add(status(), "..38028100" "38028200" "38028300")
+    s.add(take(3, 32), "=C1C2")
+    s.add(udp(32, q=0), "..38020400" "350103" "39020020")
+    s.add(send(4, b"", q=0), "..370120")
+    s.add(take(4, 0), "R5")
+    s.add(send(4, data(124, 33), q=1), "3A04", "no room: nothing is established")
+    s.add(take(4, 0), "R5")
+    s.add(send(4, b"", q=1), "..370120", "an end with nothing built establishes all the same")
+    s.add(status(), "..38028100" "38028200" "38028300" "38028400")
+    s.add(take(4, 0), "--", "and makes none")
+    s.add(arr(4, H("D1")), "--")
+    s.add(close(4), "00")
+    s.add(open_(32, q=0), "..38020400" "350103" "39020020", "a stream")
+    s.add(send(4, data(124, 33), q=1), "3A04", "no room: nothing is established there either")
+    s.add(take(4, 0), "R5")
+
+    # a datagram longer than one command can bring, and the cap of the room
+    s.add(close(1), "00")
+    s.add(udp(1500), "..38028100" "350103" "390205DC")
+    for i in range(6):
+        s.add(send(1, data(130 + i, 200), q=0), "..3701FF")
+    s.add(send(1, data(136, 44), q=0), "..3701FF", "256 left")
+    s.add(send(1, H("E1"), q=0), "..3701FF", "255 left")
+    s.add(send(1, H("E2"), q=0), "..3701FE", "254 left")
+    s.add(send(1, data(137, 241), q=0), "..37010D")
+    s.add(send(1, data(138, 13), q=1), "..370100", "1500 in all")
+    s.add(take(1, 1499), "R12")
+    s.add(take(1, 1500), "=" + "".join(hx(data(130 + i, 200)) for i in range(6)) + hx(data(136, 44)) + "E1E2"
+          + hx(data(137, 241)) + hx(data(138, 13)), "as one")
+
+
+def make_datagrams_taken():
+    s = Script("datagrams_taken")
+    s.add(udp(100), "..38028100" "350103" "39020064")
+    s.add(take(1, 0), "--", "none is finished")
+    s.add(take(1, 1), "--")
+    s.add(take(1, 1500), "--")
+    s.add(send(1, H("41424344"), q=0), "..370160")
+    s.add(take(1, 0), "--", "one is built, none is finished")
+    s.add(take(1, 3), "--", "and it does not fit: no refusal")
+    s.add(take(1, 1500), "--")
+    s.add(send(1, H("45"), q=1), "..37015F")
+    s.add(take(1, 4), "R12", "a byte short")
+    s.add(take(1, 4), "R12", "and again: nothing was removed")
+    s.add(take(1, 0), "R12", "no buffer at all")
+    s.add(send(1, b"", q=0), "..37015F", "the room as it was")
+    s.add(take(1, 5), "=4142434445", "exactly")
+    s.add(send(1, b"", q=0), "..370164")
+    s.add(take(1, 5), "--", "it was handed over once")
+    s.add(take(1, 0), "--")
+    # several: one a take, in order, however large the buffer
+    for value in ("51", "525354", "5556", "57"):
+        s.add(send(1, H(value), q=1), "00")
+    s.add(send(1, H("58"), q=0), "..37015C")
+    s.add(take(1, 1500), "=51", "one, though all would fit")
+    s.add(take(1, 2), "R12", "the next has three")
+    s.add(take(1, 1500), "=525354")
+    s.add(take(1, 2), "=5556")
+    s.add(take(1, 2), "=57", "one byte larger")
+    s.add(take(1, 1500), "--", "the last is not finished")
+    s.add(send(1, H("59"), q=0), "..370162")
+    s.add(take(1, 0), "--")
+    s.add(send(1, b"", q=1), "..370162")
+    s.add(take(1, 1), "R12")
+    s.add(take(1, 1500), "=5859")
+    # a short one behind a long one waits for it
+    s.add(send(1, data(141, 90), q=1), "..37010A")
+    s.add(send(1, H("61"), q=1), "..370109")
+    s.add(take(1, 1), "R12", "the first does not fit; the second is not handed over instead")
+    s.add(take(1, 89), "R12")
+    s.add(take(1, 90), "=" + hx(data(141, 90)))
+    s.add(take(1, 1), "=61")
+    # R3, R4 and R5 before R12
+    s.add(send(1, H("7172"), q=1), "..370162")
+    s.add(take(1, 1), "R12")
+    s.add(take(8, 1), "R3")
+    s.add(take(0, 1), "R3")
+    s.add(take(2, 1), "R4")
+    s.add("A10105DD", "R9", "a count over 1500 is unreadable")
+    s.add(udp(100, q=0), "..38020200" "350103" "39020064")
+    s.add(send(2, H("81"), q=0), "..370163")
+    s.add(take(2, 0), "R5", "not yet established")
+    s.add(drop(1), "--")
+    s.add(take(1, 1), "R5", "dropped: R5 before R12")
+    s.add(take(1, 2), "R5")
+    # a stream beside it still gives what fits
+    s.add(open_(100), "..38028300" "350103" "39020064")
+    s.add(send(3, H("919293"), q=1), "..370161")
+    s.add(take(3, 2), "=9192")
+    s.add(take(3, 0), "--")
+    s.add(take(3, 2), "=93")
+
+
+def make_datagrams_kept():
+    s = Script("datagrams_kept")
+    s.add(events("090A"), "00")
+    s.add(udp(64), "..38028100" "350103" "39020040")
+    s.add(arr(1, H("414243")), "..370103")
+    s.add(arr(1, H("51")), "..370104")
+    s.add(send(1, H("61"), q=1), "..37013F")
+    s.add(send(1, H("62"), q=0), "..37013E")
+    s.add(recv(1, 1), "..830100" "3601" "41" "370103")
+    s.add(drop(1), "=D60B19010A8202828138020105")
+    s.add(send(1, H("63"), q=0), "3A02", "dropped: nothing joins")
+    s.add(send(1, b"", q=1), "3A02", "nothing ends")
+    s.add(send(1, data(151, 100), q=1), "3A02", "before the want of room")
+    s.add(recv(1, 9), "..830102" "3602" "4243" "370101", "the drop kept all, and its ends")
+    s.add(recv(1, 9), "..830102" "3601" "51" "370100")
+    s.add(recv(1, 0), "..830100" "3600" "370100")
+    s.add(status(), "..38020105")
+    s.add(close(1), "00", "CLOSE after a drop")
+    s.add(arr(1), "R4")
+    s.add(take(1, 0), "R4")
+    s.add(recv(1, 0), "3A03")
+    # opened anew as a stream: nothing of it is there
+    s.add(open_(64), "..38028100" "350103" "39020040", "the same number, a stream")
+    s.add(recv(1, 9), "..830102" "3600" "370100")
+    s.add(take(1, 9), "--")
+    s.add(send(1, b"", q=1), "..370140", "all room, and no unfinished datagram to end")
+    s.add(take(1, 9), "--")
+    for i in range(20):
+        s.add(arr(1, bytes([0x40 + i])), "..3701%02X" % (i + 1))
+    s.add(recv(1, 20), "..830100" "3614" + hx(bytes(range(0x40, 0x54))) + "370100", "20 arrivals, run together")
+    for i in range(20):
+        s.add(send(1, bytes([0x60 + i]), q=i % 2), "..3701%02X" % (63 - i))
+    s.add(take(1, 64), "=" + hx(bytes(range(0x60, 0x74))), "20 pieces, run together")
+    s.add(arr(1, H("7172")), "..370102")
+    s.add(arr(1, H("73")), "..370103")
+    s.add(send(1, H("7475"), q=1), "..37013E")
+    s.add(send(1, H("76"), q=0), "..37013D")
+    s.add(close(1), "00")
+    # and as datagrams again
+    s.add(udp(64), "..38028100" "350103" "39020040", "datagrams again")
+    s.add(take(1, 0), "--", "nothing of the stream is ready")
+    s.add(recv(1, 9), "..830102" "3600" "370100")
+    s.add(send(1, H("81"), q=1), "..37013F", "begins a new one")
+    s.add(take(1, 1), "=81")
+    # 16 each way, closed and opened: all places are free
+    for i in range(16):
+        s.add(arr(1, H("91")), "..3701%02X" % (i + 1))
+        s.add(send(1, H("92"), q=1 if i < 15 else 0), "..3701%02X" % (63 - i))
+    s.add(arr(1, H("93")), "R11")
+    s.add(close(1), "00")
+    s.add(udp(64), "..38028100" "350103" "39020040")
+    for i in range(16):
+        s.add(arr(1, bytes([0xA0 + i])), "..3701%02X" % (i + 1))
+        s.add(send(1, bytes([0xB0 + i]), q=1), "..3701%02X" % (63 - i))
+    s.add(arr(1, H("93")), "R11")
+    s.add(send(1, H("93"), q=0), "3A04")
+    # the places of a channel are its own
+    s.add(udp(64), "..38028200" "350103" "39020040", "another datagram channel")
+    s.add(open_(64), "..38028300" "350103" "39020040", "a stream")
+    for i in range(16):
+        s.add(arr(2, bytes([0xC0 + i])), "=D60E19010982028281380282003701%02X" % (i + 1))
+        s.add(arr(3, bytes([0xD0 + i])), "=D60E19010982028281380283003701%02X" % (i + 1))
+    s.add(arr(2, H("94")), "R11")
+    s.add(arr(3, H("95")), "=D60E1901098202828138028300370111", "a stream has no places")
+    s.add(send(2, H("96"), q=1), "..37013F", "each way has its own")
+    s.add(close(2), "00")
+    s.add(arr(1, H("93")), "R11", "those of channel 1 are still taken")
+    s.add(udp(1500), "..38028200" "350103" "390205DC", "channel 2 larger, over the cells of the old one")
+    s.add(take(2, 0), "--")
+    s.add(arr(2, data(152, 1500)), "..3701FF")
+    sends(s, 2, data(153, 1500), 1500)
+    for i in range(16):
+        s.add(recv(1, 2), "..830102" "3601%02X" "3701%02X" % (0xA0 + i, 15 - i))
+        s.add(take(1, 64), "=%02X" % (0xB0 + i))
+    s.add(recv(3, 17), "..830100" "3611" + hx(bytes(range(0xD0, 0xE0))) + "95" "370100")
+    receives(s, 2, data(152, 1500))
+    for at in range(0, 1500, 200):
+        s.add(take(2, 1500), "=" + hx(data(153, 1500)[at:at + 200]))
+    s.add(take(2, 1500), "--")
+    # what stands at the end, for the new start behind it
+    for i in range(16):
+        s.add(arr(1, H("F1F2")), "..3701%02X" % (2 * i + 2))
+        s.add(send(1, H("F3"), q=1 if i < 15 else 0), "..3701%02X" % (63 - i))
+    s.add(recv(1, 1), "..830100" "3601" "F1" "37011F", "16 held each way, one of them in part")
+
+    s = Script("datagrams_new_start")
+    s.add(arr(1, H("41")), "R4", "a new start: no channel is open")
+    s.add(take(1, 0), "R4")
+    s.add(udp(64), "..38028100" "350103" "39020040")
+    s.add(recv(1, 9), "..830102" "3600" "370100", "nothing is held")
+    s.add(take(1, 0), "--", "nothing is finished")
+    s.add(send(1, b"", q=1), "..370140", "nothing is built")
+    s.add(take(1, 0), "--")
+    for i in range(16):
+        s.add(arr(1, bytes([0x40 + i])), "--")
+        s.add(send(1, bytes([0x60 + i]), q=1), "..3701%02X" % (63 - i))
+    s.add(arr(1, H("77")), "R11", "16 places each way")
+    s.add(send(1, H("77"), q=1), "3A04")
+    s.add(take(1, 64), "=60")
+    s.add(recv(1, 64), "..830102" "3601" "40" "37010F")
+
+
+def about(rng, middle):
+    """One under, the middle itself, or one over."""
+    return max(0, middle + rng.between(-1, 1))
+
+
+# How often each call comes, where a channel is filled and where it is emptied.
+FILLING = ["arrive"] * 20 + ["send"] * 20 + ["receive"] * 2 + ["take"] * 2 + ["drop", "close", "open", "other"]
+EMPTYING = ["arrive"] * 6 + ["send"] * 6 + ["receive"] * 15 + ["take"] * 15 + ["drop", "close", "open", "other"]
+
+
+def both_kinds(name, profile, seed, count):
+    """A history over streams and datagram channels, steered to the ends and places of datagrams."""
+    s = Script(name, profile)
+    rng = Rng(seed)
+    s.add(events("090A"), "00")
+    while len(s.lines) < count:
+        chans = s.session.channels
+        some = sorted(chans)
+        phase = len(s.lines) // 80
+        what = rng.pick(EMPTYING if phase % 2 else FILLING) if some else "open"
+        named = some or [1]
+        ch = rng.pick(named) if rng.below(4) == 0 else named[phase // 2 % len(named)]
+        c = chans.get(ch)
+        datagrams = isinstance(c, oracle.Datagrams)
+        few = rng.pick([1, 1, 2, rng.between(0, 6)])
+        if what == "open":
+            size = rng.pick([rng.between(1, 40), rng.between(30, 120), rng.between(100, 1500)])
+            s.add(open_(size, *rng.pick([[UDP], [UDP], [TCP], [], [UDP, TCP], [OTHER]]), q=rng.pick([1, 1, 1, 0])))
+        elif what == "arrive":
+            room = c.grant - c.held()
+            s.add(arr(ch, rng.bytes(few if rng.below(8) else min(about(rng, room), 300))))
+        elif what == "send":
+            s.add(send(ch, rng.bytes(few if rng.below(8) else min(about(rng, c.room()), 200)), q=rng.pick([0, 1, 1])))
+        elif what == "receive":
+            first = len(c.received[0]) if datagrams and c.received else c.held()
+            extra = [obj(0x5E, "AA")] if rng.below(10) == 0 else []
+            s.add(recv(ch, min(rng.pick([about(rng, first), about(rng, first), 1, 255, rng.below(256)]), 255), *extra))
+        elif what == "take":
+            first = sum(map(len, c.finished[:1])) if datagrams else c.ready
+            s.add(take(ch, rng.pick([about(rng, first), about(rng, first), 0, 1500, rng.below(100)])))
+        elif what == "drop":
+            s.add(drop(ch))
+        elif what == "close":
+            s.add(close(rng.pick([n for n in some if chans[n].dropped] or [ch])))
+        else:
+            s.add(rng.pick([status(), events("09"), events("090A"), arr(rng.below(9), b"\x01"), send(ch, b"", q=1)]))
+    s.add(status())
+    return s
+
+
+def make_datagrams_mixed():
+    both_kinds("datagrams_mixed", PROFILE_7, 83, 480)
+
+
 # ---------------------------------------------------------------- lessons
 
 def ramp(high, n):
@@ -1691,6 +2271,35 @@ def make_lessons():
     s.add(take(1, 100), "=" + hx((a + b)[40:]))
     s.add(send(1, b"", q=0), "..37013C")
 
+    s = Script("datagrams_whole", lesson=True)
+    s.add(udp(40), "=810301400182028281830100" "38028100" "350103" "39020028")
+    s.add(events("09"), "00")
+    s.add(arr(1, H("A1A2A3")), "=D60E1901098202828138028100370103")
+    s.add(arr(1, H("B1B2")), "=D60E1901098202828138028100370105")
+    s.add(recv(1, 9), "..830102" "3603" "A1A2A3" "370102")
+    s.add(recv(1, 1), "..830100" "3601" "B1" "370101")
+    s.add(recv(1, 9), "..830102" "3601" "B2" "370100")
+    s.add(send(1, H("C1"), q=0), "..370127")
+    s.add(send(1, H("C2C3"), q=1), "..370125")
+    s.add(send(1, H("D1"), q=1), "..370124")
+    s.add(take(1, 2), "R12")
+    s.add(take(1, 40), "=C1C2C3")
+    s.add(take(1, 40), "=D1")
+    s.add(take(1, 40), "--")
+    for i in range(16):
+        s.add(arr(1, bytes([0xE0 + i])), "=D60E19010982028281380281003701%02X" % (i + 1))
+    s.add(arr(1, H("F1")), "R11")
+    s.add(arr(1), "--")
+    s.add(recv(1, 1), "..830100" "3601" "E0" "37010F")
+    s.add(arr(1, H("F2")), "=D60E1901098202828138028100370110")
+    for i in range(15):
+        s.add(send(1, bytes([0x30 + i]), q=1), "..3701%02X" % (39 - i))
+    s.add(send(1, H("51"), q=0), "..370118")
+    s.add(send(1, H("52"), q=1), "..370117")
+    s.add(send(1, H("61"), q=0), "3A04")
+    s.add(take(1, 40), "=30")
+    s.add(send(1, H("61"), q=0), "..370117")
+
 
 # ---------------------------------------------------------------- all of it
 
@@ -1730,6 +2339,13 @@ def main(root):
     make_bare()
     make_mixed()
     make_churn()
+    make_datagrams_kinds()
+    make_datagrams_arrivals()
+    make_datagrams_received()
+    make_datagrams_sent()
+    make_datagrams_taken()
+    make_datagrams_kept()
+    make_datagrams_mixed()
     make_lessons()
     names = [s.name for s in ALL]
     assert len(names) == len(set(names)), "a name twice"

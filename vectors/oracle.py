@@ -1,8 +1,9 @@
 #!/usr/bin/env python3
 """An independent oracle for the line program of document 01 ("Data channels: the rules").
 
-Written from the paper and from the settled readings alone. It keeps plain Python
-bytes for each channel and way; of the pool it keeps only the counts of cells.
+Written from the paper, from request M-104 ("Datagram channels") and from the settled
+readings alone. It keeps plain Python bytes for each stream and way, and lists of them for
+datagrams; of the pool it keeps only the counts of cells.
 
     python3 oracle.py < script.in > script.out
 """
@@ -15,6 +16,7 @@ CELLS = 256            # "256 cells of 32 bytes"
 CELL_SIZE = 32
 GRANT_CAP = 1500       # "the lesser of s and 1500"
 DATA_CAP = 237         # RECEIVE DATA hands out at most this many
+PLACES = 16            # datagrams held each way at most
 COMMAND_MAX = 256      # R2 above
 LINE_MAX = 1600        # bytes of a line, R9 above
 TAKE_MAX = 1500        # R9 above
@@ -122,14 +124,12 @@ def cells_of(size):
 
 
 class Channel:
+    """What a stream and a datagram channel have in common."""
     def __init__(self, number, grant, established):
         self.number = number
         self.grant = grant
         self.established = established
         self.dropped = False
-        self.received = b""     # bytes held for RECEIVE DATA
-        self.sent = b""         # bytes held for the radio's takes
-        self.ready = 0          # how many of self.sent, from the front, are ready
 
     def status(self):
         first = self.number + (0x80 if self.established and not self.dropped else 0)
@@ -137,6 +137,89 @@ class Channel:
 
     def link_is_up(self):
         return self.established and not self.dropped
+
+
+class Stream(Channel):
+    def __init__(self, *opened):
+        super().__init__(*opened)
+        self.received = b""     # bytes held for RECEIVE DATA
+        self.sent = b""         # bytes held for the radio's takes
+        self.ready = 0          # how many of self.sent, from the front, are ready
+
+    def held(self):
+        return len(self.received)
+
+    def room(self):
+        return self.grant - len(self.sent)
+
+    def arrive(self, data):
+        self.received += data
+
+    def hand_out(self, request):
+        n = min(request, len(self.received), DATA_CAP)
+        data, self.received = self.received[:n], self.received[n:]
+        return data
+
+    def store(self, data, immediate):
+        self.sent += data
+        if immediate:
+            self.ready = len(self.sent)
+
+    def take(self, size):
+        n = min(self.ready, size)
+        data, self.sent = self.sent[:n], self.sent[n:]
+        self.ready -= n
+        return data
+
+
+class Datagrams(Channel):
+    def __init__(self, *opened):
+        super().__init__(*opened)
+        self.received = []      # datagrams held for RECEIVE DATA, of the first one what is left
+        self.finished = []      # datagrams held for the radio's takes
+        self.unfinished = b""   # the one that SEND DATA builds; no bytes where none is begun
+
+    def held(self):
+        return sum(map(len, self.received))
+
+    def room(self):
+        return self.grant - sum(map(len, self.finished)) - len(self.unfinished)
+
+    def arrive(self, data):
+        if data == b"":
+            return
+        if len(self.received) == PLACES:
+            raise Refusal(11)
+        self.received.append(data)
+
+    def hand_out(self, request):
+        if not self.received:
+            return b""
+        n = min(request, len(self.received[0]), DATA_CAP)
+        data, self.received[0] = self.received[0][:n], self.received[0][n:]
+        if self.received[0] == b"":
+            del self.received[0]
+        return data
+
+    def store(self, data, immediate):
+        begins = data != b"" and self.unfinished == b""
+        if begins and len(self.finished) == PLACES:
+            raise Answer(0x3A, 0x04)
+        self.unfinished += data
+        if immediate and self.unfinished != b"":
+            self.finished.append(self.unfinished)
+            self.unfinished = b""
+
+    def take(self, size):
+        if not self.finished:
+            return b""
+        if size < len(self.finished[0]):
+            raise Refusal(12)
+        return self.finished.pop(0)
+
+
+# The first byte of 3C -> the kind of channel that it opens.
+KINDS = {0x01: Datagrams, 0x02: Stream}
 
 
 class Session:
@@ -272,10 +355,10 @@ class Session:
     def open(self, details, plain, qualifier, counting):
         bearer = counting[0x35][0]
         size = counting[0x39][0][0] * 256 + counting[0x39][0][1]
-        transport = counting.get(0x3C)
+        transport = counting[0x3C][0][0] if counting.get(0x3C) else 0x02
         if bearer[0] != 0x03 and not (bearer[0] == 0x02 and self.allows(BEARER_02_PLACE)):
             raise Answer(0x30)
-        if transport and transport[0][0] != 0x02:
+        if transport not in KINDS:
             raise Answer(0x3A, 0x06)
         if size == 0:
             raise Answer(0x3A, 0x04)
@@ -285,7 +368,7 @@ class Session:
         if self.unpromised() < 2:
             raise Answer(0x3A, 0x04)
         grant = self.grant_for(size)
-        channel = Channel(unused[0], grant, established=bool(qualifier & 1))
+        channel = KINDS[transport](unused[0], grant, bool(qualifier & 1))
         self.channels[channel.number] = channel
         result = 0x07 if grant < size else plain
         after = (write_object(0x38, channel.status())
@@ -294,23 +377,21 @@ class Session:
         return self.response(details, result, after=after)
 
     def receive(self, details, plain, channel, request):
-        n = min(request, len(channel.received), DATA_CAP)
-        data, channel.received = channel.received[:n], channel.received[n:]
-        left = min(len(channel.received), 0xFF)
-        result = 0x02 if n < request else plain
+        data = channel.hand_out(request)
+        left = min(channel.held(), 0xFF)
+        result = 0x02 if len(data) < request else plain
         after = write_object(0x36, data) + write_object(0x37, bytes([left]))
         return self.response(details, result, after=after)
 
     def send(self, details, plain, qualifier, channel, data):
         if channel.dropped:
             raise Answer(0x3A, 0x02)
-        if len(data) > channel.grant - len(channel.sent):
+        if len(data) > channel.room():
             raise Answer(0x3A, 0x04)
-        channel.sent += data
+        channel.store(data, bool(qualifier & 1))
         if qualifier & 1:
-            channel.ready = len(channel.sent)
             channel.established = True
-        room = min(channel.grant - len(channel.sent), 0xFF)
+        room = min(channel.room(), 0xFF)
         return self.response(details, plain, after=write_object(0x37, bytes([room])))
 
     def statuses(self):
@@ -340,21 +421,17 @@ class Session:
 
     def arrival(self, number, data):
         channel = self.radio_channel(number)
-        if len(data) > channel.grant - len(channel.received):
+        if len(data) > channel.grant - channel.held():
             raise Refusal(6)
-        channel.received += data
+        channel.arrive(data)
         if len(data) >= 1 and 0x09 in self.events:
-            held = min(len(channel.received), 0xFF)
+            held = min(channel.held(), 0xFF)
             return event(0x09, write_object(0x38, channel.status())
                          + write_object(0x37, bytes([held])))
         return b""
 
-    def take(self, number, room):
-        channel = self.radio_channel(number)
-        n = min(channel.ready, room)
-        data, channel.sent = channel.sent[:n], channel.sent[n:]
-        channel.ready -= n
-        return data
+    def take(self, number, size):
+        return self.radio_channel(number).take(size)
 
     def drop(self, number):
         channel = self.radio_channel(number)

@@ -1,6 +1,7 @@
 #!/usr/bin/env python3
-"""The listing, the twelve "Numbers to prove and to run" and "Run only" of document 01,
-with answers written down by hand from the paper (nothing here is taken from oracle.py)."""
+"""The listing, the twelve "Numbers to prove and to run" and "Run only" of document 01, and each
+sentence of request M-104 ("Datagram channels"), with answers written down by hand from the paper
+(nothing here is taken from oracle.py)."""
 
 import os
 import subprocess
@@ -93,6 +94,126 @@ check("profile, no line feed", program(PROFILE), "")
 check("bad profile", program("0"), "R9\n")
 check("blank later line", program(PROFILE + "\n\n"), "R9\n")
 check("blank profile", program("\n" + "D009810301020082028182"), "8103010200" "82028281" "830130\n")
+
+# ---------------------------------------------------------------- datagram channels
+
+def opening(transport, size, q="01"):
+    return "D015" "81030140" + q + "82028182" "350103" "3902%04X" "3C03" % size + transport
+
+
+def receive(n):
+    return "D00C" "8103014200" "82028121" "3701%02X" % n
+
+
+def piece(value, q="00"):
+    n = len(value) // 2
+    return "D0%02X" "81030143" % (11 + n) + q + "82028121" "36%02X" % n + value
+
+
+def received(result, value, left):
+    return "8103014200" "82028281" "8301" + result + "36%02X" % (len(value) // 2) + value + "3701" + left
+
+
+def sent(room, q="00"):
+    return "81030143" + q + "82028281" "830100" "3701" + room
+
+
+def unsent(cause, q="00"):
+    return "81030143" + q + "82028281" "83023A" + cause
+
+
+def take(size):
+    return "A101%04X" % size
+
+
+UDP_64 = (opening("011F90", 64), "8103014001" "82028281" "830100" "38028100" "350103" "39020040")
+UDP_1500 = (opening("011F90", 1500), ANSWERS[0])
+CLOSE_1 = ("D009" "8103014100" "82028121", "8103014100" "82028281" "830100")
+LIST_09 = (LISTING[1], ANSWERS[1])
+
+
+def script(name, *pairs):
+    """Lines behind the listing's profile, each with its answer."""
+    got = program("\n".join([PROFILE] + [line for line, _ in pairs]) + "\n").split("\n")
+    for number, (line, want) in enumerate(pairs):
+        check("%s, line %d: %s" % (name, number + 2, line[:60]), got[number], want)
+
+
+for first in ("00", "03", "04", "81", "82", "FF"):
+    check("3C with " + first, last(opening(first + "1F90", 64)), "8103014001" "82028281" "83023A06")
+check("3C with 01", last(opening("011F90", 64)), UDP_64[1])
+check("3C with 01, not yet established", last(opening("010000", 64, q="00")),
+      "8103014000" "82028281" "830100" "38020100" "350103" "39020040")
+check("3C with 01, size 0", last(opening("01FFFF", 0)), "8103014001" "82028281" "83023A04")
+check("3C with 01, grant cut", last(opening("011F90", 1501)),
+      "8103014001" "82028281" "830107" "38028100" "350103" "390205DC")
+
+script("a stream runs on", (opening("021F90", 64), UDP_64[1]),
+       ("A0014142", "--"), ("A00143", "--"), (receive(9), received("02", "414243", "00")),
+       (piece("51", "01"), sent("3F", "01")), (piece("52", "01"), sent("3E", "01")), (take(9), "5152"))
+script("one arrival, one datagram", UDP_64, LIST_09,
+       ("A001414243", "D60E1901098202828138028100370103"),
+       ("A0015152", "D60E1901098202828138028100370105"),
+       (receive(2), received("00", "4142", "03")),
+       (receive(9), received("02", "43", "02")),
+       (receive(2), received("00", "5152", "00")),
+       (receive(1), received("02", "", "00")),
+       (receive(0), received("00", "", "00")))
+script("request 0 removes nothing", UDP_64, ("A0014142", "--"), (receive(0), received("00", "", "02")),
+       (receive(2), received("00", "4142", "00")))
+script("237 at most, the rest is the first one", UDP_1500, ("A001" + data(300), "--"), ("A001AABB", "--"),
+       (receive(255), "8103014200" "82028281" "830102" "3681ED" + data(237) + "370141"),
+       (receive(255), received("02", data(300)[474:], "02")),
+       (receive(255), received("02", "AABB", "00")))
+script("the count told is all bytes held", UDP_1500, LIST_09,
+       ("A001" + data(255), "D60E19010982028281380281003701FF"),
+       ("A00177", "D60E19010982028281380281003701FF"),
+       (receive(1), received("00", "00", "FF")), (receive(1), received("00", "01", "FE")))
+script("the seventeenth, and none", UDP_64, LIST_09,
+       *[("A00141", "D60E19010982028281380281003701%02X" % (i + 1)) for i in range(15)],
+       ("A0015152", "D60E1901098202828138028100370111"),
+       ("A00142", "R11"), ("A001", "--"),
+       *[(receive(1), received("00", "41", "%02X" % (16 - i))) for i in range(15)],
+       (receive(1), received("00", "51", "01")),
+       *[("A00143", "D60E19010982028281380281003701%02X" % (i + 2)) for i in range(15)],
+       ("A00144", "R11"), (receive(9), received("02", "52", "0F")), ("A00144", "D60E1901098202828138028100370110"))
+script("R6 before R11, R5 before both", UDP_64, *[("A00141424344", "--")] * 16,
+       ("A00142", "R6"), ("A001", "--"), ("A201", "--"), ("A00142", "R5"), ("A001", "R5"),
+       (receive(9), received("02", "41424344", "3C")))
+script("pieces build one datagram", UDP_64,
+       (piece("41"), sent("3F")), (take(64), "--"), (piece("4243"), sent("3D")), (piece(""), sent("3D")),
+       (piece("44", "01"), sent("3C", "01")), (take(64), "41424344"), (take(64), "--"), (piece(""), sent("40")))
+script("an end without bytes", UDP_64,
+       (piece("", "01"), sent("40", "01")), (take(64), "--"),
+       (piece("41"), sent("3F")), (piece("", "01"), sent("3F", "01")), (piece("", "01"), sent("3F", "01")),
+       (take(64), "41"), (take(64), "--"))
+script("a link not yet established", (opening("011F90", 64, q="00"),
+                                      "8103014000" "82028281" "830100" "38020100" "350103" "39020040"),
+       (piece("41"), sent("3F")), (take(64), "R5"), ("A00142", "R5"), ("A001", "R5"),
+       (piece("", "01"), sent("3F", "01")), (take(64), "41"))
+script("ending nothing establishes too", (opening("011F90", 64, q="00"),
+                                          "8103014000" "82028281" "830100" "38020100" "350103" "39020040"),
+       (take(64), "R5"), (piece("", "01"), sent("40", "01")), (take(64), "--"))
+script("a seventeenth to send", UDP_64, *[(piece("41", "01"), sent("%02X" % (63 - i), "01")) for i in range(15)],
+       (piece("51"), sent("30")), (piece("52"), sent("2F")), (piece("53", "01"), sent("2E", "01")),
+       (piece("61"), unsent("04")), (piece("61", "01"), unsent("04", "01")), (piece(""), sent("2E")),
+       (piece("", "01"), sent("2E", "01")), *[(take(1), "41")] * 15, (piece("61"), sent("3C")),
+       (take(64), "515253"), (take(64), "--"))
+script("room is bytes alone", UDP_64, (piece("41" * 60), sent("04")), (piece("42" * 5), unsent("04")),
+       (piece("42" * 4, "01"), sent("00", "01")), (piece("43"), unsent("04")), (piece("", "01"), sent("00", "01")),
+       (take(64), "41" * 60 + "42" * 4))
+script("a take", UDP_64, (take(0), "--"), (take(1500), "--"),
+       (piece("414243", "01"), sent("3D", "01")), (piece("51", "01"), sent("3C", "01")), (piece("61"), sent("3B")),
+       (take(0), "R12"), (take(2), "R12"), (piece(""), sent("3B")), (take(3), "414243"), (take(0), "R12"),
+       (take(1500), "51"), (take(0), "--"), (take(1500), "--"), ("A201", "--"), (take(0), "R5"))
+script("a drop keeps, closing discards", UDP_64, ("A0014142", "--"), ("A00143", "--"), ("A201", "--"),
+       (piece("41"), unsent("02")), (piece("", "01"), unsent("02", "01")),
+       (receive(1), received("00", "41", "02")), (receive(9), received("02", "42", "01")), CLOSE_1,
+       UDP_64, (receive(9), received("02", "", "00")), (take(0), "--"))
+script("opened again as the other kind", UDP_64, *[("A00141", "--")] * 16, (piece("51"), sent("3F")), CLOSE_1,
+       (opening("021F90", 64), UDP_64[1]), *[("A00142", "--")] * 17, (receive(17), received("00", "42" * 17, "00")),
+       (piece("52"), sent("3F")), (piece("53", "01"), sent("3E", "01")), (take(1), "52"), CLOSE_1,
+       UDP_64, (take(0), "--"), (piece("54"), sent("3F")), (piece("55", "01"), sent("3E", "01")), (take(1), "R12"))
 
 print("%d checks passed, %d failed" % (passed, failures))
 sys.exit(1 if failures else 0)
