@@ -62,11 +62,20 @@ static call write_command(uint8_t *frame, uint8_t type, uint8_t qualifier, uint8
     return (call){COMMAND, 0, frame, (size_t)(to - frame), 255};
 }
 
-/* An OPEN CHANNEL over bearer 03. */
+/* An OPEN CHANNEL for a stream, over bearer 03. */
 static call open_call(uint8_t *frame, uint32_t size)
 {
     const uint8_t command[] = {0xD0, 0x10, 0x81, 0x03, 0x01, 0x40, 0x01, 0x82, 0x02, 0x81, 0x82, 0xB5, 0x01, 0x03,
                                0xB9, 0x02, (uint8_t)(size >> 8), (uint8_t)size};
+    memcpy(frame, command, sizeof command);
+    return (call){COMMAND, 0, frame, sizeof command, 255};
+}
+
+/* An OPEN CHANNEL for datagrams, over bearer 03. */
+static call open_datagrams_call(uint8_t *frame, uint32_t size)
+{
+    const uint8_t command[] = {0xD0, 0x15, 0x81, 0x03, 0x01, 0x40, 0x01, 0x82, 0x02, 0x81, 0x82, 0xB5, 0x01, 0x03,
+                               0xB9, 0x02, (uint8_t)(size >> 8), (uint8_t)size, 0x3C, 0x03, 0x01, 0x1F, 0x90};
     memcpy(frame, command, sizeof command);
     return (call){COMMAND, 0, frame, sizeof command, 255};
 }
@@ -82,6 +91,12 @@ static call receive_call(uint8_t *frame, uint8_t channel, uint32_t n)
 {
     uint8_t request = (uint8_t)n;
     return write_command(frame, 0x42, 0, 0x20 + channel, 0xB7, &request, 1);
+}
+
+/* A SEND DATA that only stores. */
+static call store_call(uint8_t *frame, uint8_t channel, uint32_t n)
+{
+    return write_command(frame, 0x43, 0, 0x20 + channel, 0xB6, data, n);
 }
 
 /* A SEND DATA that marks all bytes held as ready. */
@@ -211,31 +226,42 @@ static void list_mixed(uint32_t n)
 /* A line: what stands before its calls, and the calls. */
 typedef struct {
     const char *name;
-    uint32_t moved;   /* bytes of data that the calls move */
-    uint32_t open;    /* channels open before */
-    uint32_t size;    /* the grant of each */
-    uint32_t arrived; /* bytes that arrived on channel 1 before */
-    uint32_t sent;    /* bytes ready on channel 1 before */
+    uint32_t moved;     /* bytes of data that the calls move */
+    uint32_t open;      /* channels open before */
+    uint32_t size;      /* the grant of each */
+    uint32_t datagrams; /* in how many equal datagrams the bytes of channel 1 stand; 0 where it is a stream */
+    uint32_t arrived;   /* bytes that arrived on channel 1 before */
+    uint32_t sent;      /* bytes ready on channel 1 before */
     void (*calls)(uint32_t n);
     uint32_t n;
 } line;
 
 static const line lines[] = {
-    {"refused frame (length 81 09)", 0, 1, GRANT, 0, 0, list_refused, 0},
-    {"MORE TIME", 0, 1, GRANT, 0, 0, list_more_time, 0},
-    {"OPEN of 1500 and CLOSE, the pair", 0, 0, 0, 0, 0, list_open_and_close, GRANT},
-    {"SEND DATA of 1", 1, 1, GRANT, 0, 0, list_send, 1},
-    {"SEND DATA of 200", 200, 1, GRANT, 0, 0, list_send, 200},
-    {"RECEIVE DATA of 1, 237 held", 1, 1, GRANT, 237, 0, list_receive, 1},
-    {"RECEIVE DATA of 1, 1500 held", 1, 1, GRANT, 1500, 0, list_receive, 1},
-    {"RECEIVE DATA of 237, 237 held", 237, 1, GRANT, 237, 0, list_receive, 237},
-    {"RECEIVE DATA of 237, 1500 held", 237, 1, GRANT, 1500, 0, list_receive, 237},
-    {"arrival of 1", 1, 1, GRANT, 0, 0, list_arrival, 1},
-    {"arrival of 1500", 1500, 1, GRANT, 0, 0, list_arrival, 1500},
-    {"take of 1, 1500 ready", 1, 1, GRANT, 0, 1500, list_take, 1},
-    {"take of 1500, 1500 ready", 1500, 1, GRANT, 0, 1500, list_take, 1500},
-    {"GET CHANNEL STATUS, seven open", 0, 7, 500, 0, 0, list_status, 0},
-    {"mixed history, each of its 1000 calls", 0, 4, 700, 0, 0, list_mixed, MIXED},
+    {"refused frame (length 81 09)", 0, 1, GRANT, 0, 0, 0, list_refused, 0},
+    {"MORE TIME", 0, 1, GRANT, 0, 0, 0, list_more_time, 0},
+    {"OPEN of 1500 and CLOSE, the pair", 0, 0, 0, 0, 0, 0, list_open_and_close, GRANT},
+    {"SEND DATA of 1", 1, 1, GRANT, 0, 0, 0, list_send, 1},
+    {"SEND DATA of 200", 200, 1, GRANT, 0, 0, 0, list_send, 200},
+    {"RECEIVE DATA of 1, 237 held", 1, 1, GRANT, 0, 237, 0, list_receive, 1},
+    {"RECEIVE DATA of 1, 1500 held", 1, 1, GRANT, 0, 1500, 0, list_receive, 1},
+    {"RECEIVE DATA of 237, 237 held", 237, 1, GRANT, 0, 237, 0, list_receive, 237},
+    {"RECEIVE DATA of 237, 1500 held", 237, 1, GRANT, 0, 1500, 0, list_receive, 237},
+    {"arrival of 1", 1, 1, GRANT, 0, 0, 0, list_arrival, 1},
+    {"arrival of 1500", 1500, 1, GRANT, 0, 0, 0, list_arrival, 1500},
+    {"take of 1, 1500 ready", 1, 1, GRANT, 0, 0, 1500, list_take, 1},
+    {"take of 1500, 1500 ready", 1500, 1, GRANT, 0, 0, 1500, list_take, 1500},
+    {"GET CHANNEL STATUS, seven open", 0, 7, 500, 0, 0, 0, list_status, 0},
+    {"datagrams: SEND DATA of 1", 1, 1, GRANT, 1, 0, 0, list_send, 1},
+    {"datagrams: SEND DATA of 200, 15 ready", 200, 1, GRANT, 15, 0, 15, list_send, 200},
+    {"datagrams: RECEIVE DATA of 1, one of 1500 held", 1, 1, GRANT, 1, 1500, 0, list_receive, 1},
+    {"datagrams: RECEIVE DATA of 237, one of 1500 held", 237, 1, GRANT, 1, 1500, 0, list_receive, 237},
+    {"datagrams: RECEIVE DATA of 90, 16 of 90 held", 90, 1, GRANT, 16, 1440, 0, list_receive, 90},
+    {"datagrams: arrival of 1", 1, 1, GRANT, 1, 0, 0, list_arrival, 1},
+    {"datagrams: arrival of 1, 15 held", 1, 1, GRANT, 15, 15, 0, list_arrival, 1},
+    {"datagrams: arrival of 1500", 1500, 1, GRANT, 1, 0, 0, list_arrival, 1500},
+    {"datagrams: take of 90, 16 of 90 ready", 90, 1, GRANT, 16, 0, 1440, list_take, 90},
+    {"datagrams: take of 1500, one of 1500 ready", 1500, 1, GRANT, 1, 0, 1500, list_take, 1500},
+    {"mixed history, each of its 1000 calls", 0, 4, 700, 0, 0, 0, list_mixed, MIXED},
 };
 
 enum { LINES = sizeof lines / sizeof lines[0] };
@@ -249,20 +275,30 @@ static void must(const side *who, void *record, call c)
     exit(1);
 }
 
+/* Sends n bytes on channel 1, in pieces that a command can bring; the last one marks them as ready. */
+static void send_all(const side *who, void *record, uint32_t n)
+{
+    uint8_t frame[FRAME_CAP];
+    for (; n > 200; n -= 200)
+        must(who, record, store_call(frame, 1, 200));
+    must(who, record, send_call(frame, 1, n));
+}
+
 /* Makes the record that a line begins with; event 09 is listed. */
 static void prepare(const side *who, void *record, const line *l)
 {
     static const uint8_t profile[13] = {0, 0, 8, 0, 1, 0x0C, 0, 0, 0, 0, 0, 0x1F, 0xE2};
     static const uint8_t event = 0x09;
     uint8_t frame[FRAME_CAP];
+    uint32_t parts = l->datagrams == 0 ? 1 : l->datagrams;
     must(who, record, (call){START, 0, profile, sizeof profile, 0});
     must(who, record, write_command(frame, 0x05, 0, 0x82, 0x99, &event, 1));
     for (uint32_t i = 0; i < l->open; i++)
-        must(who, record, open_call(frame, l->size));
-    if (l->arrived != 0)
-        must(who, record, arrival_call(1, l->arrived));
-    for (uint32_t left = l->sent; left > 0; left -= left < 200 ? left : 200)
-        must(who, record, send_call(frame, 1, left < 200 ? left : 200));
+        must(who, record, l->datagrams == 0 ? open_call(frame, l->size) : open_datagrams_call(frame, l->size));
+    for (uint32_t i = 0; i < parts && l->arrived != 0; i++)
+        must(who, record, arrival_call(1, l->arrived / parts));
+    for (uint32_t i = 0; i < parts && l->sent != 0; i++)
+        send_all(who, record, l->sent / parts);
 }
 
 /* Lists the calls of a line. */

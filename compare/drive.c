@@ -9,6 +9,7 @@
 
 enum { LARGEST = 65535, GUARD = 64, SPACE = GUARD + LARGEST + 1 + GUARD, NOISE = 1 << 18 };
 enum { REFUSED = REFERENCE_REFUSED, COMMAND_CAP = 256, FRAME_CAP = 300, DATA_CAP = 241, CELLS = 256, CELL = 32 };
+enum { DATAGRAMS = REFERENCE_DATAGRAMS, R6 = 6, R11 = 11, R12 = 12, REFUSALS = 13 };
 
 /* ---- The two sides ---- */
 
@@ -88,7 +89,7 @@ static const char *const known[ROWS] = {
 };
 
 static uint64_t answers[ROWS][COLUMNS];
-static uint64_t refusals[6][7];
+static uint64_t refusals[6][REFUSALS];
 
 /* Things that a history should come by. */
 typedef enum {
@@ -99,11 +100,20 @@ typedef enum {
     NO_BYTE_CAME,
     FILLED_BY_ARRIVAL,
     ONE_BYTE_OVER,
+    SIXTEENTH_CAME,
+    NO_BYTE_AT_16,
+    NO_ROOM_AT_16,
+    NO_PLACE_IN_PART,
     TAKEN_ALL,
     TAKEN_1500,
     TAKEN_IN_PART,
     TAKEN_NONE,
     NOT_READY_BEHIND,
+    TAKEN_WHOLE,
+    TAKEN_EXACTLY,
+    UNFINISHED_BEHIND,
+    UNFINISHED_ALONE,
+    ONE_BYTE_SHORT,
     DROP_TOLD,
     DROP_UNLISTED,
     DROPPED_HOLDING,
@@ -111,6 +121,8 @@ typedef enum {
     ALL_PROMISED,
     GRANT_FROM_CELLS,
     NUMBER_USED_AGAIN,
+    DATAGRAMS_OPENED,
+    OTHER_KIND,
     CLOSED_HOLDING,
     CLOSED_DROPPED,
     RECEIVED_237,
@@ -118,10 +130,19 @@ typedef enum {
     RECEIVED_DROPPED,
     LEFT_255,
     LEFT_256,
+    READ_IN_PART,
+    READ_TO_END,
+    READ_SHORT,
     FILLED_BY_SEND,
     ONE_BYTE_OVER_SEND,
     SENT_NONE,
     ESTABLISHED_BY_SEND,
+    SIXTEENTH_BEGUN,
+    JOINED,
+    JOINED_AT_16,
+    ENDED_WITHOUT_BYTES,
+    ENDED_NOTHING,
+    NO_PLACE_TO_SEND,
     LONGEST_COMMAND,
     LONGEST_RESPONSE,
     PLACES
@@ -135,11 +156,20 @@ static const char *const place_names[PLACES] = {
     [NO_BYTE_CAME] = "arrival: of no bytes",
     [FILLED_BY_ARRIVAL] = "arrival: grant filled to the byte",
     [ONE_BYTE_OVER] = "arrival: R6 by one byte",
+    [SIXTEENTH_CAME] = "arrival: the sixteenth datagram",
+    [NO_BYTE_AT_16] = "arrival: of no bytes, 16 held",
+    [NO_ROOM_AT_16] = "arrival: R6, 16 held",
+    [NO_PLACE_IN_PART] = "arrival: R11, one read in part",
     [TAKEN_1500] = "take: 1500 bytes",
     [TAKEN_ALL] = "take: all that was ready",
     [TAKEN_IN_PART] = "take: as many as fit",
     [TAKEN_NONE] = "take: none",
     [NOT_READY_BEHIND] = "take: bytes not ready stay behind",
+    [TAKEN_WHOLE] = "take: a datagram, the next stays",
+    [TAKEN_EXACTLY] = "take: a datagram fills the buffer",
+    [UNFINISHED_BEHIND] = "take: a datagram, one unfinished stays",
+    [UNFINISHED_ALONE] = "take: none, one unfinished",
+    [ONE_BYTE_SHORT] = "take: R12 by one byte",
     [DROP_TOLD] = "drop: event written",
     [DROP_UNLISTED] = "drop: event not listed",
     [DROPPED_HOLDING] = "drop: bytes held both ways",
@@ -147,6 +177,8 @@ static const char *const place_names[PLACES] = {
     [ALL_PROMISED] = "OPEN: the last cells",
     [GRANT_FROM_CELLS] = "OPEN: grant cut by the pool",
     [NUMBER_USED_AGAIN] = "OPEN: a number below an open one",
+    [DATAGRAMS_OPENED] = "OPEN: a datagram channel",
+    [OTHER_KIND] = "OPEN: a number that had the other kind",
     [CLOSED_HOLDING] = "CLOSE: bytes held both ways",
     [CLOSED_DROPPED] = "CLOSE: after a drop",
     [RECEIVED_237] = "RECEIVE: 237 bytes",
@@ -154,10 +186,19 @@ static const char *const place_names[PLACES] = {
     [RECEIVED_DROPPED] = "RECEIVE: bytes after a drop",
     [LEFT_255] = "RECEIVE: 255 left",
     [LEFT_256] = "RECEIVE: 256 left",
+    [READ_IN_PART] = "RECEIVE: a datagram in part",
+    [READ_TO_END] = "RECEIVE: a datagram to its end",
+    [READ_SHORT] = "RECEIVE: 02 at its end, more held",
     [FILLED_BY_SEND] = "SEND: grant filled to the byte",
     [ONE_BYTE_OVER_SEND] = "SEND: 3A 04 by one byte",
     [SENT_NONE] = "SEND: no bytes",
     [ESTABLISHED_BY_SEND] = "SEND: link established",
+    [SIXTEENTH_BEGUN] = "SEND: the sixteenth datagram begun",
+    [JOINED] = "SEND: bytes join a datagram",
+    [JOINED_AT_16] = "SEND: bytes join the sixteenth",
+    [ENDED_WITHOUT_BYTES] = "SEND: no bytes end a datagram",
+    [ENDED_NOTHING] = "SEND: no bytes end nothing, 16 held",
+    [NO_PLACE_TO_SEND] = "SEND: 3A 04 for a seventeenth",
     [LONGEST_COMMAND] = "command of 256 bytes",
     [LONGEST_RESPONSE] = "response of 255 bytes",
 };
@@ -208,12 +249,18 @@ static void differ(const char *what, const call *c, uint32_t from_reference, uin
 
 /* ---- One call on both sides ---- */
 
+/* Whether a number is that of a refusal of these calls. */
+static bool is_refusal(uint32_t number)
+{
+    return (number >= 1 && number <= R6) || number == R11 || number == R12;
+}
+
 /* Holds one side to its own answer: a number that can be, and nothing touched but what it reports. */
 static bool honest(const call *c, uint32_t returned, const uint8_t *space, const uint8_t *before)
 {
     size_t written = returned < REFUSED ? returned : 0;
     size_t all = GUARD + c->size + GUARD;
-    if (written > c->size || returned == REFUSED || returned > REFUSED + 6)
+    if (written > c->size || (returned >= REFUSED && !is_refusal(returned - REFUSED)))
         return false;
     if (memcmp(space, before, GUARD) != 0)
         return false;
@@ -264,18 +311,32 @@ static uint32_t call_copies(call_kind kind, uint8_t channel, size_t n, size_t si
     return perform(&copies, &c);
 }
 
-/* Compares one channel: room, ready bytes, bytes held both ways, grant, link. */
+/* Takes all that is ready, each datagram apart, and once more. */
+static void take_from_copies(uint8_t channel)
+{
+    for (uint32_t left = copies.reference.channel[channel - 1].send.datagrams + 1; left > 0; left--)
+        call_copies(TAKE, channel, 0, 1500);
+}
+
+/* Receives all that is held, each datagram apart, and once more: 237 bytes of it at a time. */
+static void receive_from_copies(uint8_t channel)
+{
+    static const uint8_t request[3] = {0xB7, 1, 0xFF};
+    for (uint32_t left = copies.reference.channel[channel - 1].receive.datagrams + 7; left > 0; left--)
+        ask_copies(0x42, 0, 0x20 + channel, request, 3);
+}
+
+/* Compares one channel: room, ready bytes, bytes held both ways and their ends, grant, link. */
 static void compare_channel(uint8_t channel)
 {
-    static const uint8_t no_data[2] = {0xB6, 0}, request[3] = {0xB7, 1, 0xFF};
+    static const uint8_t no_data[2] = {0xB6, 0};
     const reference_channel *c = &copies.reference.channel[channel - 1];
     uint8_t identity = 0x20 + channel;
     ask_copies(0x43, 0, identity, no_data, 2);
-    call_copies(TAKE, channel, 0, 1500);
-    for (int i = 0; i < 7; i++)
-        ask_copies(0x42, 0, identity, request, 3);
+    take_from_copies(channel);
+    receive_from_copies(channel);
     ask_copies(0x43, 1, identity, no_data, 2);
-    call_copies(TAKE, channel, 0, 1500);
+    take_from_copies(channel);
     call_copies(ARRIVAL, channel, c->link == REFERENCE_UNOPENED ? 0 : c->grant, 16);
     call_copies(ARRIVAL, channel, 1, 16);
     call_copies(DROP, channel, 0, 16);
@@ -338,7 +399,19 @@ static bool is_ready(uint8_t channel)
     return is_established(channel) && at(channel)->ready != 0;
 }
 
-static uint8_t focus; /* the channel that SEND DATA mostly goes to */
+/* Whether a channel is open and carries datagrams. */
+static bool is_datagram(uint8_t channel)
+{
+    return is_open(channel) && at(channel)->kind == REFERENCE_DATAGRAM;
+}
+
+/* What is left of the first datagram of a queue, or 0. */
+static uint32_t first_datagram(const reference_queue *q)
+{
+    return q->datagrams == 0 ? 0 : q->length[q->oldest % DATAGRAMS];
+}
+
+static uint8_t focus; /* the channel that SEND DATA and arrivals mostly go to */
 
 /* Whether a channel is the open one in focus. */
 static bool is_focus(uint8_t channel)
@@ -431,10 +504,12 @@ static uint32_t open_size(void)
     }
 }
 
-/* A size for an arrival. */
+/* A size for an arrival; datagrams are mostly small, so that their places fill before the grant does. */
 static uint32_t arrival_size(uint8_t channel)
 {
     uint32_t room = receive_room(channel);
+    if (is_datagram(channel) && chance(70))
+        return below(6);
     switch (below(10)) {
     case 0:
         return edge();
@@ -457,6 +532,8 @@ static uint32_t arrival_size(uint8_t channel)
 static uint32_t take_size(uint8_t channel)
 {
     uint32_t ready = is_open(channel) ? at(channel)->ready : 0;
+    if (is_datagram(channel) && chance(60))
+        return about(first_datagram(&at(channel)->send));
     switch (below(8)) {
     case 0:
         return edge();
@@ -477,6 +554,8 @@ static uint32_t send_size(uint8_t channel)
 {
     uint32_t room = send_room(channel);
     uint32_t size = below(DATA_CAP + 1);
+    if (is_datagram(channel) && chance(70))
+        return below(6);
     if (chance(30))
         size = about(room);
     if (chance(5))
@@ -492,6 +571,8 @@ static uint32_t send_size(uint8_t channel)
 static uint8_t request_size(uint8_t channel)
 {
     uint32_t held = is_open(channel) ? at(channel)->receive.held : 0;
+    if (is_datagram(channel) && first_datagram(&at(channel)->receive) < 255 && chance(50))
+        return (uint8_t)about(first_datagram(&at(channel)->receive));
     if (held >= 255 && held < 255 + 237 + 2 && chance(50))
         return (uint8_t)about(held - 256 + 1);
     if (held < 255 && chance(30))
@@ -609,10 +690,10 @@ static void add_bearer(void)
     }
 }
 
-/* Plans object 3C: TCP, or seldom another. */
+/* Plans object 3C: datagrams, a stream, or seldom another. */
 static void add_transport(void)
 {
-    uint8_t transport[3] = {0x02, random_byte(), random_byte()};
+    uint8_t transport[3] = {chance(70) ? 0x01 : 0x02, random_byte(), random_byte()};
     if (chance(8))
         transport[0] = (uint8_t)below(8);
     add(0x3C, 50, transport, 3);
@@ -626,7 +707,7 @@ static void plan_open(void)
     begin(0x40, 0x82);
     add_bearer();
     add(0x39, 90, buffer, 2);
-    if (chance(50))
+    if (chance(60))
         add_transport();
     add_shown();
     if (chance(8))
@@ -911,6 +992,26 @@ static int column_of(const uint8_t *out)
     return -1;
 }
 
+/* A channel without its bytes, as it was before a command. */
+static reference_channel before_command[8];
+
+/* Keeps what is counted by from each channel. */
+static void keep_channels(void)
+{
+    for (uint8_t channel = 1; channel <= 7; channel++) {
+        const reference_channel *c = at(channel);
+        reference_channel *kept = &before_command[channel];
+        kept->link = c->link;
+        kept->kind = c->kind;
+        kept->grant = c->grant;
+        kept->ready = c->ready;
+        kept->receive.held = c->receive.held;
+        kept->receive.datagrams = c->receive.datagrams;
+        kept->send.held = c->send.held;
+        kept->send.datagrams = c->send.datagrams;
+    }
+}
+
 /* Counts what a start came by. */
 static void count_start(const call *c)
 {
@@ -918,10 +1019,24 @@ static void count_start(const call *c)
     count(LONG_PROFILE, c->n > 13);
 }
 
+static bool in_part[8]; /* whether the first datagram held of a channel was read in part */
+
+/* Counts what an arrival on an established datagram channel came by. */
+static void count_datagram(const call *c, uint32_t returned)
+{
+    bool all_places = at(c->channel)->receive.datagrams == DATAGRAMS;
+    count(SIXTEENTH_CAME, returned < REFUSED && c->n != 0 && all_places);
+    count(NO_BYTE_AT_16, returned == 0 && c->n == 0 && all_places);
+    count(NO_ROOM_AT_16, returned == REFUSED + R6 && all_places);
+    count(NO_PLACE_IN_PART, returned == REFUSED + R11 && in_part[c->channel]);
+}
+
 /* Counts what an arrival came by. */
 static void count_arrival(const call *c, uint32_t returned)
 {
-    if (returned == REFUSED + 6)
+    if (is_datagram(c->channel))
+        count_datagram(c, returned);
+    if (returned == REFUSED + R6)
         count(ONE_BYTE_OVER, c->n == receive_room(c->channel) + 1);
     if (returned >= REFUSED)
         return;
@@ -931,9 +1046,28 @@ static void count_arrival(const call *c, uint32_t returned)
     count(FILLED_BY_ARRIVAL, c->n != 0 && receive_room(c->channel) == 0);
 }
 
+/* Counts what a take from a datagram channel came by. */
+static void count_whole(const call *c, uint32_t returned)
+{
+    const reference_channel *channel = at(c->channel);
+    bool unfinished = channel->ready < channel->send.held;
+    if (returned == REFUSED + R12)
+        count(ONE_BYTE_SHORT, c->size + 1 == first_datagram(&channel->send));
+    if (returned >= REFUSED)
+        return;
+    count(TAKEN_WHOLE, returned != 0 && channel->ready != 0);
+    count(TAKEN_EXACTLY, returned != 0 && returned == c->size);
+    count(UNFINISHED_BEHIND, returned != 0 && channel->ready == 0 && unfinished);
+    count(UNFINISHED_ALONE, returned == 0 && unfinished);
+}
+
 /* Counts what a take came by. */
 static void count_take(const call *c, uint32_t returned)
 {
+    if (is_datagram(c->channel)) {
+        count_whole(c, returned);
+        return;
+    }
     if (returned >= REFUSED)
         return;
     const reference_channel *channel = at(c->channel);
@@ -973,6 +1107,9 @@ static void count_opened(const uint8_t *out)
     count(SEVEN_OPEN, count_channels(is_open) == 7);
     count(ALL_PROMISED, run.reference.promised == CELLS);
     count(GRANT_FROM_CELLS, grant < asked && grant != 1500);
+    count(DATAGRAMS_OPENED, is_datagram(channel));
+    count(OTHER_KIND, at(channel)->kind != before_command[channel].kind);
+    in_part[channel] = false;
     for (uint8_t above = channel + 1; above <= 7; above++)
         if (is_open(above)) {
             count(NUMBER_USED_AGAIN, true);
@@ -987,6 +1124,16 @@ static void count_closed(const reference_channel *before)
     count(CLOSED_DROPPED, before->link == REFERENCE_DROPPED);
 }
 
+/* Counts what a RECEIVE of a datagram channel came by that handed out bytes. */
+static void count_read(uint8_t channel, uint8_t result)
+{
+    bool to_end = at(channel)->receive.datagrams < before_command[channel].receive.datagrams;
+    in_part[channel] = !to_end;
+    count(READ_IN_PART, !to_end);
+    count(READ_TO_END, to_end);
+    count(READ_SHORT, to_end && result == 0x02 && at(channel)->receive.held != 0);
+}
+
 /* Counts what a RECEIVE that was answered came by. */
 static void count_received(const reference_channel *before, const reference_channel *after)
 {
@@ -998,10 +1145,23 @@ static void count_received(const reference_channel *before, const reference_chan
     count(LEFT_256, after->receive.held == 256);
 }
 
+/* Counts what a SEND of n bytes on a datagram channel came by; `immediate` is bit 1 of its qualifier. */
+static void count_built(uint32_t n, bool immediate, const reference_channel *before, const reference_channel *after)
+{
+    bool unfinished = before->ready < before->send.held;
+    count(SIXTEENTH_BEGUN, n != 0 && !unfinished && after->send.datagrams == DATAGRAMS);
+    count(JOINED, n != 0 && unfinished);
+    count(JOINED_AT_16, n != 0 && unfinished && after->send.datagrams == DATAGRAMS);
+    count(ENDED_WITHOUT_BYTES, n == 0 && unfinished && immediate);
+    count(ENDED_NOTHING, n == 0 && !unfinished && immediate && after->send.datagrams == DATAGRAMS);
+}
+
 /* Counts what a SEND that was answered came by. */
-static void count_sent(const reference_channel *before, const reference_channel *after)
+static void count_sent(bool immediate, const reference_channel *before, const reference_channel *after)
 {
     uint32_t n = after->send.held - before->send.held;
+    if (after->kind == REFERENCE_DATAGRAM)
+        count_built(n, immediate, before, after);
     count(SENT_NONE, n == 0);
     count(FILLED_BY_SEND, n != 0 && after->send.held == after->grant);
     count(ESTABLISHED_BY_SEND, before->link == REFERENCE_NOT_YET && after->link == REFERENCE_ESTABLISHED);
@@ -1021,25 +1181,11 @@ static void count_unsent(const reference_channel *before)
 {
     for (uint32_t i = 0; i < planned; i++)
         if ((plan[i].tag & 0x7F) == 0x36) {
-            count(ONE_BYTE_OVER_SEND, plan[i].n == before->grant - before->send.held + 1);
+            uint32_t room = before->grant - before->send.held;
+            count(ONE_BYTE_OVER_SEND, plan[i].n == room + 1);
+            count(NO_PLACE_TO_SEND, plan[i].n <= room);
             return;
         }
-}
-
-/* A channel without its bytes, as it was before a command. */
-static reference_channel before_command[8];
-
-/* Keeps what is counted by from each channel. */
-static void keep_channels(void)
-{
-    for (uint8_t channel = 1; channel <= 7; channel++) {
-        const reference_channel *c = at(channel);
-        reference_channel *kept = &before_command[channel];
-        kept->link = c->link;
-        kept->grant = c->grant;
-        kept->receive.held = c->receive.held;
-        kept->send.held = c->send.held;
-    }
 }
 
 /* Counts what an answered command came by. */
@@ -1056,8 +1202,10 @@ static void count_places(const uint8_t *out)
         count_closed(before);
     if (type == 0x42 && good)
         count_received(before, at(channel));
+    if (type == 0x42 && good && is_datagram(channel) && at(channel)->receive.held < before->receive.held)
+        count_read(channel, result);
     if (type == 0x43 && good)
-        count_sent(before, at(channel));
+        count_sent(out[4] & 1, before, at(channel));
     if (type == 0x43 && result == 0x3A && out[12] == 0x04)
         count_unsent(before);
 }
@@ -1146,10 +1294,10 @@ static void make_random(void)
     make(&c);
 }
 
-/* An arrival: mostly where the link is established. */
+/* An arrival: mostly where the link is established, often on the channel in focus, so that its places fill. */
 static void make_arrival(void)
 {
-    uint8_t channel = pick_channel(is_established);
+    uint8_t channel = pick_channel(chance(70) ? is_focus : is_established);
     call c = {ARRIVAL, channel, random_bytes(), arrival_size(channel), buffer_size(16)};
     make(&c);
 }
@@ -1173,13 +1321,14 @@ static planner *const planners[] = {
     plan_open, plan_close, plan_receive, plan_send, plan_status, plan_more_time, plan_event_list, plan_other,
 };
 
-enum { PLANNERS = 8, KINDS = 12, MOODS = 6 };
+enum { PLANNERS = 8, KINDS = 12, MOODS = 7 };
 
 /* How often each kind of call comes in each mood: the planners, random bytes, arrival, take, drop. */
 static const uint8_t moods[MOODS][KINDS] = {
     {10, 3, 14, 18, 3, 2, 3, 1, 1, 26, 12, 1},  /* mixed */
     {40, 16, 5, 6, 5, 2, 6, 1, 1, 10, 5, 1},    /* opening */
     {6, 1, 4, 40, 1, 1, 2, 1, 0, 40, 4, 0},     /* filling */
+    {1, 0, 6, 46, 0, 0, 1, 0, 0, 46, 4, 0},     /* crowding */
     {3, 1, 36, 14, 1, 1, 1, 0, 0, 16, 26, 0},   /* emptying */
     {20, 20, 10, 8, 8, 2, 4, 1, 1, 12, 8, 6},   /* closing */
     {20, 6, 15, 15, 6, 8, 10, 6, 6, 6, 4, 2},   /* rough */
@@ -1223,7 +1372,7 @@ static void history(void)
         if (rest-- == 0) {
             mood = below(MOODS);
             rest = 10 + below(120);
-            focus = channel_with(is_open);
+            focus = channel_with(chance(60) ? is_datagram : is_open);
         }
         if (below(400) == 0) {
             compare_state();
@@ -1261,14 +1410,17 @@ static void print_answers(void)
 /* Prints how often each refusal came. */
 static void print_refusals(void)
 {
-    static const char *const given[6] = {"", "", ".xx....", ".x.xxxx", "...xxx.", ".x.xxx."};
-    printf("\n%-14s%8s%8s%8s%8s%8s%8s", "refusals", "R1", "R2", "R3", "R4", "R5", "R6");
+    static const char *const given[6] = {"", "", ".xx..........", ".x.xxxx....x.", "...xxx......x", ".x.xxx......."};
+    printf("\n%-14s", "refusals");
+    for (uint32_t j = 1; j < REFUSALS; j++)
+        if (is_refusal(j))
+            printf("%*sR%" PRIu32, j < 10 ? 6 : 5, "", j);
     for (int i = COMMAND; i <= DROP; i++) {
         printf("\n%-14s", kind_names[i]);
-        for (int j = 1; j <= 6; j++)
+        for (uint32_t j = 1; j < REFUSALS; j++)
             if (given[i][j] == 'x')
                 printf("%8" PRIu64, refusals[i][j]);
-            else
+            else if (is_refusal(j))
                 printf("%8s", "-");
     }
     printf("\n");

@@ -1,5 +1,5 @@
 #!/usr/bin/env python3
-"""Holds reference.c to vectors/oracle.py: plays every script of the gate and ten seeded histories
+"""Holds reference.c to vectors/oracle.py: plays every script of the gate and twenty seeded histories
 through both, and compares each line of the answers. The words are the command of the player, which
 is play.c compiled with reference.c.
 
@@ -18,7 +18,7 @@ import generate
 import oracle
 
 LINES = 5000        # of a history
-BYTES = 400000      # that go in and out of a history, about
+BYTES = 400000      # that go in and out of a history of streams, about
 
 
 def scripts():
@@ -31,11 +31,12 @@ def scripts():
 
 
 def histories():
-    """Seeded histories, of four channels and of seven in turn: the name and the bytes of each."""
+    """Seeded histories of streams and of both kinds, of four channels and of seven in turn: the name and the bytes of each."""
     for seed in range(1, 11):
         profile = generate.PROFILE_7 if seed % 2 else generate.PROFILE
-        script = generate.history("seed %d" % seed, profile, seed, LINES, BYTES)
-        yield script.name, b"\n".join(script.lines) + b"\n"
+        for script in (generate.history("seed %d of streams" % seed, profile, seed, LINES, BYTES),
+                       generate.both_kinds("seed %d of both kinds" % seed, profile, seed, LINES)):
+            yield script.name, b"\n".join(script.lines) + b"\n"
 
 
 def shown(lines, at):

@@ -1,10 +1,11 @@
-/* The modem of "Data channels: the rules", section by section. */
+/* The modem of "Data channels: the rules", section by section, with the datagram channels of request M-104. */
 #include "reference.h"
 
 #include <stdbool.h>
 #include <string.h>
 
-/* A planted fault: 1 the count left by its low byte, 2 arrivals cut to the room, 3 the highest unused number. */
+/* A planted fault: 1 the count left by its low byte, 2 arrivals cut to the room, 3 the highest unused number,
+ * 4 RECEIVE DATA past the end of a datagram, 5 a take of two datagrams. */
 #ifndef FAULT
 #define FAULT 0
 #endif
@@ -12,11 +13,11 @@
 enum { CELLS = 256, CELL = 32, GRANT_CAP = 1500, DATA_CAP = 237 };
 enum { COMMAND_CAP = 256, RESPONSE_SPACE = 255, EVENT_SPACE = 16 };
 enum { EVENT_ARRIVAL = 0x09, EVENT_DROP = 0x0A };
-enum { BEARER_02 = 0x02, BEARER_03 = 0x03, TCP = 0x02, IMMEDIATELY = 0x01 };
+enum { BEARER_02 = 0x02, BEARER_03 = 0x03, UDP = 0x01, TCP = 0x02, IMMEDIATELY = 0x01 };
 enum { CARD = 0x81, TERMINAL = 0x82, FIRST_CHANNEL = 0x21, LAST_CHANNEL = 0x27 };
 
 /* The refusals. */
-enum { R1 = REFERENCE_REFUSED + 1, R2, R3, R4, R5, R6 };
+enum { R1 = REFERENCE_REFUSED + 1, R2, R3, R4, R5, R6, R11 = REFERENCE_REFUSED + 11, R12 };
 
 /* The results. */
 enum {
@@ -171,6 +172,60 @@ static void clear(reference_queue *q)
 {
     q->first = 0;
     q->held = 0;
+    q->oldest = 0;
+    q->datagrams = 0;
+}
+
+/* ---- Datagrams of a queue ---- */
+
+/* The length of a datagram held; the first one is number 0. */
+static uint16_t *length_at(reference_queue *q, uint32_t number)
+{
+    return &q->length[(q->oldest + number) % REFERENCE_DATAGRAMS];
+}
+
+/* Whether all places for datagrams are taken. */
+static bool places_taken(const reference_queue *q)
+{
+    return q->datagrams == REFERENCE_DATAGRAMS;
+}
+
+/* Begins a datagram of n bytes behind those held. */
+static void begin(reference_queue *q, uint32_t n)
+{
+    *length_at(q, q->datagrams) = (uint16_t)n;
+    q->datagrams++;
+}
+
+/* Makes the last datagram longer by n bytes. */
+static void join(reference_queue *q, uint32_t n)
+{
+    *length_at(q, q->datagrams - 1) += (uint16_t)n;
+}
+
+/* Hands out the n oldest bytes; datagrams of which nothing is left give up their places. */
+static void hand_out_datagrams(reference_queue *q, uint8_t *out, uint32_t n)
+{
+    hand_out(q, out, n);
+    while (n > 0) {
+        uint16_t *length = length_at(q, 0);
+        uint32_t part = lesser(n, *length);
+        *length -= (uint16_t)part;
+        n -= part;
+        if (*length != 0)
+            return;
+        q->oldest++;
+        q->datagrams--;
+    }
+}
+
+/* Hands out the n oldest bytes of a channel's way. */
+static void hand_out_of(const reference_channel *c, reference_queue *q, uint8_t *out, uint32_t n)
+{
+    if (c->kind == REFERENCE_STREAM)
+        hand_out(q, out, n);
+    else
+        hand_out_datagrams(q, out, n);
 }
 
 /* ---- Profile ---- */
@@ -501,11 +556,18 @@ static uint32_t unused_number(const reference_session *s)
     return found;
 }
 
+/* The first byte of 3C; where it is absent, that of a stream. */
+static uint8_t transport(const asked *a)
+{
+    return a->once & B(P_3C) ? a->at[P_3C].value[0] : TCP;
+}
+
 /* Opens a channel with its grant. */
-static reference_channel *open_with(reference_session *s, uint32_t number, uint32_t grant, bool established)
+static reference_channel *open_with(reference_session *s, uint32_t number, uint32_t grant, const asked *a)
 {
     reference_channel *c = &s->channel[number - 1];
-    c->link = established ? REFERENCE_ESTABLISHED : REFERENCE_NOT_YET;
+    c->link = a->details[2] & IMMEDIATELY ? REFERENCE_ESTABLISHED : REFERENCE_NOT_YET;
+    c->kind = transport(a) == UDP ? REFERENCE_DATAGRAM : REFERENCE_STREAM;
     c->grant = grant;
     c->ready = 0;
     clear(&c->receive);
@@ -540,7 +602,7 @@ static uint32_t open_channel(reference_session *s, const asked *a, uint8_t *out)
     uint32_t number = unused_number(s);
     if (!bearer_allowed(s, a->at[P_35].value[0]))
         return answer(out, a->details, BEYOND);
-    if ((a->once & B(P_3C)) && a->at[P_3C].value[0] != TCP)
+    if (transport(a) != TCP && transport(a) != UDP)
         return problem(out, a->details, NO_TRANSPORT);
     if (request == 0)
         return problem(out, a->details, NO_ROOM);
@@ -549,7 +611,7 @@ static uint32_t open_channel(reference_session *s, const asked *a, uint8_t *out)
     if (unpromised < 2)
         return problem(out, a->details, NO_ROOM);
     uint32_t grant = grant_for(request, unpromised);
-    reference_channel *c = open_with(s, number, grant, a->details[2] & IMMEDIATELY);
+    reference_channel *c = open_with(s, number, grant, a);
     return tell_opened(c, number, a, grant < request ? LESS_GRANTED : whole(a), out);
 }
 
@@ -561,23 +623,47 @@ static uint32_t close_channel(reference_session *s, reference_channel *c, const 
     return answer(out, a->details, whole(a));
 }
 
-/* 42: the least of the request, the bytes held and 237. */
+/* The bytes that one RECEIVE DATA may reach: all of a stream, what is left of the first datagram. */
+static uint32_t within_reach(reference_channel *c)
+{
+    if (c->kind == REFERENCE_STREAM || c->receive.datagrams == 0 || FAULT == 4)
+        return c->receive.held;
+    return *length_at(&c->receive, 0);
+}
+
+/* 42: the least of the request, the bytes within reach and 237. */
 static uint32_t receive_data(reference_channel *c, const asked *a, uint8_t *out)
 {
     uint32_t request = a->at[P_37].value[0];
-    uint32_t n = lesser(lesser(request, c->receive.held), DATA_CAP);
+    uint32_t n = lesser(lesser(request, within_reach(c)), DATA_CAP);
     uint8_t *at = write_result(out, a->details, n < request ? FEWER : whole(a));
     at = write_data_head(at, n);
-    hand_out(&c->receive, at, n);
+    hand_out_of(c, &c->receive, at, n);
     at = write_count(at + n, count_left(c->receive.held));
     return (uint32_t)(at - out);
 }
 
-/* Marks all bytes held as ready and establishes the link. */
+/* Marks all bytes held as ready, which ends the unfinished datagram, and establishes the link. */
 static void send_now(reference_channel *c)
 {
     c->ready = c->send.held;
     c->link = REFERENCE_ESTABLISHED;
+}
+
+/* Whether so many bytes to send begin a datagram: there are some, and none is unfinished. */
+static bool begins(const reference_channel *c, uint32_t n)
+{
+    return c->kind == REFERENCE_DATAGRAM && n != 0 && c->ready == c->send.held;
+}
+
+/* Stores bytes to send; in a datagram channel they begin a datagram or join the unfinished one. */
+static void store(reference_channel *c, const object *data)
+{
+    if (begins(c, data->length))
+        begin(&c->send, data->length);
+    else if (c->kind == REFERENCE_DATAGRAM && data->length != 0)
+        join(&c->send, data->length);
+    put(&c->send, data->value, data->length);
 }
 
 /* 43: stores, and with bit 1 marks as ready. */
@@ -588,7 +674,9 @@ static uint32_t send_data(reference_channel *c, const asked *a, uint8_t *out)
         return problem(out, a->details, LINK_DROPPED);
     if (data->length > c->grant - c->send.held)
         return problem(out, a->details, NO_ROOM);
-    put(&c->send, data->value, data->length);
+    if (begins(c, data->length) && places_taken(&c->send))
+        return problem(out, a->details, NO_ROOM);
+    store(c, data);
     if (a->details[2] & IMMEDIATELY)
         send_now(c);
     uint8_t *at = write_result(out, a->details, whole(a));
@@ -709,7 +797,7 @@ static uint8_t *write_event(uint8_t *at, uint8_t length, uint8_t event, const re
     return write_status(at + 9, c, channel);
 }
 
-/* Bytes from the network: stored whole, and told if 09 is listed. */
+/* Bytes from the network, of a datagram channel one datagram: stored whole, and told if 09 is listed. */
 uint32_t reference_arrival(reference_session *s, uint8_t channel, const uint8_t *bytes, size_t n, uint8_t *out, size_t size)
 {
     if (size < EVENT_SPACE)
@@ -725,6 +813,10 @@ uint32_t reference_arrival(reference_session *s, uint8_t channel, const uint8_t 
         return R6;
     if (n == 0)
         return 0;
+    if (places_taken(&c->receive))
+        return R11;
+    if (c->kind == REFERENCE_DATAGRAM)
+        begin(&c->receive, (uint32_t)n);
     put(&c->receive, bytes, (uint32_t)n);
     if (!(s->listed & 1))
         return 0;
@@ -733,17 +825,28 @@ uint32_t reference_arrival(reference_session *s, uint8_t channel, const uint8_t 
     return (uint32_t)(at - out);
 }
 
-/* The radio takes as many ready bytes as fit. */
+/* The bytes of the datagram that a take hands over, with one finished. */
+static uint32_t next_datagram(reference_channel *c, size_t size)
+{
+    uint32_t one = *length_at(&c->send, 0);
+    if (FAULT == 5 && c->ready > one && one + *length_at(&c->send, 1) <= size)
+        return one + *length_at(&c->send, 1);
+    return one;
+}
+
+/* The radio takes as many ready bytes as fit, or one finished datagram whole. */
 uint32_t reference_take(reference_session *s, uint8_t channel, uint8_t *out, size_t size)
 {
     uint32_t refused = refusal(s, channel);
     if (refused)
         return refused;
     reference_channel *c = &s->channel[channel - 1];
-    uint32_t n = c->ready <= size ? c->ready : (uint32_t)size;
-    if (n == 0)
+    if (c->ready == 0)
         return 0;
-    hand_out(&c->send, out, n);
+    uint32_t n = c->kind == REFERENCE_DATAGRAM ? next_datagram(c, size) : (uint32_t)(c->ready <= size ? c->ready : size);
+    if (n > size)
+        return R12;
+    hand_out_of(c, &c->send, out, n);
     c->ready -= n;
     return n;
 }

@@ -1,4 +1,5 @@
-/* The modem of "Data channels: the rules", written a second time straight from the paper. */
+/* The modem of "Data channels: the rules" with datagram channels (request M-104), written a second time straight from
+ * the paper. */
 #ifndef REFERENCE_H
 #define REFERENCE_H
 
@@ -9,6 +10,7 @@ enum {
     REFERENCE_CHANNELS = 7,       /* channel numbers 1 to 7 */
     REFERENCE_PROFILE = 13,       /* profile bytes that are looked at */
     REFERENCE_RING = 2048,        /* bytes of a queue: a power of two above the largest grant */
+    REFERENCE_DATAGRAMS = 16,     /* datagrams held each way at most */
     REFERENCE_REFUSED = 0x1000000 /* a refusal returns this plus its number */
 };
 
@@ -20,18 +22,25 @@ typedef enum {
     REFERENCE_DROPPED
 } reference_link;
 
-/* Bytes held in the order they came, in a ring. */
+/* What a channel carries. */
+typedef enum { REFERENCE_STREAM, REFERENCE_DATAGRAM } reference_kind;
+
+/* Bytes held in the order they came, in a ring; of a datagram channel also where they end, in a ring too. */
 typedef struct {
     uint32_t first; /* place of the oldest byte */
     uint32_t held;
+    uint32_t oldest;    /* place of the first datagram's length */
+    uint32_t datagrams; /* how many are held, the unfinished one included; 0 in a stream */
+    uint16_t length[REFERENCE_DATAGRAMS];
     uint8_t bytes[REFERENCE_RING];
 } reference_queue;
 
 /* One channel: its grant holds for each of the two ways. */
 typedef struct {
     reference_link link;
+    reference_kind kind;
     uint32_t grant;
-    uint32_t ready; /* how many of the oldest bytes of `send` a take may hand out */
+    uint32_t ready; /* how many of the oldest bytes of `send` takes may hand out; those behind them are unfinished */
     reference_queue receive;
     reference_queue send;
 } reference_channel;

@@ -2,6 +2,7 @@
 #include "reference.h"
 
 #include <stdio.h>
+#include <stdlib.h>
 #include <string.h>
 
 enum { SPACE = 2048, TAKE_CAP = 1500 };
@@ -44,7 +45,7 @@ static void print_answer(const char *who, uint32_t returned, const uint8_t *byte
 static uint32_t meaning(const char *line, uint8_t *bytes)
 {
     if (line[0] == 'R')
-        return REFERENCE_REFUSED + digit(line[1]);
+        return REFERENCE_REFUSED + (uint32_t)strtoul(line + 1, NULL, 10);
     if (line[0] == '-')
         return 0;
     return (uint32_t)unhex(line, bytes);
@@ -263,7 +264,7 @@ static void objects(void)
     says("D010810301400082028182 350109 39020001", "810301400082028281830130");
     says("D012810301400082028182 3503090000 39020001", "810301400082028281830130");
     says("D00F810301400082028182 350103 390101", "810301400082028281830132");
-    says("D015810301400082028182 350103 39020001 3C03011F90", "81030140008202828183023A06");
+    says("D015810301400082028182 350103 39020001 3C03031F90", "81030140008202828183023A06");
     says("D014810301400082028182 350103 39020001 3C020100", "810301400082028281830132");
     says("D010810301400082028182 350103 39020000", "81030140008202828183023A04");
     says("D018810301400082028182 350103 39020000 04020101 04020102", "81030140008202828183023A04");
@@ -375,6 +376,227 @@ static void dropping(void)
     says("A001", "R4");
 }
 
+#define OPEN_DATAGRAMS "D015810301400182028182 350103 39020040 3C03011F90"
+#define OPEN_LATER "D015810301400082028182 350103 39020040 3C03011F90"
+#define OPENED_64 "810301400182028281830100 38028100 350103 39020040"
+#define OPENED_LATER "810301400082028281830100 38020100 350103 39020040"
+#define CLOSE_1 "D009810301410082028121"
+#define CLOSED "810301410082028281830100"
+#define RECEIVE_0 "D00C810301420082028121 370100"
+#define RECEIVE_1 "D00C810301420082028121 370101"
+#define RECEIVE_9 "D00C810301420082028121 370109"
+#define RECEIVE_255 "D00C810301420082028121 3701FF"
+#define STORE_NONE "D00B810301430082028121 3600"
+#define END_NONE "D00B810301430182028121 3600"
+#define STORE_ONE "D00C810301430082028121 360141"
+#define END_ONE "D00C810301430182028121 360142"
+#define NOT_STORED "81030143008202828183023A04"
+#define NOT_ENDED "81030143018202828183023A04"
+
+/* One frame so many times, each with the same line. */
+static void says_times(unsigned times, const char *in, const char *line)
+{
+    for (unsigned i = 0; i < times; i++)
+        says(in, line);
+}
+
+/* SEND DATA of one byte so many times, each a datagram; the room that was told falls by one from `room`. */
+static void ends_times(unsigned times, unsigned room)
+{
+    for (unsigned i = 0; i < times; i++) {
+        sprintf(two, "810301430182028281830100 3701%02X", room - 1 - i);
+        says(END_ONE, two);
+    }
+}
+
+/* The kinds of channel, by the first byte of 3C. */
+static void kinds(void)
+{
+    start("kinds", FULL);
+    says("D015810301400182028182 350103 39020040 3C03001F90", "81030140018202828183023A06");
+    says("D015810301400182028182 350103 39020040 3C03031F90", "81030140018202828183023A06");
+    says("D015810301400182028182 350103 39020000 3C03FF1F90", "81030140018202828183023A06");
+    says("D015810301400182028182 350109 39020040 3C03031F90", "810301400182028281830130");
+    says("D015810301400182028182 350103 39020000 3C03011F90", "81030140018202828183023A04");
+    says("D014810301400182028182 350103 39020040 3C02011F", "810301400182028281830132");
+    says("D01A810301400182028182 350103 39020040 3C03011F90 3C03021F90",
+         "810301400182028281830101 38028100 350103 39020040");
+    says("A0014142", "--");
+    says("A00143", "--");
+    says(RECEIVE_9, "810301420082028281830102 36024142 370101");
+    says(CLOSE_1, CLOSED);
+    says("D01A810301400182028182 350103 39020040 3C03021F90 3C03011F90",
+         "810301400182028281830101 38028100 350103 39020040");
+    says("A0014142", "--");
+    says("A00143", "--");
+    says(RECEIVE_9, "810301420082028281830102 3603414243 370100");
+    says("D015810301400082028182 350103 3902FFFF BC03010000", "810301400082028281830107 38020200 350103 390205DC");
+    says("D009810301440082028182", "810301440082028281830100 38028100 38020200");
+}
+
+/* Arrivals of a datagram channel: one each, 16 at most, none of no bytes. */
+static void datagrams_arriving(void)
+{
+    start("datagrams arriving", FULL);
+    says(OPEN_DATAGRAMS, OPENED_64);
+    says(LIST_09, LISTED);
+    says("A001", "--");
+    says(RECEIVE_1, "810301420082028281830102 3600 370100");
+    says("A001414243", "D60E1901098202828138028100370103");
+    says("A0015152", "D60E1901098202828138028100370105");
+    says("D00B810301050082028182 9900", LISTED);
+    says_times(14, "A00161", "--");
+    says("A00162", "R11");
+    says("A001", "--");
+    arrives(0, 45, "R11");
+    arrives(0, 46, "R6");
+    says(RECEIVE_1, "810301420082028281830100 360141 370112");
+    says("A00162", "R11");
+    says(RECEIVE_9, "810301420082028281830102 36024243 370110");
+    arrives(0, 48, "--");
+    says("A00162", "R6");
+    says("A001", "--");
+    says("A008", "R3");
+    says("A002", "R4");
+    says("A201", "--");
+    says("A00162", "R5");
+    says("A001", "R5");
+    says(RECEIVE_9, "810301420082028281830102 36025152 37013E");
+    says(OPEN_LATER, "810301400082028281830100 38020200 350103 39020040");
+    says("A002", "R5");
+}
+
+/* RECEIVE DATA within, to and past the end of a datagram. */
+static void datagrams_received(void)
+{
+    start("datagrams received", FULL);
+    says(OPEN_1500, OPENED_1500);
+    says(CLOSE_1, CLOSED);
+    says("D015810301400182028182 350103 390205DC 3C03011F90", OPENED_1500);
+    says(RECEIVE_0, "810301420082028281830100 3600 370100");
+    says("A001414243", "--");
+    says("A0015152", "--");
+    says(RECEIVE_0, "810301420082028281830100 3600 370105");
+    says("D00C810301420082028121 370102", "810301420082028281830100 36024142 370103");
+    says("D00E810301420082028121 370101 5E00", "810301420082028281830101 360143 370102");
+    says("D00E810301420082028121 370109 5E00", "810301420082028281830102 36025152 370100");
+    says(RECEIVE_1, "810301420082028281830102 3600 370100");
+    arrives(0, 237, "--");
+    arrives(0, 500, "--");
+    arrives(7, 1, "--");
+    says(RECEIVE_255, counted(two, "8103014200820282818301023681ED", 0, 237, "3701FF"));
+    says("D00C8103014200820281213701ED", counted(two, "8103014200820282818301003681ED", 0, 237, "3701FF"));
+    says("D00C8103014200820281213701EE", counted(two, "8103014200820282818301023681ED", 237, 237, "37011B"));
+    says(RECEIVE_255, counted(two, "810301420082028281830102361A", 474, 26, "370101"));
+    says("A201", "--");
+    says(RECEIVE_255, "810301420082028281830102 360107 370100");
+    says("D00C810301420082028122 370101", "81030142008202828183023A03");
+}
+
+/* SEND DATA of a datagram channel: begun, joined, ended, 16 at most with the unfinished one. */
+static void datagrams_sent(void)
+{
+    start("datagrams sent", FULL);
+    says(OPEN_LATER, OPENED_LATER);
+    says(STORE_NONE, "810301430082028281830100 370140");
+    says(STORE_ONE, "810301430082028281830100 37013F");
+    says("A1010040", "R5");
+    says(END_NONE, "810301430182028281830100 37013F");
+    says(END_NONE, "810301430182028281830100 37013F");
+    says("A1010040", "41");
+    says("A1010000", "--");
+    says(STORE_ONE, "810301430082028281830100 37013F");
+    says(STORE_NONE, "810301430082028281830100 37013F");
+    says("A1010000", "--");
+    says("D00D810301430082028121 36024344", "810301430082028281830100 37013D");
+    says(END_ONE, "810301430182028281830100 37013C");
+    says(STORE_ONE, "810301430082028281830100 37013B");
+    says("A1010040", "41434442");
+    says("A1010040", "--");
+    says(counted(one, "D04B 8103014301 82028121 3640", 0, 64, ""), NOT_ENDED);
+    says(END_NONE, "810301430182028281830100 37013F");
+    says("A1010040", "41");
+    ends_times(15, 64);
+    says(STORE_ONE, "810301430082028281830100 370130");
+    says(STORE_ONE, "810301430082028281830100 37012F");
+    says(END_ONE, "810301430182028281830100 37012E");
+    says(STORE_ONE, NOT_STORED);
+    says(END_ONE, NOT_ENDED);
+    says(STORE_NONE, "810301430082028281830100 37012E");
+    says(END_NONE, "810301430182028281830100 37012E");
+    says_times(15, "A1010001", "42");
+    says("A1010002", "R12");
+    says(END_ONE, "810301430182028281830100 37013C");
+    says("A1010003", "414142");
+    says("A1010003", "42");
+    says("A1010003", "--");
+    start("an end of nothing", FULL);
+    says(OPEN_LATER, OPENED_LATER);
+    says(END_NONE, "810301430182028281830100 370140");
+    says("D009810301440082028182", "810301440082028281830100 38028100");
+    says("A1010000", "--");
+}
+
+/* Takes of a datagram channel: one whole, or none, or R12. */
+static void datagrams_taken(void)
+{
+    start("datagrams taken", FULL);
+    says(OPEN_DATAGRAMS, OPENED_64);
+    says("A1010000", "--");
+    says("A10105DC", "--");
+    says("D00E810301430182028121 3603515253", "810301430182028281830100 37013D");
+    says(END_ONE, "810301430182028281830100 37013C");
+    says("A1010002", "R12");
+    says("A1010000", "R12");
+    says(STORE_NONE, "810301430082028281830100 37013C");
+    says("A10105DC", "515253");
+    says("A1010001", "42");
+    says("A1010001", "--");
+    says(END_ONE, "810301430182028281830100 37013F");
+    says("A1080000", "R3");
+    says("A1020000", "R4");
+    says("A201", "--");
+    says("A1010000", "R5");
+}
+
+/* What a drop keeps, and what closing and a new start discard. */
+static void datagrams_kept(void)
+{
+    start("datagrams kept", FULL);
+    says(OPEN_DATAGRAMS, OPENED_64);
+    says_times(16, "A0014142", "--");
+    ends_times(15, 64);
+    says(STORE_ONE, "810301430082028281830100 370130");
+    says(RECEIVE_1, "810301420082028281830100 360141 37011F");
+    says("A201", "--");
+    says(END_NONE, "81030143018202828183023A02");
+    says(RECEIVE_9, "810301420082028281830102 360142 37011E");
+    says(RECEIVE_9, "810301420082028281830102 36024142 37011C");
+    says(CLOSE_1, CLOSED);
+    says("D010810301400182028182 350103 39020040", OPENED_64);
+    says_times(17, "A00161", "--");
+    says(RECEIVE_9, "810301420082028281830100 3609616161616161616161 370108");
+    says(END_NONE, "810301430182028281830100 370140");
+    says("A1010040", "--");
+    ends_times(17, 64);
+    says("A1010002", "4242");
+    says(CLOSE_1, CLOSED);
+    says(OPEN_DATAGRAMS, OPENED_64);
+    says(RECEIVE_9, "810301420082028281830102 3600 370100");
+    says("A1010000", "--");
+    says_times(16, "A00171", "--");
+    says("A00171", "R11");
+    ends_times(16, 64);
+    says(END_ONE, NOT_ENDED);
+    start("a new start over datagrams", FULL);
+    says("A001", "R4");
+    says(OPEN_DATAGRAMS, OPENED_64);
+    says("A1010000", "--");
+    says(RECEIVE_9, "810301420082028281830102 3600 370100");
+    says_times(16, "A00171", "--");
+    says("A00171", "R11");
+}
+
 /* Runs every part and counts what is wrong. */
 int main(void)
 {
@@ -390,6 +612,12 @@ int main(void)
     event_list();
     sending();
     dropping();
+    kinds();
+    datagrams_arriving();
+    datagrams_received();
+    datagrams_sent();
+    datagrams_taken();
+    datagrams_kept();
     printf("selftest: %u answers held to the paper, %u wrong\n", steps, wrong);
     return wrong != 0;
 }
