@@ -78,14 +78,11 @@ module _ (t : List ℕ) (at i : ℕ) (c : Counted t at i) where
       let r : i ≡ length (lengthsFrom placeCount (drop at t)) = omega (arith, c .all, l) in
       r ∙ ap (λ (k : ℕ). length (lengthsFrom placeCount (drop k t))) e
 
-  -- so does the last place
-  pub count-all : (n : ChannelNumber) (w : Way) → at ≡ lengthsAt n w → placeCount ≤ i → i ≡ length (lengthsIn t n w)
-  unfolding lengthsFrom
-  count-all n w e h =
-      let none : placeCount - i ≡ 0 = omega arith in
-      let l = ap (λ (k : ℕ). length (lengthsFrom k (drop (at + i) t))) none in
-      let r : i ≡ length (lengthsFrom placeCount (drop at t)) = omega (arith, c .all, l) in
-      r ∙ ap (λ (k : ℕ). length (lengthsFrom placeCount (drop k t))) e
+  -- where one more has a place, the count has not come to the last
+  pub count-below : (n : ChannelNumber) (w : Way) → at ≡ lengthsAt n w → length (lengthsIn t n w) + 1 ≤ placeCount → i < placeCount
+  count-below n w e h =
+      let r : length (lengthsFrom placeCount (drop at t)) ≡ length (lengthsIn t n w) = ap (λ (k : ℕ). length (lengthsFrom placeCount (drop k t))) e in
+      omega (arith, c .all, r, h)
 
 -- no bytes make no datagram
 pub length-none : (t : List ℕ) (n : ChannelNumber) (w : Way) (k : ℕ) → k < 1 → t ≡ withLength t n w k

@@ -267,17 +267,15 @@ pub fn at_once(
     *first as usize
 }
 
-// How many datagrams of a way are whole.
+// How many datagrams of a way are whole, where one more has a place.
 fn whole_count(ledger: &[u16; Ledger::SIZE], n: ChannelNumber, way: Way) -> usize
     requires { ⌜ (1 ≤ n .0) × (n .0 ≤ 7) × (length (now ledger) ≡ ledgerSize) ⌝ }
+    requires { ⌜ length (lengthsIn (now ledger) n way) + 1 ≤ placeCount ⌝ }
     ensures { λ r. ⌜ r ≡ length (lengthsIn (now (ledger .entry)) n way) ⌝ }
 {
     let at = lengths_at(n, way);
     let mut i: usize = 0;
-    while i < Ledger::PLACES {
-        if ledger[at + i] < 1 {
-            return i;
-        }
+    while 0 < ledger[at + i] {
         i += 1;
     }
     i
