@@ -25,7 +25,7 @@ use Rattle.rules.proofs.Readings.{reading-cases}
 use Rattle.rules.proofs.Refusals.{refusal-stays}
 use Rattle.rules.proofs.Told.{open-changed}
 
--- an arrival on an established link, and a SEND DATA on a link that was not dropped: only the room is left to test
+-- an arrival on an established link, and a SEND DATA on a link that was not dropped: the room is left to test, and then the place
 pub arrival-last :
     (Q : Answer → Type 0) (a : State) (buffer : ℕ) (n : ChannelNumber) (s : List ℕ) → 16 ≤ buffer → Linked a n →
     (room (chan a n) Receive < length s → Q (refusal a Overfull)) →
