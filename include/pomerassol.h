@@ -21,7 +21,7 @@ extern "C" {
 #define POMERASSOL_ASSERT _Static_assert
 #endif
 
-/* A number that a call returns is the count of bytes written, at most 1500, or this flag plus the refusal's number, 1 to 9. */
+/* A number that a call returns is the count of bytes written, at most 1500, or this flag plus the refusal's number: 1 to 9, 11 or 12. */
 #define POMERASSOL_REFUSED UINT32_C(0x1000000)
 
 /* The link of a channel, by its number. */
@@ -29,32 +29,42 @@ extern "C" {
 #define POMERASSOL_ESTABLISHED 1
 #define POMERASSOL_DROPPED 2
 
-/* The ledger is 50 numbers. Here is the place of each:
+/* What a channel carries, by its number. */
+#define POMERASSOL_STREAM 0
+#define POMERASSOL_DATAGRAMS 1
+
+/* The ledger is 281 numbers. Here is the place of each:
  *   - from 0 to 12 the kept bytes of the profile, each at most 255;
  *   - 13 and 14 the event list: whether 09, data available, and 0A, channel status, are listed. Each is 0 or 1;
- *   - from 15 on five numbers for each of the channels 1 to 7, in this order: its grant (0 where it is not open), its link,
- *     the bytes held for receive, the bytes held for send, and how many of those to send are ready. */
+ *   - from 15 on 38 numbers for each of the channels 1 to 7, in this order: its grant (0 where it is not open), its link,
+ *     the bytes held for receive, the bytes held for send, how many of those to send are ready, and what it carries; then
+ *     16 lengths of the datagrams held for receive, and 16 of the finished ones held for send, oldest first, 0 where there
+ *     is none. The bytes to send that are not ready are those of the unfinished datagram. */
 #define POMERASSOL_PROFILE 0
 #define POMERASSOL_PROFILE_SIZE 13
 #define POMERASSOL_EVENT_AVAILABLE 13
 #define POMERASSOL_EVENT_STATUS 14
-#define POMERASSOL_CHANNEL(n) (15 + 5 * ((n) - 1))
+#define POMERASSOL_PLACES 16
+#define POMERASSOL_CHANNEL(n) (15 + 38 * ((n) - 1))
 #define POMERASSOL_GRANT(n) (POMERASSOL_CHANNEL(n) + 0)
 #define POMERASSOL_LINK(n) (POMERASSOL_CHANNEL(n) + 1)
 #define POMERASSOL_RX(n) (POMERASSOL_CHANNEL(n) + 2)
 #define POMERASSOL_TX(n) (POMERASSOL_CHANNEL(n) + 3)
 #define POMERASSOL_READY(n) (POMERASSOL_CHANNEL(n) + 4)
+#define POMERASSOL_CARRIES(n) (POMERASSOL_CHANNEL(n) + 5)
+#define POMERASSOL_RX_LENGTHS(n) (POMERASSOL_CHANNEL(n) + 6)
+#define POMERASSOL_TX_LENGTHS(n) (POMERASSOL_RX_LENGTHS(n) + POMERASSOL_PLACES)
 
 /* What a host keeps for a card. Every held byte lies in the pool; a host reads the record if it likes, and never writes it. */
 typedef struct {
-    uint16_t ledger[50];
+    uint16_t ledger[281];
     uint8_t pool[8192];
 } pomerassol_session;
 
-POMERASSOL_ASSERT(sizeof(pomerassol_session) == 8292, "session");
+POMERASSOL_ASSERT(sizeof(pomerassol_session) == 8754, "session");
 POMERASSOL_ASSERT(offsetof(pomerassol_session, ledger) == 0, "ledger");
-POMERASSOL_ASSERT(offsetof(pomerassol_session, pool) == 100, "pool");
-POMERASSOL_ASSERT(POMERASSOL_READY(7) == 49, "ready");
+POMERASSOL_ASSERT(offsetof(pomerassol_session, pool) == 562, "pool");
+POMERASSOL_ASSERT(POMERASSOL_TX_LENGTHS(7) + POMERASSOL_PLACES == 281, "lengths");
 
 /* A fresh session from profile bytes of any length; at a card's reset, anew. The record may hold anything, as memory that is
  * all 0. Afterwards it shows `start` of the profile: no channel, no event, an empty pool. */
@@ -65,11 +75,13 @@ void pomerassol_start(pomerassol_session *s, const uint8_t *profile, size_t prof
 uint32_t pomerassol_command(pomerassol_session *s, const uint8_t *bytes, size_t bytes_size, uint8_t *out, size_t out_size);
 
 /* The radio brings bytes for a channel. The answer is `arrival`: the bytes are stored whole, and event 09, 16 bytes, tells
- * of them where it is listed; else no byte is written. R1 where the buffer has fewer than 16 bytes, then R3 to R6. */
+ * of them where it is listed; else no byte is written. On a datagram channel they are one datagram; R11 where it would be
+ * the seventeenth held. R1 where the buffer has fewer than 16 bytes, then R3 to R6, then R11. */
 uint32_t pomerassol_arrival(pomerassol_session *s, uint8_t channel, const uint8_t *bytes, size_t bytes_size, uint8_t *out, size_t out_size);
 
 /* The radio takes the bytes of a channel that are ready. The answer is `taking`: as many of them as fit the buffer, in
- * order, and they are held no longer. R3 to R5. */
+ * order, and they are held no longer. Of a datagram channel it is the oldest finished datagram, whole; R12 where the buffer
+ * is shorter. R3 to R5, then R12. */
 uint32_t pomerassol_take(pomerassol_session *s, uint8_t channel, uint8_t *out, size_t out_size);
 
 /* The radio tells that the link of a channel was dropped. The answer is `dropping`: the link is dropped, what is held stays,
