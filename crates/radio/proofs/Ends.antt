@@ -3,12 +3,12 @@
 use Prim.Native.Nat.{ℕ, zero, suc, _+_, _-_, _≤_, _<_, min}
 use mathlib.Core.Path.{_≡_, refl, sym, ap, subst, _∙_}
 use mathlib.Core.Bool.{Bool, true, false, not, _&&_, and-false}
-use mathlib.Core.List.{List, [], _∷_, append-nil}
+use mathlib.Core.List.{List, [], _∷_, _++_, append-nil}
 use native.Mathlib.Omega.{arith}
 use lib.ListN.{length, take, getD, length-append, length-take}
-use lib.Dec.{ltb, leb}
+use lib.Dec.{ltb, leb, eqb}
 use lib.Seq.{set-getD}
-use borrow.Author.Tests.{lt-ltb, le-ltb, leb-false}
+use borrow.Author.Tests.{lt-ltb, le-ltb, leb-false, eq-eqb, ne-eqb}
 use Rattle.rules.specs.declared.ChannelNumber.{ChannelNumber}
 use Rattle.rules.specs.declared.Link.the-variants.{Dropped}
 use Rattle.rules.specs.declared.Refusal.the-variants.{Overfull, NoPlace, Undersized}
@@ -23,7 +23,7 @@ use Rattle.rules.specs.Command.{answered, refusal}
 use Rattle.rules.specs.Radio.{arrivalEvent, arrival, taking, dropEvent, dropping}
 use Rattle.rules.specs.Run.{Call, arriving, takingOut, droppingLink, step}
 use Rattle.rules.specs.Sound.{Sound}
-use Rattle.rules.proofs.Laws.{branch, stop, skip}
+use Rattle.rules.proofs.Laws.{branch, stop, skip, empty-length}
 use Rattle.rules.proofs.Soundness.{step-sound}
 use Rattle.octets.specs.Parts.{part, pasted}
 use Rattle.session.specs.declared.Channel.{Channel}
@@ -62,24 +62,30 @@ listed-is : (k : ℕ) → 1 ≤ k → listed k ≡ true
 listed-is zero h = absurd (omega arith)
 listed-is (suc k) h = refl
 
--- event 09 is told where bytes came and it is listed
+-- event 09 is told where nothing was held, bytes came and it is listed
 module _ (a : State) (n : ChannelNumber) where
   silent-empty : (s : List ℕ) → length s ≡ 0 → arrivalEvent a n s ≡ []
   unfolding arrivalEvent isEmpty
-  silent-empty [] e = skip _ _ _ refl
+  silent-empty [] e = skip _ _ _ (ap (λ (b : Bool). b && a .events .available) (and-false (isEmpty (held (chan a n) Receive))))
   silent-empty (x ∷ s) e = absurd (let z : suc (length s) ≡ 0 = e in omega arith)
 
   silent-unlisted : (s : List ℕ) → a .events .available ≡ false → arrivalEvent a n s ≡ []
   unfolding arrivalEvent
-  silent-unlisted s e = skip _ _ _ (ap (λ (b : Bool). not (isEmpty s) && b) e ∙ and-false (not (isEmpty s)))
+  silent-unlisted s e =
+      let came = isEmpty (held (chan a n) Receive) && not (isEmpty s) in
+      skip _ _ _ (ap (λ (b : Bool). came && b) e ∙ and-false came)
+
+  silent-held : (s : List ℕ) → isEmpty (held (chan a n) Receive) ≡ false → arrivalEvent a n s ≡ []
+  unfolding arrivalEvent
+  silent-held s e = skip _ _ _ (ap (λ (b : Bool). b && not (isEmpty s) && a .events .available) e)
 
   heard :
-      (s : List ℕ) → (length s ≡ 0 → ⊥) → a .events .available ≡ true →
+      (s : List ℕ) → isEmpty (held (chan a n) Receive) ≡ true → (length s ≡ 0 → ⊥) → a .events .available ≡ true →
       arrivalEvent a n s ≡
       (let c = appended (chan a n) Receive s in eventBytes 0x09 (statusObject n (c .link) ∷ unflagged 0x37 (capped (length (held c Receive)) ∷ []) ∷ []))
   unfolding arrivalEvent isEmpty
-  heard [] h e = absurd (h refl)
-  heard (x ∷ s) h e = stop _ _ _ e
+  heard [] none h e = absurd (h refl)
+  heard (x ∷ s) none h e = stop _ _ _ (λ i. none i && true && e i)
 
 -- no bytes make no datagram, and change nothing
 arrived-nothing : (c : Chan) → arrived c [] ≡ c
@@ -217,20 +223,31 @@ module _ {t p : List ℕ} {n : ChannelNumber} {x : Channel} (u : Usable t p n x)
           accept-unlisted e =
               quiet-answers _ _ _ t′ p′ out (sound (arriving (length out) n s)) stored (silent-unlisted a n s (listed-not (getD t availableAt 0) e)) shows
 
-          told : 1 ≤ getD t availableAt 0 → arrivalEvent a n s ≡ arrivalTold n (x .rx + length s)
+          none-held : isEmpty (held c Receive) ≡ eqb (x .rx) 0
+          unfolding entry
+          none-held = sym (empty-length (held c Receive)) ∙ ap (λ (y : Channel). eqb (y .rx) 0) (sym is)
+
+          pub accept-held : 0 < x .rx → Answers (arrival a (length out) n s) t′ p′ (Wrote 0) out out
+          unfolding step
+          accept-held e =
+              quiet-answers _ _ _ t′ p′ out (sound (arriving (length out) n s)) stored (silent-held a n s (none-held ∙ ne-eqb (x .rx) 0 (omega arith))) shows
+
+          told : 1 ≤ getD t availableAt 0 → x .rx ≤ 0 → arrivalEvent a n s ≡ arrivalTold n (length s)
           unfolding arrivalTold appended withQueue queue joined shown entry
-          told e =
-              let sum = length-append (held c Receive) s ∙ ap (λ (y : Channel). y .rx + length s) (sym is) in
-              heard a n s some (listed-is (getD t availableAt 0) e)
+          told e none =
+              let empty : x .rx ≡ 0 = omega arith in
+              let more = length-append (held c Receive) s ∙ ap (λ (y : Channel). y .rx + length s) (sym is) in
+              let sum : length (held c Receive ++ s) ≡ length s = omega (arith, more, empty) in
+              heard a n s (none-held ∙ eq-eqb (x .rx) 0 empty) some (listed-is (getD t availableAt 0) e)
               ∙ (λ i. eventBytes 0x09 (statusObject n (u .link i) ∷ unflagged 0x37 (capped (sum i) ∷ []) ∷ []))
 
           pub accept-told :
-              (after : List ℕ) → 1 ≤ getD t availableAt 0 → after ≡ overlaid (arrivalTold n (x .rx + length s)) out →
+              (after : List ℕ) → 1 ≤ getD t availableAt 0 → x .rx ≤ 0 → after ≡ overlaid (arrivalTold n (length s)) out →
               Answers (arrival a (length out) n s) t′ p′ (Wrote 16) out after
           unfolding arrivalTold eventBytes written objectBytes statusObject statusBytes lengthBytes _⇒_else_ step
-          accept-told after e o =
-              wrote-answers _ _ (arrivalTold n (x .rx + length s)) t′ p′ out after (sound (arriving (length out) n s))
-              (stored ∙ ap (answered _) (told e)) shows o
+          accept-told after e none o =
+              wrote-answers _ _ (arrivalTold n (length s)) t′ p′ out after (sound (arriving (length out) n s))
+              (stored ∙ ap (answered _) (told e none)) shows o
 
   -- the bytes to send lie in the pool, from where they begin, and those that may be handed out at once are the first of them
   pub send-lies : (at most : ℕ) → at ≡ startIn t n (x .grant) Send → most ≡ atOnce c Send → (at + x .tx ≤ length p) × (most ≤ x .tx)

@@ -37,7 +37,7 @@ pub record Usable (t p : List ℕ) (n : ChannelNumber) (e : Channel) : Type 0 wh
 
 -- the bytes of event 09 for an established channel, and of event 0A for a dropped one
 unfoldable pub arrivalTold : ChannelNumber → ℕ → List ℕ
-arrivalTold n held = eventBytes 0x09 (statusObject n Established ∷ unflagged 0x37 (capped held ∷ []) ∷ [])
+arrivalTold n count = eventBytes 0x09 (statusObject n Established ∷ unflagged 0x37 (capped count ∷ []) ∷ [])
 
 unfoldable pub dropTold : ChannelNumber → List ℕ
 dropTold n = eventBytes 0x0A (statusObject n Dropped ∷ [])

@@ -69,10 +69,10 @@ fn permitted(ledger: &[u16; Ledger::SIZE], n: ChannelNumber) -> Permit
     Permit::Pass(c)
 }
 
-// Writes event 09: an established channel, and how many bytes are held for it.
-fn tell_arrival(out: &mut [u8], n: ChannelNumber, held: usize)
+// Writes event 09: an established channel, and how many bytes came.
+fn tell_arrival(out: &mut [u8], n: ChannelNumber, count: usize)
     requires { ⌜ (n .0 ≤ 7) × (16 ≤ length (now out)) ⌝ }
-    ensures { λ _. ⌜ now (out .exit) ≡ overlaid (arrivalTold n held) (now (out .entry)) ⌝ }
+    ensures { λ _. ⌜ now (out .exit) ≡ overlaid (arrivalTold n count) (now (out .entry)) ⌝ }
 {
     let status = n.0 + 0x80;
     let event = [
@@ -91,7 +91,7 @@ fn tell_arrival(out: &mut [u8], n: ChannelNumber, held: usize)
         0x00,
         0x37,
         0x01,
-        capped(held),
+        capped(count),
     ];
     octets::put(out, 0, &event);
 }
@@ -119,7 +119,7 @@ fn tell_drop(out: &mut [u8], n: ChannelNumber)
     octets::put(out, 0, &event);
 }
 
-// An arrival on a channel that may be used: R6 and R11, or the bytes are stored whole and event 09 tells of them.
+// An arrival on a channel that may be used: R6 and R11, or the bytes are stored whole, and where none were held event 09 tells of them.
 fn accept(
     ledger: &mut [u16; Ledger::SIZE],
     pool: &mut [u8; Pool::SIZE],
@@ -146,7 +146,10 @@ fn accept(
     if listed < 1 {
         return Ended::Wrote(0);
     }
-    tell_arrival(out, n, held + bytes.len());
+    if 0 < c.rx {
+        return Ended::Wrote(0);
+    }
+    tell_arrival(out, n, bytes.len());
     Ended::Wrote(ARRIVAL_SIZE)
 }
 

@@ -9,14 +9,16 @@ use native.Mathlib.Omega.{arith}
 use lib.ListN.{length, getD, take, drop, length-append, length-take, length-drop}
 use lib.Seq.{take-take, drop-append-seam, drop-append-add}
 use lib.Dec.{ltb, leb, eqb}
-use borrow.Author.Tests.{le-leb, lt-leb, eq-eqb}
+use borrow.Author.Tests.{le-leb, lt-leb, eq-eqb, eqb-true}
 use Rattle.rules.specs.declared.ChannelNumber.{ChannelNumber}
+use Rattle.rules.specs.declared.Events.{Events}
 use Rattle.rules.specs.declared.Link.{Link}
+use Rattle.rules.specs.declared.Link.the-variants.{Dropped}
 use Rattle.rules.specs.Checks.{_⇒_else_, isEmpty, some-of, member}
 use Rattle.rules.specs.Words.{channelOf}
 use Rattle.rules.specs.declared.Way.{Way}
 use Rattle.rules.specs.declared.Way.the-variants.{Receive, Send}
-use Rattle.rules.specs.State.{State, Chan, closed, isOpen, isStream, isEstablished, isDropped, chan, room, queue, held, due, atOnce, without, withQueue, removed, appended, arrived, unfinished, placesUsed, crowded}
+use Rattle.rules.specs.State.{State, Chan, closed, isOpen, isStream, isEstablished, isDropped, chan, room, queue, held, due, atOnce, without, joined, withQueue, marked, removed, appended, arrived, dropped, unfinished, placesUsed, crowded}
 use Rattle.rules.specs.Datagrams.{total, pieces, behind}
 use Rattle.rules.specs.Reading.{reading, kindOf, toModem, Command, Body, Bearer, closeChannel, receiveData, sendData}
 use Rattle.rules.specs.Sound.{SoundChan}
@@ -24,19 +26,20 @@ use Rattle.rules.specs.declared.Refusal.the-variants.{Undersized}
 use Rattle.rules.specs.Own.{Reply, Result, Further, nothing, opened, received, sent, statuses, error, problem, done, capped, plain, closing, receiving, own}
 use Rattle.rules.specs.Written.{unflagged, statusObject, eventBytes}
 use Rattle.rules.specs.Command.{Answer, Outcome, wrote, refused, meantBy}
-use Rattle.rules.specs.Radio.{numbered, arrivalEvent, taking}
+use Rattle.rules.specs.Radio.{numbered, arrivalEvent, taking, dropEvent}
 use Rattle.rules.specs.Run.{Call, starting, commanding, arriving, takingOut, droppingLink, step}
 use Rattle.rules.specs.Bench.{Told, told, untold, benchRead}
-use Rattle.rules.specs.History.{History, ended, openedWith, commandSeen, closes, sameNumber, answerTells, heardTells, tells, carriedIn, oldestReady, side, heldBy, datagramsBy, finishedBy, buildingBy, wholesBy, atOnceBy, placesBy}
-use Rattle.rules.specs.Demands.{Tells, Follows, reached, told-of, next, latest, accepted, isDone, resultTold, heard, heardDone, answerTo, crowdedBy, Passed, opensNumber, touches}
-use Rattle.rules.proofs.Laws.{by-way, branch, stop, skip, either-left, either-right, and-false, same-kind, empty-length}
-use Rattle.rules.proofs.Cases.{arrival-cases, taking-cases, receiving-cases}
+use Rattle.rules.specs.History.{History, ended, openedWith, commandSeen, closes, sameNumber, answerTells, heardTells, tells, acceptedIn, wholeIn, withSide, carriedIn, oldestReady, side, heldBy, datagramsBy, finishedBy, buildingBy, wholesBy, atOnceBy, placesBy}
+use Rattle.rules.specs.Demands.{Tells, Follows, reached, told-of, next, latest, accepted, isDone, resultTold, heard, heardDone, answerTo, listed-by, raisedBy, crowdedBy, Passed, opensNumber, touches}
+use Rattle.rules.proofs.Laws.{by-way, branch, stop, skip, both-left, either-left, either-right, and-false, same-kind, empty-length}
+use Rattle.rules.proofs.Cases.{arrival-cases, taking-cases, dropping-cases, receiving-cases}
 use Rattle.rules.proofs.Datagrams.{first, first-taken, first-piece, length-pieces, pieces-lengths}
 use Rattle.rules.proofs.Soundness.{closed-sound, chan-sound, reached-sound, whole-link}
 use Rattle.rules.proofs.Told.{open-changed, whole-held}
 use Rattle.rules.proofs.Matching.{closed-told, numbered-of}
 use Rattle.rules.proofs.Answers.{arrival-last, sending-last, meant-own, seen-read, Counts, meant-counts, unaccepted-stays, undone-stays}
 use Rattle.rules.proofs.Histories.{follows}
+use Rattle.rules.proofs.Listed.{lists}
 use Rattle.rules.proofs.Outside.{reached-next, told-next, answer-meant, answer-tells, done-asked, read-reached, own-heard, own-next, aimed-number}
 
 -- what a history leaves held for a way is what the channel holds
@@ -59,13 +62,17 @@ rest-is x y z e = ap (λ (l : List ℕ). drop (length x) l) (sym e) ∙ drop-app
 pub rest-told : (c : Chan) (h : History) → Tells c h → (w : Way) → drop (length (side h w .out)) (side h w .accepted) ≡ held c w
 rest-told c h f w = rest-is (side h w .out) (held c w) (side h w .accepted) (f .order w)
 
--- an event that tells a channel, as the history has it
+-- what came where nothing was held, as the history has it
 event-same :
-    (n : ChannelNumber) (c : Chan) (h : History) → Tells c h →
-    eventBytes 0x09 (statusObject n (c .link) ∷ unflagged 0x37 (capped (length (held c Receive)) ∷ []) ∷ []) ≡
-    eventBytes 0x09 (statusObject n (h .link) ∷ unflagged 0x37 (capped (heldBy h Receive) ∷ []) ∷ [])
-event-same n c h f =
-    λ i. eventBytes 0x09 (statusObject n (sym (f .link) i) ∷ unflagged 0x37 (capped (sym (held-told c h f Receive) i) ∷ []) ∷ [])
+    (n : ChannelNumber) (c : Chan) (h : History) → Tells c h → (s : List ℕ) → isEmpty (held c Receive) ≡ true →
+    eventBytes 0x09 (statusObject n (appended c Receive s .link) ∷ unflagged 0x37 (capped (length (held (appended c Receive s) Receive)) ∷ []) ∷ []) ≡
+    eventBytes 0x09 (statusObject n (h .link) ∷ unflagged 0x37 (capped (length s) ∷ []) ∷ [])
+unfolding appended withQueue joined queue
+event-same n c h f s none =
+    let empty = eqb-true (length (c .receive .bytes)) 0 (empty-length (c .receive .bytes) ∙ none) in
+    let sum = length-append (c .receive .bytes) s in
+    let all : length (c .receive .bytes ++ s) ≡ length s = omega (arith, empty, sum) in
+    λ i. eventBytes 0x09 (statusObject n (sym (f .link) i) ∷ unflagged 0x37 (capped (all i) ∷ []) ∷ [])
 
 -- of datagrams: those to send that are finished, the bytes behind them, and the first of each way
 finished-rest : (c : Chan) (h : History) → Tells c h → isStream (c .carries) ≡ false → finishedBy h ≡ pieces (c .send .lengths) (c .send .bytes)
@@ -208,16 +215,6 @@ untouched-tells n h (droppingLink buffer m) (refused r) e = refl
 fits-so : (k space : ℕ) (t : Bool) → k ≤ space → (u : Bool) → t ≡ u → leb k space && not t ≡ not u
 fits-so k space t h u e = (λ i. le-leb k space h i && not (e i))
 
--- the event tells the channel behind the arrival
-event-arrived :
-    (n : ChannelNumber) (c : Chan) (s : List ℕ) →
-    eventBytes 0x09 (statusObject n (appended c Receive s .link) ∷ unflagged 0x37 (capped (length (held (appended c Receive s) Receive)) ∷ []) ∷ []) ≡
-    eventBytes 0x09 (statusObject n (arrived c s .link) ∷ unflagged 0x37 (capped (length (held (arrived c s) Receive)) ∷ []) ∷ [])
-unfolding arrived
-event-arrived n c s =
-    let x = appended c Receive s in
-    λ i. eventBytes 0x09 (statusObject n (sym (whole-link x Receive (length s)) i) ∷ unflagged 0x37 (capped (length (sym (whole-held x Receive Receive (length s)) i)) ∷ []) ∷ [])
-
 -- a call that was not accepted, and a command that was not done, change nothing
 pub refused-stays : (p : List ℕ) (cs : List Call) (c : Call) → accepted (step (reached p cs) c .outcome) ≡ false → reached p (next cs c) ≡ reached p cs
 refused-stays p cs c e = reached-next p cs c ∙ unaccepted-stays (reached p cs) c e
@@ -271,24 +268,45 @@ module _ (n : ChannelNumber) (from : 1 ≤ n .0) (upto : n .0 ≤ 7) (p : List �
       (λ f q. sym (fits-so (length s) space (crowdedBy h Receive s) (omega (arith, f, seen .grant, held-is Receive)) true (sym place ∙ q)))
       (λ f q. sym (fits-so (length s) space (crowdedBy h Receive s) (omega (arith, f, seen .grant, held-is Receive)) false (sym place ∙ q)))
 
-  -- the event that an arrival raises tells the link and the count of bytes held behind it, up to FF
-  pub event-told :
+  -- an accepted arrival raises event 09 exactly where nothing was held to be received, bytes came and 09 is listed; it tells the bytes that came, up to FF
+  pub event-raised : (buffer : ℕ) (s t : List ℕ) → step a (arriving buffer n s) .outcome ≡ wrote t → t ≡ raisedBy n h (listed-by p cs) s
+  unfolding step arrivalEvent raisedBy
+  event-raised buffer s t =
+      let none : eqb (heldBy h Receive) 0 ≡ isEmpty (held (chan a n) Receive) = ap (λ (k : ℕ). eqb k 0) (held-is Receive) ∙ empty-length (held (chan a n) Receive) in
+      arrival-cases (λ (r : Answer). r .outcome ≡ wrote t → t ≡ raisedBy n h (listed-by p cs) s) a (λ _ q. absurd (false≢true (cc))) buffer n s
+      (λ _ _ _ _ q.
+      let is : arrivalEvent a n s ≡ t = cc in
+      sym is ∙ same-kind _ _ _ _ _ _ (λ i. none i && not (isEmpty s) && lists p cs i .available) (λ e. event-same n (chan a n) h seen s (both-left _ _ (both-left _ _ e))) (λ _. refl))
+
+  -- and these are then all that are held
+  pub event-counts :
       (buffer : ℕ) (s t : List ℕ) → step a (arriving buffer n s) .outcome ≡ wrote t → isEmpty t ≡ false →
-      let h′ = told-of n p (next cs (arriving buffer n s)) in
-      t ≡ eventBytes 0x09 (statusObject n (h′ .link) ∷ unflagged 0x37 (capped (heldBy h′ Receive) ∷ []) ∷ [])
-  unfolding step arrivalEvent isEmpty
-  event-told buffer s t e f =
-      let h′ = told-of n p (next cs (arriving buffer n s)) in
-      let E : List ℕ = eventBytes 0x09 (statusObject n (h′ .link) ∷ unflagged 0x37 (capped (heldBy h′ Receive) ∷ []) ∷ []) in
-      let after : Tells (chan (step a (arriving buffer n s) .state) n) h′ = subst (λ (b : State). Follows n b h′) (reached-next p cs (arriving buffer n s)) (follows n p (next cs (arriving buffer n s)) from) in
-      arrival-cases (λ (r : Answer). r .outcome ≡ wrote t → Tells (chan (r .state) n) h′ → t ≡ E) a (λ _ q _. absurd (false≢true (cc))) buffer n s
-      (λ _ l _ _ q k.
-      let c = arrived (chan a n) s in
-      let now : Tells c h′ = subst (λ (d : Chan). Tells d h′) (open-changed a n c (l .stands)) k in
-      branch (λ (x : List ℕ). wrote x ≡ wrote t → t ≡ E) (not (isEmpty s) && a .events .available) _ _
-      (λ _ g. let is : _ ≡ t = cc in sym is ∙ event-arrived n (chan a n) s ∙ event-same n c h′ now)
-      (λ _ g. let none-told : t ≡ [] = cc in absurd (false≢true (sym f ∙ ap (λ (l : List ℕ). isEmpty l) none-told))) q)
-      e after
+      heldBy (told-of n p (next cs (arriving buffer n s))) Receive ≡ length s
+  unfolding isEmpty raisedBy tells wholeIn acceptedIn withSide side heldBy
+  event-counts buffer s t e f =
+      let all : ℕ = heldBy (told-of n p (next cs (arriving buffer n s))) Receive in
+      branch (λ (x : List ℕ). t ≡ x → all ≡ length s) _ _ _
+      (λ b _.
+      let none = eqb-true (heldBy h Receive) 0 (both-left _ _ (both-left _ _ b)) in
+      let now = told-next n p cs (arriving buffer n s) ∙ ap (tells n h (arriving buffer n s)) e ∙ stop _ _ _ (eq-eqb (n .0) (n .0) refl) in
+      let sum = length-append (h .receive .accepted) s in
+      let whole = sym (ap (λ (l : List ℕ). length l) (seen .order Receive)) ∙ length-append (h .receive .out) (held (chan a n) Receive) in
+      let counted : length (h .receive .accepted ++ s) - length (h .receive .out) ≡ length s = omega (arith, none, sum, whole) in
+      ap (λ (x : History). heldBy x Receive) now ∙ counted)
+      (λ _ q. absurd (false≢true (sym f ∙ ap (λ (l : List ℕ). isEmpty l) q)))
+      (event-raised buffer s t e)
+
+  -- an accepted drop raises event 0A exactly where it is listed
+  pub drop-raised :
+      (buffer : ℕ) (t : List ℕ) → step a (droppingLink buffer n) .outcome ≡ wrote t →
+      t ≡ (listed-by p cs .status ⇒ eventBytes 0x0A (statusObject n Dropped ∷ []) else [])
+  unfolding step dropEvent dropped marked
+  drop-raised buffer t =
+      let E : Events → List ℕ = λ (e : Events). e .status ⇒ eventBytes 0x0A (statusObject n Dropped ∷ []) else [] in
+      dropping-cases (λ (r : Answer). r .outcome ≡ wrote t → t ≡ E (listed-by p cs)) a (λ _ q. absurd (false≢true (cc))) buffer n
+      (λ _ _ q.
+      let is : dropEvent a n ≡ t = cc in
+      sym is ∙ ap E (sym (lists p cs)))
 
   -- of a take the number, the channel and its link pass
   permitted-so : (x y z w : Answer) → h .stands ≡ true → isEstablished (h .link) ≡ true → (not (numbered n) ⇒ x else not (isOpen (chan a n)) ⇒ y else not (isEstablished (chan a n .link)) ⇒ z else w) ≡ w

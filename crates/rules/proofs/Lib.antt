@@ -17,6 +17,7 @@ pub mod Matching
 pub mod Histories
 pub mod Answers
 pub mod Outside
+pub mod Listed
 pub mod Demands
 pub mod Openings
 pub mod Input

@@ -130,7 +130,7 @@ heard-wrote (wrote t) x e = (t, refl)
 heard-wrote (refused r) x e = absurd (false≢true (cc))
 
 -- the bench hears what the command call meant
-heard-meant :
+pub heard-meant :
     (a : State) (buffer : ℕ) (s t : List ℕ) → Sound a → command a buffer s .outcome ≡ wrote t →
     heard (command a buffer s .outcome) ≡ some (meantBy a (reading (a .profile) s) .response .result)
 unfolding heard resultTold

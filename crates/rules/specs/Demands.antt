@@ -5,21 +5,23 @@ use mathlib.Core.Bool.{Bool, true, false, not, _&&_, _||_}
 use mathlib.Core.List.{List, [], _∷_, _++_}
 use mathlib.Core.Option.{Option, none, some}
 use lib.ListN.{length}
-use lib.Dec.{leb}
-use Rattle.rules.specs.Checks.{isEmpty}
+use lib.Dec.{leb, eqb}
+use Rattle.rules.specs.Checks.{_⇒_else_, isEmpty, member}
 use Rattle.rules.specs.declared.ChannelNumber.{ChannelNumber}
+use Rattle.rules.specs.declared.Events.{Events}
 use Rattle.rules.specs.declared.Way.{Way}
 use Rattle.rules.specs.declared.Way.the-variants.{Receive, Send}
 use Rattle.rules.specs.Words.{channelOf}
 use Rattle.rules.specs.State.{State, Chan, chan, isOpen, isStream, held}
 use Rattle.rules.specs.Pool.{cellCount, cells}
-use Rattle.rules.specs.Reading.{Command, asked, reading}
-use Rattle.rules.specs.Own.{Result, nothing, opened, received, sent, statuses, error, problem, done}
+use Rattle.rules.specs.Reading.{Body, Command, asked, reading, moreTime, eventList, openChannel, closeChannel, receiveData, sendData, channelStatus, other}
+use Rattle.rules.specs.Own.{Result, nothing, opened, received, sent, statuses, error, problem, done, capped}
+use Rattle.rules.specs.Written.{unflagged, statusObject, eventBytes}
 use Rattle.rules.specs.Command.{Outcome, wrote, refused}
 use Rattle.rules.specs.Bench.{Told, told, untold, benchRead}
 use Rattle.rules.specs.Run.{Call, starting, commanding, arriving, takingOut, droppingLink, step, after}
 use Rattle.rules.specs.State as state
-use Rattle.rules.specs.History.{History, side, history, seenFrom, commandSeen, sameNumber, datagramsBy, buildingBy, placesBy}
+use Rattle.rules.specs.History.{Exchange, History, side, heldBy, history, seenFrom, commandSeen, sameNumber, datagramsBy, buildingBy, placesBy}
 use Rattle.rules.specs.Datagrams.{placeCount, pieces, bytesOf}
 
 -- the state after a list of calls from the start, and the history of a channel that was seen on the way
@@ -89,6 +91,38 @@ isDone (done r f) = true
 unfoldable pub heardDone : Option Result → Bool
 heardDone none = false
 heardDone (some r) = isDone r
+
+-- the events that are listed once a command is done: SET UP EVENT LIST replaces the list
+unfoldable pub listsIn : Events → Body → Events
+listsIn e moreTime = e
+listsIn e (eventList es) = record { available = member 0x09 es; status = member 0x0A es }
+listsIn e (openChannel b size t) = e
+listsIn e closeChannel = e
+listsIn e (receiveData n) = e
+listsIn e (sendData s) = e
+listsIn e channelStatus = e
+listsIn e (other t) = e
+
+-- and after a call, by how it ended: a start lists none
+unfoldable pub listsAfter : Events → Call → Outcome → Events
+listsAfter e (starting p) o = record { available = false; status = false }
+listsAfter e (commanding buffer s) o = heardDone (heard o) ⇒ listsIn e (commandSeen s .body) else e
+listsAfter e (arriving buffer n s) o = e
+listsAfter e (takingOut buffer n) o = e
+listsAfter e (droppingLink buffer n) o = e
+
+unfoldable pub listsFrom : Events → List Exchange → Events
+listsFrom e [] = e
+listsFrom e (x ∷ xs) = listsFrom (listsAfter e (x .call) (x .outcome)) xs
+
+abbrev pub listed-by : List ℕ → List Call → Events
+listed-by p cs = listsFrom (record { available = false; status = false }) (seenFrom (state.start p) cs)
+
+-- the event that bytes from the radio raise, by the history in front of them: where nothing was held, bytes came and 09 is listed, it tells the bytes that came
+unfoldable pub raisedBy : ChannelNumber → History → Events → List ℕ → List ℕ
+raisedBy n h e s =
+    let told = statusObject n (h .link) ∷ unflagged 0x37 (capped (length s) ∷ []) ∷ [] in
+    eqb (heldBy h Receive) 0 && not (isEmpty s) && e .available ⇒ eventBytes 0x09 told else []
 
 -- bytes would begin a datagram for which there is no place; those to send join the unfinished one, if there is one
 unfoldable pub crowdedBy : History → Way → List ℕ → Bool

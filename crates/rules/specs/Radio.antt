@@ -17,12 +17,12 @@ use Rattle.rules.specs.Command.{Answer, answered, refusal}
 unfoldable pub numbered : ChannelNumber → Bool
 numbered n = leb 1 (n .0) && leb (n .0) 7
 
--- where 09 is listed it tells of the bytes that came, if any, with all that is held now
+-- where nothing was held, bytes came and 09 is listed, it tells of the bytes held now
 unfoldable pub arrivalEvent : State → ChannelNumber → List ℕ → List ℕ
 arrivalEvent a n s =
     let c = appended (chan a n) Receive s in
     let told = statusObject n (c .link) ∷ unflagged 0x37 (capped (length (held c Receive)) ∷ []) ∷ [] in
-    not (isEmpty s) && a .events .available ⇒ eventBytes 0x09 told else []
+    isEmpty (held (chan a n) Receive) && not (isEmpty s) && a .events .available ⇒ eventBytes 0x09 told else []
 
 -- the bytes are stored whole
 unfoldable pub arrival : State → ℕ → ChannelNumber → List ℕ → Answer

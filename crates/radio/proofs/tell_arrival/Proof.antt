@@ -12,7 +12,7 @@ returns c =
     let u : tie.After-put = search in
     let k : tie.After-capped = search in
     let s : tie.Start = search in
-    u .put .ensures ∙ arrival-event (now (s .args .out)) (s .args .n) (s .args .held) _ (k .capped .ensures)
+    u .put .ensures ∙ arrival-event (now (s .args .out)) (s .args .n) (s .args .count) _ (k .capped .ensures)
 
 pub tell-arrival-spec : {M : Type 1} → statement M
 tell-arrival-spec =
