@@ -423,11 +423,12 @@ class Session:
         channel = self.radio_channel(number)
         if len(data) > channel.grant - channel.held():
             raise Refusal(6)
+        was_empty = channel.held() == 0
         channel.arrive(data)
-        if len(data) >= 1 and 0x09 in self.events:
-            held = min(channel.held(), 0xFF)
+        if was_empty and len(data) >= 1 and 0x09 in self.events:
+            came = min(len(data), 0xFF)
             return event(0x09, write_object(0x38, channel.status())
-                         + write_object(0x37, bytes([held])))
+                         + write_object(0x37, bytes([came])))
         return b""
 
     def take(self, number, size):

@@ -153,7 +153,7 @@ script("a stream runs on", (opening("021F90", 64), UDP_64[1]),
        (piece("51", "01"), sent("3F", "01")), (piece("52", "01"), sent("3E", "01")), (take(9), "5152"))
 script("one arrival, one datagram", UDP_64, LIST_09,
        ("A001414243", "D60E1901098202828138028100370103"),
-       ("A0015152", "D60E1901098202828138028100370105"),
+       ("A0015152", "--"),
        (receive(2), received("00", "4142", "03")),
        (receive(9), received("02", "43", "02")),
        (receive(2), received("00", "5152", "00")),
@@ -167,16 +167,23 @@ script("237 at most, the rest is the first one", UDP_1500, ("A001" + data(300), 
        (receive(255), received("02", "AABB", "00")))
 script("the count told is all bytes held", UDP_1500, LIST_09,
        ("A001" + data(255), "D60E19010982028281380281003701FF"),
-       ("A00177", "D60E19010982028281380281003701FF"),
+       ("A00177", "--"),
        (receive(1), received("00", "00", "FF")), (receive(1), received("00", "01", "FE")))
 script("the seventeenth, and none", UDP_64, LIST_09,
-       *[("A00141", "D60E19010982028281380281003701%02X" % (i + 1)) for i in range(15)],
-       ("A0015152", "D60E1901098202828138028100370111"),
+       ("A00141", "D60E1901098202828138028100370101"), *[("A00141", "--")] * 14,
+       ("A0015152", "--"),
        ("A00142", "R11"), ("A001", "--"),
        *[(receive(1), received("00", "41", "%02X" % (16 - i))) for i in range(15)],
        (receive(1), received("00", "51", "01")),
-       *[("A00143", "D60E19010982028281380281003701%02X" % (i + 2)) for i in range(15)],
-       ("A00144", "R11"), (receive(9), received("02", "52", "0F")), ("A00144", "D60E1901098202828138028100370110"))
+       *[("A00143", "--")] * 15,
+       ("A00144", "R11"), (receive(9), received("02", "52", "0F")), ("A00144", "--"))
+for kind in (UDP_64, (opening("021F90", 64), UDP_64[1])):
+    script("event 09 on an empty channel alone", kind, LIST_09,
+           ("A001", "--"), ("A0014142", "D60E1901098202828138028100370102"), ("A00143", "--"),
+           (receive(2), received("00", "4142", "01")), ("A00144", "--"),
+           (receive(1), received("00", "43", "01")), (receive(1), received("00", "44", "00")),
+           ("A001454647", "D60E1901098202828138028100370103"), CLOSE_1, kind,
+           ("A00148", "D60E1901098202828138028100370101"))
 script("R6 before R11, R5 before both", UDP_64, *[("A00141424344", "--")] * 16,
        ("A00142", "R6"), ("A001", "--"), ("A201", "--"), ("A00142", "R5"), ("A001", "R5"),
        (receive(9), received("02", "41424344", "3C")))
