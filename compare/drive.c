@@ -97,6 +97,7 @@ typedef enum {
     LONG_PROFILE,
     EVENT_TOLD,
     EVENT_UNLISTED,
+    EVENT_SILENT,
     NO_BYTE_CAME,
     FILLED_BY_ARRIVAL,
     ONE_BYTE_OVER,
@@ -153,6 +154,7 @@ static const char *const place_names[PLACES] = {
     [LONG_PROFILE] = "start: profile over 13 bytes",
     [EVENT_TOLD] = "arrival: event written",
     [EVENT_UNLISTED] = "arrival: stored, event not listed",
+    [EVENT_SILENT] = "arrival: listed, bytes were held",
     [NO_BYTE_CAME] = "arrival: of no bytes",
     [FILLED_BY_ARRIVAL] = "arrival: grant filled to the byte",
     [ONE_BYTE_OVER] = "arrival: R6 by one byte",
@@ -1041,7 +1043,9 @@ static void count_arrival(const call *c, uint32_t returned)
     if (returned >= REFUSED)
         return;
     count(EVENT_TOLD, returned != 0);
-    count(EVENT_UNLISTED, returned == 0 && c->n != 0);
+    bool listed = (run.reference.listed & 1) != 0;
+    count(EVENT_UNLISTED, c->n != 0 && !listed);
+    count(EVENT_SILENT, c->n != 0 && listed && returned == 0);
     count(NO_BYTE_CAME, c->n == 0);
     count(FILLED_BY_ARRIVAL, c->n != 0 && receive_room(c->channel) == 0);
 }

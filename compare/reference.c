@@ -797,7 +797,7 @@ static uint8_t *write_event(uint8_t *at, uint8_t length, uint8_t event, const re
     return write_status(at + 9, c, channel);
 }
 
-/* Bytes from the network, of a datagram channel one datagram: stored whole, and told if 09 is listed. */
+/* Bytes from the network, of a datagram channel one datagram: stored whole, and told if none were held and 09 is listed. */
 uint32_t reference_arrival(reference_session *s, uint8_t channel, const uint8_t *bytes, size_t n, uint8_t *out, size_t size)
 {
     if (size < EVENT_SPACE)
@@ -815,10 +815,11 @@ uint32_t reference_arrival(reference_session *s, uint8_t channel, const uint8_t 
         return 0;
     if (places_taken(&c->receive))
         return R11;
+    int first = c->receive.held == 0;
     if (c->kind == REFERENCE_DATAGRAM)
         begin(&c->receive, (uint32_t)n);
     put(&c->receive, bytes, (uint32_t)n);
-    if (!(s->listed & 1))
+    if (!(s->listed & 1) || (!first && FAULT != 6))
         return 0;
     uint8_t *at = write_event(out, 0x0E, EVENT_ARRIVAL, c, channel);
     at = write_count(at, capped(c->receive.held));

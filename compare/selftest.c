@@ -185,7 +185,7 @@ static void run_only(void)
     says("D00C810301420082028121370180", counted(two, "810301420082028281830100368180", 127, 128, "370100"));
     says("D00C810301420082028121370100", "8103014200820282818301003600370100");
     arrives(0, 1499, "D60E19010982028281380281003701FF");
-    arrives(7, 1, "D60E19010982028281380281003701FF");
+    arrives(7, 1, "--");
     arrives(8, 1, "R6");
     arrives(0, 0, "--");
     says(counted(one, "D0817F81030102008202818205744142", 0, 114, ""), "810300000082028281830132");
@@ -308,7 +308,9 @@ static void event_list(void)
     says("A00141", "--");
     says("D00D810301050082028182 99020A09", LISTED);
     says("D00D810301050082028182 99020908", "810301050082028281830130");
-    says("A00141", "D60E1901098202828138028100370102");
+    says("A00141", "--");
+    says("D00C810301420082028121 370109", "810301420082028281830102 36024141 370100");
+    says("A0014141", "D60E1901098202828138028100370102");
     says("D00B810301050082028182 9900", LISTED);
     says("A00141", "--");
     says("D00C810301050082028182 99010A", LISTED);
@@ -443,7 +445,7 @@ static void datagrams_arriving(void)
     says("A001", "--");
     says(RECEIVE_1, "810301420082028281830102 3600 370100");
     says("A001414243", "D60E1901098202828138028100370103");
-    says("A0015152", "D60E1901098202828138028100370105");
+    says("A0015152", "--");
     says("D00B810301050082028182 9900", LISTED);
     says_times(14, "A00161", "--");
     says("A00162", "R11");
@@ -598,6 +600,34 @@ static void datagrams_kept(void)
 }
 
 /* Runs every part and counts what is wrong. */
+/* M-100: event 09 where the receive way was empty, on a channel of either kind. */
+static void available(const char *opening)
+{
+    start("data available", FULL);
+    says(opening, OPENED_64);
+    says(LIST_09, LISTED);
+    says("A001", "--");
+    says("A00141", "D60E1901098202828138028100370101");
+    says_times(15, "A00141", "--");
+    for (unsigned left = 15; left > 0; left--) {
+        sprintf(two, "810301420082028281830100 360141 3701%02X", left);
+        says(RECEIVE_1, two);
+    }
+    says("A0014243", "--");
+    says(RECEIVE_1, "810301420082028281830100 360141 370102");
+    says(RECEIVE_1, "810301420082028281830100 360142 370101");
+    says("A00144", "--");
+    says(RECEIVE_1, "810301420082028281830100 360143 370101");
+    says(RECEIVE_1, "810301420082028281830100 360144 370100");
+    says("D00E810301430182028121 3603515253", "810301430182028281830100 37013D");
+    says("A00145464748", "D60E1901098202828138028100370104");
+    says(CLOSE_1, CLOSED);
+    says(opening, OPENED_64);
+    says("A0014900", "D60E1901098202828138028100370102");
+    says("A201", "--");
+    says("A00149", "R5");
+}
+
 int main(void)
 {
     listing();
@@ -618,6 +648,8 @@ int main(void)
     datagrams_sent();
     datagrams_taken();
     datagrams_kept();
+    available(OPEN_DATAGRAMS);
+    available("D010810301400182028182 350103 39020040");
     printf("selftest: %u answers held to the paper, %u wrong\n", steps, wrong);
     return wrong != 0;
 }
