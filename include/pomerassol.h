@@ -75,8 +75,9 @@ void pomerassol_start(pomerassol_session *s, const uint8_t *profile, size_t prof
 uint32_t pomerassol_command(pomerassol_session *s, const uint8_t *bytes, size_t bytes_size, uint8_t *out, size_t out_size);
 
 /* The radio brings bytes for a channel. The answer is `arrival`: the bytes are stored whole, and event 09, 16 bytes, tells
- * of them where it is listed; else no byte is written. On a datagram channel they are one datagram; R11 where it would be
- * the seventeenth held. R1 where the buffer has fewer than 16 bytes, then R3 to R6, then R11. */
+ * of them where it is listed and nothing was held to be received; else no byte is written. On a datagram channel they are
+ * one datagram; R11 where it would be the seventeenth held. R1 where the buffer has fewer than 16 bytes, then R3 to R6,
+ * then R11. */
 uint32_t pomerassol_arrival(pomerassol_session *s, uint8_t channel, const uint8_t *bytes, size_t bytes_size, uint8_t *out, size_t out_size);
 
 /* The radio takes the bytes of a channel that are ready. The answer is `taking`: as many of them as fit the buffer, in
