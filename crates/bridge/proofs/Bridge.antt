@@ -10,13 +10,17 @@ use Rattle.rules.specs.State.{State, start}
 use Rattle.rules.specs.Command.{Outcome, wrote, refused, Answer}
 use Rattle.rules.specs.Run.{Call, starting, commanding, arriving, takingOut, droppingLink, step, after}
 use Rattle.rules.specs.History.{Exchange, history, seenFrom}
-use Rattle.rules.specs.Demands.{Follows}
+use Rattle.rules.specs.Pool.{unpromised}
+use Rattle.rules.specs.Demands.{Follows, freeBy}
 use Rattle.rules.proofs.Histories.{follows}
+use Rattle.rules.proofs.Openings.{free-told}
 use Rattle.rules.proofs.Soundness.{start-sound, step-sound}
 use Rattle.session.specs.declared.Session.{Session}
 use Rattle.session.specs.declared.Ended.{Ended}
+use Rattle.session.specs.Book.{freeIn}
 use Rattle.session.specs.Picture.{Good, view}
 use Rattle.session.specs.Calls.{Answers, endedOf, writtenBy, overlaid}
+use Rattle.session.proofs.Facts.{unpromised-kept}
 use Rattle.session.proofs.Views.{shows-back}
 use Rattle.text.specs.Prints.{outcomeOf}
 use Rattle.bridge.specs.Reached.{Left, Called, Runs, callsOf, Reached}
@@ -79,6 +83,13 @@ reached-ran p es s h =
 
 pub reached-good : (p : List ℕ) (es : List Exchange) (s : Session) → Reached p es s → Good s
 reached-good p es s h = reached-ran p es s h .good
+
+-- the number of unpromised cells that the record keeps is 256 less the sum over the grants that the histories tell
+pub kept-free : (p : List ℕ) (es : List Exchange) (s : Session) → Reached p es s → freeIn (s .ledger) ≡ freeBy (λ (n : ChannelNumber). history n es)
+kept-free p es s h =
+    let r = reached-ran p es s h in
+    unpromised-kept (s .ledger) (s .pool) (r .good) ∙ ap unpromised (r .shows) ∙ sym (free-told p (callsOf es))
+    ∙ ap (λ (xs : List Exchange). freeBy (λ (n : ChannelNumber). history n xs)) (sym (r .seen))
 
 -- so what was seen of the code tells each channel of the record: accepted is handed out followed by held, each way
 pub reached-follows : (n : ChannelNumber) (p : List ℕ) (es : List Exchange) (s : Session) → 1 ≤ n .0 → Reached p es s → Follows n (view s) (history n es)

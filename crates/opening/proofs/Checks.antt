@@ -1,6 +1,6 @@
 -- OPEN CHANNEL: what it comes to at each check, over what the code has found.
 -- Assumes nothing.
-use Prim.Native.Nat.{ℕ, zero, suc, _+_, _-_, _*_, _/_, _≤_, _<_}
+use Prim.Native.Nat.{ℕ, zero, suc, _+_, _-_, _*_, _≤_, _<_}
 use mathlib.Core.Path.{_≡_, refl, sym, ap, subst, _∙_}
 use mathlib.Core.Bool.{Bool, true, false, not, false≢true}
 use mathlib.Core.List.{List, [], _∷_}
@@ -16,7 +16,7 @@ use Rattle.rules.specs.declared.Link.the-variants.{NotYet, Established}
 use Rattle.rules.specs.Checks.{_⇒_else_, isEmpty}
 use Rattle.rules.specs.Profile.{allowsBearer, channels}
 use Rattle.rules.specs.State.{State, Chan, closed, isOpen, chan, withChan, fresh}
-use Rattle.rules.specs.Pool.{cellCount, cellSize, cells, unpromised, grantFor}
+use Rattle.rules.specs.Pool.{cells, unpromised, grantFor}
 use Rattle.rules.specs.Table.{bearerFits}
 use Rattle.rules.specs.Reading.{bearerIn}
 use Rattle.rules.specs.Own.{Reply, reply, error, problem, done, opened, bit1, plain, openBefore, opening, served, carriedBy}
@@ -27,10 +27,11 @@ use Rattle.rules.proofs.Soundness.{opened-place, with-sound, fresh-sound, fresh
 use Rattle.rules.proofs.Sizes.{bearer-short}
 use Rattle.profile.proofs.Bits.{front-bearer, front-channels}
 use Rattle.session.specs.declared.Ended.the-variants.{Wrote}
-use Rattle.session.specs.Picture.{GoodIn, shown, baseIn}
+use Rattle.session.specs.Book.{freeIn}
+use Rattle.session.specs.Picture.{GoodIn, shown}
 use Rattle.session.specs.Calls.{Answers}
 use Rattle.session.specs.Changed.{Numbered, chanIn, Changed}
-use Rattle.session.proofs.Facts.{Bounds, bounds, place}
+use Rattle.session.proofs.Facts.{place, unpromised-kept}
 use Rattle.responses.specs.Stands.{response, Stands}
 use Rattle.own.specs.Replies.{told}
 use Rattle.opening.specs.Unused.{openFrom}
@@ -66,10 +67,6 @@ first-closed (suc n) (c ∷ cs) h =
     (λ e _. let z = leb-false 1 (c .grant) e in omega arith)
     h
 
--- the numbers of a good session
-pub numbers : (t p : List ℕ) → GoodIn t p → Bounds t p (record { 0 = 1 })
-numbers t p g = bounds t p (record { 0 = 1 }) (record { good = g; low = omega arith; high = omega arith })
-
 -- the profile allows at most seven channels
 pub few-channels : (p : List ℕ) (n : ℕ) → n ≡ channels p → n ≤ 7
 unfolding channels
@@ -103,10 +100,9 @@ module _ (t p : List ℕ) (g : GoodIn t p) where
           let z : k + 1 - 1 ≡ openBefore (channels (a .profile)) (a .chans) = omega (arith, number-is) in
           ap (λ (j : ℕ). getD (a .chans) j closed .grant) z ∙ first-closed _ _ unused
 
-  module _ (f : ℕ) (ef : f ≡ cellCount - baseIn t 7 / cellSize) where
+  module _ (f : ℕ) (ef : f ≡ freeIn t) where
     free-is : f ≡ unpromised a
-    unfolding unpromised
-    free-is = let z = numbers t p g .used-is in omega arith
+    free-is = ef ∙ unpromised-kept t p g
 
     grant-is : (size w : ℕ) → w ≡ grantFor size f → w ≡ grantFor size (unpromised a)
     grant-is size w e = e ∙ ap (grantFor size) free-is
@@ -163,7 +159,7 @@ module _ (t p : List ℕ) (g : GoodIn t p) (d : Details) (v : List ℕ) (size pr
             (skip _ _ _ (served-is ∙ s) ∙ skip _ _ _ carried ∙ skip _ _ _ asked
             ∙ stop _ _ _ (eq-eqb _ _ (sym (number-is t p g n k en ek) ∙ e ∙ channels-is t p g n k en ek))) g w
 
-        module _ (u : k ≡ n → ⊥) (f : ℕ) (ef : f ≡ cellCount - baseIn t 7 / cellSize) where
+        module _ (u : k ≡ n → ⊥) (f : ℕ) (ef : f ≡ freeIn t) where
           pub cellless : f < 2 → Stands (response d (problem 0x04)) count before after → answer t p
           unfolding opening
           cellless e w =

@@ -171,7 +171,7 @@ module _ (p : List ℕ) (cs : List Call) where
   told n = told-of n p cs
 
   -- the free cells, as the grants told have them, are the unpromised ones
-  free-told : freeCells p cs ≡ unpromised (reached p cs)
+  pub free-told : freeCells p cs ≡ unpromised (reached p cs)
   unfolding freeBy unpromised promised chan
   free-told =
       let a = reached p cs in

@@ -65,7 +65,7 @@ module _ (c : Chan) (k : ℕ) where
   removed-region Receive = refl
   removed-region Send = refl
 
-  removed-grant : (w : Way) → removed c w k .grant ≡ c .grant
+  pub removed-grant : (w : Way) → removed c w k .grant ≡ c .grant
   unfolding removed withQueue marked
   removed-grant Receive = refl
   removed-grant Send = refl
@@ -76,7 +76,7 @@ module _ (d : Chan) where
   counted-region Receive k = refl
   counted-region Send k = refl
 
-  counted-grant : (w : Way) (k : ℕ) → withQueue d w (counting (queue d w) k) .grant ≡ d .grant
+  pub counted-grant : (w : Way) (k : ℕ) → withQueue d w (counting (queue d w) k) .grant ≡ d .grant
   unfolding withQueue
   counted-grant Receive k = refl
   counted-grant Send k = refl

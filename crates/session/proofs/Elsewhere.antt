@@ -10,9 +10,9 @@ use Rattle.rules.specs.declared.ChannelNumber.{ChannelNumber}
 use Rattle.rules.specs.declared.Way.{Way}
 use Rattle.rules.specs.declared.Way.the-variants.{Receive, Send}
 use Rattle.rules.specs.State.{State, Chan, closed, chan, queue, held}
-use Rattle.rules.specs.Pool.{cellSize, poolSize, cells, promisedTo}
+use Rattle.rules.specs.Pool.{cellSize, poolSize, cells, promisedTo, promised, unpromised}
 use Rattle.rules.specs.Sound.{Each, SoundChan, Sound}
-use Rattle.session.specs.Book.{numbersOf, places}
+use Rattle.session.specs.Book.{numbersOf, places, listedNumber}
 use Rattle.session.specs.Picture.{space, pad, region, regions, poolOf, linkNumber, carriesNumber, entry, chanNumbers, entriesOf, headsOf, ledgerOf, offset, shown, GoodIn}
 use Rattle.session.specs.Cells.{HeldAt, SameLengths}
 use Rattle.session.proofs.Regions.{Fits, length-way, length-region}
@@ -128,12 +128,24 @@ entries-same (c ∷ cs) (d ∷ ds) e s =
     let rest = entries-same cs ds (let q : suc (length cs) ≡ suc (length ds) = e in omega arith) (λ k h. s (suc k) (omega arith)) in
     λ i. numbers-same c d (s 0 (omega arith)) i ++ rest i
 
+-- and promise the same cells
+promised-same :
+    (cs ds : List Chan) → length cs ≡ length ds → ((k : ℕ) → k < length cs → SameLengths (getD cs k closed) (getD ds k closed)) →
+    promisedTo cs ≡ promisedTo ds
+unfolding promisedTo
+promised-same [] [] e s = refl
+promised-same [] (d ∷ ds) e s = absurd (let q : 0 ≡ suc (length ds) = e in omega arith)
+promised-same (c ∷ cs) [] e s = absurd (let q : suc (length cs) ≡ 0 = e in omega arith)
+promised-same (c ∷ cs) (d ∷ ds) e s =
+    let rest = promised-same cs ds (let q : suc (length cs) ≡ suc (length ds) = e in omega arith) (λ k h. s (suc k) (omega arith)) in
+    λ i. 2 * cells (s 0 (omega arith) .grant i) + rest i
+
 -- the ledgers of two good sessions that differ at most in the values of held bytes are the same
 pub ledger-by-lengths :
     (t p u q : List ℕ) → GoodIn t p → GoodIn u q →
     shown t p .profile ≡ shown u q .profile → shown t p .events ≡ shown u q .events →
     ((n : ChannelNumber) → 1 ≤ n .0 → n .0 ≤ 7 → SameLengths (chan (shown t p) n) (chan (shown u q) n)) → t ≡ u
-unfolding ledgerOf headsOf chan
+unfolding ledgerOf headsOf unpromised promised chan
 ledger-by-lengths t p u q g h profile events same =
     let a = shown t p in
     let b = shown u q in
@@ -141,7 +153,8 @@ ledger-by-lengths t p u q g h profile events same =
     let at : (k : ℕ) → suc k - 1 ≡ k = λ k. omega arith in
     let each : (k : ℕ) → k < length (a .chans) → SameLengths (getD (a .chans) k closed) (getD (b .chans) k closed) =
     λ k f. subst (λ (m : ℕ). SameLengths (getD (a .chans) m closed) (getD (b .chans) m closed)) (at k) (same (record { 0 = suc k }) (omega arith) (omega arith)) in
+    let grants = promised-same (a .chans) (b .chans) (g .sound .seven ∙ sym (h .sound .seven)) each in
     let entries = entries-same (a .chans) (b .chans) (g .sound .seven ∙ sym (h .sound .seven)) each in
     g .shows .ledger
-    ∙ (λ i. profile i ++ (headsOf (record { profile = profile i; events = events i; chans = [] }) ++ entries i))
+    ∙ (λ i. profile i ++ ((listedNumber (events i .available) ∷ listedNumber (events i .status) ∷ (256 - grants i) ∷ []) ++ entries i))
     ∙ sym (h .shows .ledger)

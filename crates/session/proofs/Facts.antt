@@ -19,7 +19,8 @@ use Rattle.rules.specs.declared.Way.the-variants.{Receive, Send}
 use Rattle.rules.specs.Checks.{_⇒_else_}
 use Rattle.rules.specs.Datagrams.{placeCount, another, lessened, total}
 use Rattle.rules.specs.State.{State, Chan, closed, isStream, chan, withChan, queue, withQueue, held, room, due, atOnce, joined, without, counting, marked, fresh, appended, whole, removed}
-use Rattle.rules.specs.Pool.{cellSize, poolSize, grantCap, promisedTo, promised}
+use Rattle.rules.specs.Pool.{cellCount, cellSize, poolSize, grantCap, cells, promisedTo, promised, unpromised}
+use Rattle.rules.proofs.Grants.{promised-set}
 use Rattle.rules.specs.Sound.{SoundChan, Sound}
 use Rattle.rules.proofs.Laws.{by-way, stop, skip, each-take}
 use Rattle.rules.proofs.Datagrams.{Some, first}
@@ -27,15 +28,15 @@ use Rattle.rules.proofs.Soundness.{once-due, chan-sound}
 use Rattle.octets.specs.Parts.{part, pasted, cutOut, spread}
 use Rattle.octets.proofs.Pastes.{length-pasted}
 use Rattle.session.specs.declared.Channel.{Channel}
-use Rattle.session.specs.Book.{ledgerSize, entryAt, numbersOf, entryIn, withEntry, lengthsAt, lengthsFrom, lengthsIn, places, withLength, lessLength, withList}
+use Rattle.session.specs.Book.{freeAt, freeIn, ledgerSize, entryAt, numbersOf, entryIn, withEntry, lengthsAt, lengthsFrom, lengthsIn, places, withLength, lessLength, withList}
 use Rattle.session.specs.Picture.{space, regions, poolOf, linkNumber, linkOf, carriesNumber, entry, chanNumbers, ledgerOf, baseIn, offset, startIn, shown, Shows, GoodIn}
 use Rattle.session.specs.Changed.{Numbered, chanIn, Changed, heldIn, dueIn, moreIn, lessIn, Marks, withEvents}
 use Rattle.session.proofs.Places.{places-size, places-last}
 use Rattle.session.proofs.Ways.{paste-parts, way-read, way-get, way-more, way-first, way-less, wayFront, wayRest, way-parts, way-size, other-lengths}
-use Rattle.session.proofs.Ledgers.{closed-numbers, ledger-size, entry-read, base-read, list-written, before, behind, before-size, ledger-with, ledger-parts}
+use Rattle.session.proofs.Ledgers.{closed-numbers, ledger-size, entry-read, free-read, base-read, list-written, before, behind, before-size, ledger-with, ledger-same, ledger-parts}
 use Rattle.session.proofs.Regions.{length-regions, length-pad, front, used, used-parts, used-fits, length-region, held-space, same-queue}
 use Rattle.session.proofs.Views.{number-back, few-lengths}
-use Rattle.session.proofs.Changes.{appended-fits, appended-grant, appended-pool, counted-pool, removed-pool, held-part, closed-pool, opened-pool, marked-pool, due-held}
+use Rattle.session.proofs.Changes.{appended-fits, appended-grant, appended-pool, counted-pool, removed-pool, removed-grant, counted-grant, held-part, closed-pool, opened-pool, marked-pool, due-held}
 
 -- the counts of an entry are those of the channel, for either way
 held-entry : (c : Chan) (w : Way) → heldIn (entry c) w ≡ length (held c w)
@@ -142,6 +143,9 @@ pub record Bounds (t p : List ℕ) (n : ChannelNumber) : Type 0 where
   pub size : length p ≡ poolSize
   pub used-is : baseIn t 7 ≡ cellSize * promised (shown t p)
   pub used-fits : baseIn t 7 ≤ poolSize
+  pub free-is : freeIn t ≡ unpromised (shown t p)
+  pub free-few : freeIn t ≤ cellCount
+  pub used-end : poolSize - cellSize * freeIn t ≡ baseIn t 7
   pub region-fits : baseIn t (n .0 - 1) + 2 * space (entryIn t n .grant) ≤ baseIn t 7
   pub is : entryIn t n ≡ entry (chanIn t p n)
   pub capped : entryIn t n .grant ≤ grantCap
@@ -158,6 +162,10 @@ link-number-known l = by-link l
     by-link NotYet = omega arith
     by-link Established = omega arith
     by-link Dropped = omega arith
+
+-- the kept number is that of the unpromised cells
+pub unpromised-kept : (t p : List ℕ) → GoodIn t p → freeIn t ≡ unpromised (shown t p)
+unpromised-kept t p g = ap freeIn (g .shows .ledger) ∙ free-read (shown t p) (g .sound .thirteen)
 
 pub good-table : (t p : List ℕ) → GoodIn t p → length t ≡ ledgerSize
 good-table t p g = ap length (g .shows .ledger) ∙ ledger-size (shown t p) (g .sound .thirteen) (g .sound .seven)
@@ -208,12 +216,15 @@ module _ (t p : List ℕ) (n : ChannelNumber) (h : Numbered t p n) where
   unfolding promised
   promised-is = sym used-is ∙ length-regions (a .chans) (sound .each)
 
+  unpromised-is : freeIn t ≡ unpromised a
+  unpromised-is = unpromised-kept t p (h .good)
+
   pool-size : length p ≡ poolSize
   unfolding poolOf
   pool-size = ap length pool-is ∙ length-pad poolSize (regions (a .chans)) (used-fits a n sound place)
 
   pub bounds : Bounds t p n
-  unfolding entry
+  unfolding entry unpromised
   bounds =
       let s = chan-sound a n sound in
       let e = entry-is in
@@ -233,6 +244,9 @@ module _ (t p : List ℕ) (n : ChannelNumber) (h : Numbered t p n) where
         size = pool-size;
         used-is = promised-is;
         used-fits = omega arith;
+        free-is = unpromised-is;
+        free-few = let f = unpromised-is in omega arith;
+        used-end = let f = unpromised-is in omega (arith, promised-is, sound .within);
         region-fits = omega arith;
         is = e;
         capped = omega (arith, s .capped);
@@ -250,18 +264,22 @@ module _ (t p : List ℕ) (n : ChannelNumber) (h : Numbered t p n) where
   abbrev rest-of : List ℕ
   rest-of = behind a (sound .thirteen) n place
 
-  numbered : (d : Chan) → ledgerOf (withChan a n d) ≡ front-of ++ (chanNumbers d ++ rest-of)
-  numbered d = ledger-with a (sound .thirteen) n place d
+  -- the ledger with the numbers of another channel, and the unpromised cells as they were; a channel of the same grant leaves them
+  abbrev with-numbers : Chan → List ℕ
+  with-numbers d = front-of ++ (chanNumbers d ++ rest-of)
+
+  same-cells : (d : Chan) → d .grant ≡ c .grant → with-numbers d ≡ ledgerOf (withChan a n d)
+  same-cells d g = ledger-same a (sound .thirteen) n place d g
 
   -- another entry, the lengths as they were
-  entry-written : (d : Chan) (e : Channel) → e ≡ entry d → ((w : Way) → queue d w .lengths ≡ queue c w .lengths) → withEntry t n e ≡ ledgerOf (withChan a n d)
+  entry-written : (d : Chan) (e : Channel) → e ≡ entry d → ((w : Way) → queue d w .lengths ≡ queue c w .lengths) → withEntry t n e ≡ with-numbers d
   unfolding withEntry chanNumbers queue
   entry-written d e r same =
       let x = places (c .receive .lengths) ++ places (c .send .lengths) in
       (λ i. pasted ((table-is ∙ ledger-parts a (sound .thirteen) n place ∙ ap (λ (l : List ℕ). front-of ++ l) (append-assoc (numbersOf (entry c)) x rest-of)) i) (entryAt (n .0 - 1)) (numbersOf (r i)))
       ∙ paste-parts front-of (numbersOf (entry c)) (x ++ rest-of) (numbersOf (entry d)) (entryAt (n .0 - 1)) (before-size a (sound .thirteen) n place) refl
       ∙ ap (λ (l : List ℕ). front-of ++ l) (sym (append-assoc (numbersOf (entry d)) x rest-of))
-      ∙ (λ i. front-of ++ ((numbersOf (entry d) ++ (places (sym (same Receive) i) ++ places (sym (same Send) i))) ++ rest-of)) ∙ sym (numbered d)
+      ∙ (λ i. front-of ++ ((numbersOf (entry d) ++ (places (sym (same Receive) i) ++ places (sym (same Send) i))) ++ rest-of))
 
   pub entry-size : (e : Channel) (v : List ℕ) → v ≡ withEntry t n e → length v ≡ ledgerSize
   unfolding withEntry
@@ -269,11 +287,15 @@ module _ (t p : List ℕ) (n : ChannelNumber) (h : Numbered t p n) where
       let l = good-table t p (h .good) in
       ap (λ (u : List ℕ). length u) q ∙ length-pasted t (entryAt (n .0 - 1)) (numbersOf e) (omega (arith, h .high)) ∙ l
 
+  pub cleared-size : (v w : List ℕ) → length v ≡ ledgerSize → w ≡ pasted v (lengthsAt n Receive) (replicate 32 0) → length w ≡ ledgerSize
+  cleared-size v w e q =
+      ap (λ (u : List ℕ). length u) q ∙ length-pasted v (lengthsAt n Receive) (replicate 32 0) (omega (arith, h .high)) ∙ e
+
   -- the two arrays with the entry of a channel, and its pool, are the session with that channel
   changed :
       (d : Chan) (e : Channel) (u q : List ℕ) → u ≡ withEntry t n e → e ≡ entry d → ((w : Way) → queue d w .lengths ≡ queue c w .lengths) →
-      q ≡ poolOf (withChan a n d) → Changed t p n d u q
-  changed d e u q eᵗ r same s = record { ledger = eᵗ ∙ entry-written d e r same; pool = s }
+      d .grant ≡ c .grant → q ≡ poolOf (withChan a n d) → Changed t p n d u q
+  changed d e u q eᵗ r same g s = record { ledger = eᵗ ∙ entry-written d e r same ∙ same-cells d g; pool = s }
 
   -- the places of a way in the ledger with another channel
   module _ (d : Chan) (some : (w : Way) → Some (queue d w .lengths)) (few : (w : Way) → length (queue d w .lengths) ≤ placeCount) (w : Way) where
@@ -283,32 +305,32 @@ module _ (t p : List ℕ) (n : ChannelNumber) (h : Numbered t p n) where
     abbrev at-way : ℕ
     at-way = lengthsAt n w
 
-    in-parts : ledgerOf (withChan a n d) ≡ wayFront front-of d w ++ (places ls ++ wayRest rest-of d w)
-    in-parts = numbered d ∙ way-parts front-of rest-of d w
+    in-parts : with-numbers d ≡ wayFront front-of d w ++ (places ls ++ wayRest rest-of d w)
+    in-parts = way-parts front-of rest-of d w
 
     front-size : length (wayFront front-of d w) ≡ at-way
     front-size = way-size front-of d (entryAt (n .0 - 1)) w (before-size a (sound .thirteen) n place)
 
     -- the lengths are read
-    pub lengths-there : lengthsIn (ledgerOf (withChan a n d)) n w ≡ ls
+    lengths-there : lengthsIn (with-numbers d) n w ≡ ls
     lengths-there =
         ap (λ (u : List ℕ). lengthsFrom placeCount (drop at-way u)) in-parts ∙ way-read (wayFront front-of d w) (wayRest rest-of d w) ls at-way front-size (some w) (few w)
 
     -- one length more, and fewer bytes of the first
-    more-written : (k : ℕ) → length ls + min 1 k ≤ placeCount → withLength (ledgerOf (withChan a n d)) n w k ≡ ledgerOf (withChan a n (withQueue d w (counting (queue d w) k)))
+    more-written : (k : ℕ) → length ls + min 1 k ≤ placeCount → withLength (with-numbers d) n w k ≡ with-numbers (withQueue d w (counting (queue d w) k))
     unfolding withLength counting another
-    more-written zero h = ap (λ (y : Chan). ledgerOf (withChan a n y)) (sym (same-queue d w))
+    more-written zero h = ap with-numbers (sym (same-queue d w))
     more-written (suc k) h =
         (λ i. set (in-parts i) (at-way + length (lengths-there i)) (suc k))
         ∙ way-more (wayFront front-of d w) (wayRest rest-of d w) ls at-way front-size k (omega arith)
-        ∙ sym (numbered (withQueue d w (counting (queue d w) (suc k))) ∙ other-lengths front-of rest-of d w (another ls (suc k)))
+        ∙ sym (other-lengths front-of rest-of d w (another ls (suc k)))
 
-    less-written : (k : ℕ) → lessLength (ledgerOf (withChan a n d)) n w k ≡ ledgerOf (withChan a n (withQueue d w (record { bytes = held d w; lengths = lessened ls k })))
+    less-written : (k : ℕ) → lessLength (with-numbers d) n w k ≡ with-numbers (withQueue d w (record { bytes = held d w; lengths = lessened ls k }))
     unfolding lessLength
     less-written k =
         (λ i. ltb k (getD (in-parts i) at-way 0) ⇒ set (in-parts i) at-way (getD (in-parts i) at-way 0 - k) else pasted (in-parts i) at-way (part (at-way + 1) (at-way + placeCount) (in-parts i) ++ 0 ∷ []))
         ∙ way-less (wayFront front-of d w) (wayRest rest-of d w) ls at-way front-size k (few w)
-        ∙ sym (numbered (withQueue d w (record { bytes = held d w; lengths = lessened ls k })) ∙ other-lengths front-of rest-of d w (lessened ls k))
+        ∙ sym (other-lengths front-of rest-of d w (lessened ls k))
 
   -- the lengths of the channel itself
   own-some : (w : Way) → Some (queue c w .lengths)
@@ -430,6 +452,9 @@ module _ (t p : List ℕ) (n : ChannelNumber) (h : Numbered t p n) where
         let g = eᵃ ∙ ap (λ (y : ℕ). startIn t n y w) (m .grant ∙ grant-is) in
         eᵖ ∙ (λ i. pasted (pool-is i) (g i + l i) s) ∙ appended-pool a n sound place (baseIn t (n .0 - 1)) front-is (linkOf (e .link)) (e .ready) w s r
 
+    joins-grant : d .grant ≡ c .grant
+    joins-grant = appended-grant c (linkOf (e .link)) (e .ready) s w
+
     joins-carries : d .carries ≡ c .carries
     joins-carries = appended-carries c (linkOf (e .link)) (e .ready) s w
 
@@ -437,7 +462,7 @@ module _ (t p : List ℕ) (n : ChannelNumber) (h : Numbered t p n) where
     pub append-stream : e .carries ≡ 0 → u ≡ withEntry t n f → Changed t p n (whole d w k) u q
     unfolding whole
     append-stream z eᵗ =
-        subst (λ (y : Chan). Changed t p n y u q) (sym (stop _ _ _ (ap isStream joins-carries ∙ stream-is (sym (m .carries) ∙ z)))) (changed d f u q eᵗ joins-entry joins-lengths joins-pool)
+        subst (λ (y : Chan). Changed t p n y u q) (sym (stop _ _ _ (ap isStream joins-carries ∙ stream-is (sym (m .carries) ∙ z)))) (changed d f u q eᵗ joins-entry joins-lengths joins-grant joins-pool)
 
     -- of datagrams a length more, too
     pub append-datagram :
@@ -451,8 +476,9 @@ module _ (t p : List ℕ) (n : ChannelNumber) (h : Numbered t p n) where
         (record {
           ledger =
               eᵗ ∙ ap (λ (l : List ℕ). withLength l n w k) (eᵛ ∙ entry-written d f joins-entry joins-lengths)
-              ∙ more-written d (λ j. subst Some (sym (joins-lengths j)) (own-some j)) (λ j. subst (λ (l : List ℕ). length l ≤ placeCount) (sym (joins-lengths j)) (own-few j)) w k (omega arith);
-          pool = joins-pool ∙ counted-pool a n sound place d w k (appended-fits c (linkOf (e .link)) (e .ready) s (chan-sound a n sound .fits) w r) (appended-grant c (linkOf (e .link)) (e .ready) s w);
+              ∙ more-written d (λ j. subst Some (sym (joins-lengths j)) (own-some j)) (λ j. subst (λ (l : List ℕ). length l ≤ placeCount) (sym (joins-lengths j)) (own-few j)) w k (omega arith)
+              ∙ same-cells (withQueue d w (counting (queue d w) k)) (counted-grant d w k ∙ joins-grant);
+          pool = joins-pool ∙ counted-pool a n sound place d w k (appended-fits c (linkOf (e .link)) (e .ready) s (chan-sound a n sound .fits) w r) joins-grant;
         })
 
     -- what the ledger then has of the way's lengths
@@ -483,7 +509,7 @@ module _ (t p : List ℕ) (n : ChannelNumber) (h : Numbered t p n) where
     pub remove-stream : e .carries ≡ 0 → u ≡ withEntry t n f → Changed t p n (removed c w k) u q
     remove-stream z eᵗ =
         let none = chan-sound a n sound .lengths w .none (stream-is (sym (ap (λ (y : Channel). y .carries) eᵉ) ∙ z)) in
-        record { ledger = eᵗ ∙ entry-written kept-lengths f kept-entry kept-same ∙ ap (λ (y : Chan). ledgerOf (withChan a n y)) (none-lessened c w k none); pool = less-pool }
+        record { ledger = eᵗ ∙ entry-written kept-lengths f kept-entry kept-same ∙ ap with-numbers (none-lessened c w k none) ∙ same-cells (removed c w k) (removed-grant c k w); pool = less-pool }
 
     pub remove-datagram : (v : List ℕ) → v ≡ withEntry t n f → u ≡ lessLength v n w k → Changed t p n (removed c w k) u q
     remove-datagram v eᵛ eᵗ =
@@ -491,49 +517,69 @@ module _ (t p : List ℕ) (n : ChannelNumber) (h : Numbered t p n) where
           ledger =
               eᵗ ∙ ap (λ (l : List ℕ). lessLength l n w k) (eᵛ ∙ entry-written kept-lengths f kept-entry kept-same)
               ∙ less-written kept-lengths (λ j. subst Some (sym (kept-same j)) (own-some j)) (λ j. subst (λ (l : List ℕ). length l ≤ placeCount) (sym (kept-same j)) (own-few j)) w k
-              ∙ ap (λ (y : Chan). ledgerOf (withChan a n y)) (lessened-back c w k);
+              ∙ ap with-numbers (lessened-back c w k) ∙ same-cells (removed c w k) (removed-grant c k w);
           pool = less-pool;
         }
 
+  -- the cells that are unpromised where the channel goes, or another comes in the place of one that is not open
+  freed : unpromised (withChan a n closed) ≡ freeIn t + 2 * cells (c .grant)
+  unfolding unpromised promised withChan chan closed cells
+  freed = let m = promised-set (a .chans) (n .0 - 1) closed place in let f = unpromised-is in omega (arith, sound .within)
+
+  taken : (d : Chan) → c .grant ≡ 0 → unpromised (withChan a n d) ≡ freeIn t - 2 * cells (d .grant)
+  unfolding unpromised promised withChan chan cells
+  taken d o = let m = promised-set (a .chans) (n .0 - 1) d place in let f = unpromised-is in let g = ap cells o in omega (arith, sound .within)
+
   -- the region goes, or an empty one comes
   pub close-law :
-      (g : ℕ) (u v q : List ℕ) (from sp end : ℕ) → g ≡ x .grant → from ≡ at → sp ≡ space g → end ≡ baseIn t 7 → q ≡ cutOut p from (2 * sp) end →
-      v ≡ withEntry t n (record { grant = 0; link = 0; rx = 0; tx = 0; ready = 0; carries = 0 }) → u ≡ pasted v (lengthsAt n Receive) (replicate 32 0) → Changed t p n closed u q
+      (g : ℕ) (u v w q : List ℕ) (from sp end k f : ℕ) → g ≡ x .grant → from ≡ at → sp ≡ space g → end ≡ baseIn t 7 → q ≡ cutOut p from (2 * sp) end →
+      v ≡ withEntry t n (record { grant = 0; link = 0; rx = 0; tx = 0; ready = 0; carries = 0 }) → w ≡ pasted v (lengthsAt n Receive) (replicate 32 0) →
+      f ≡ freeIn t → k ≡ cells g → u ≡ set w freeAt (f + 2 * k) → Changed t p n closed u q
   unfolding withEntry chanNumbers
-  close-law g u v q from sp end eᵍ eᵃ eˢ eᵉ eᵖ eᵛ eᵗ =
+  close-law g u v w q from sp end k f eᵍ eᵃ eˢ eᵉ eᵖ eᵛ eʷ eᶠ eᵏ eᵗ =
       let m = eˢ ∙ ap space (eᵍ ∙ grant-is) in
       let six : List ℕ = replicate 6 0 in
       let y = places (c .receive .lengths) ++ places (c .send .lengths) in
       let size = length-append (places (c .receive .lengths)) (places (c .send .lengths)) in
-      let f = before-size a (sound .thirteen) n place in
+      let b = before-size a (sound .thirteen) n place in
       let fs = length-append front-of six in
+      let cleared : w ≡ with-numbers closed =
+      eʷ
+      ∙ ap (λ (l : List ℕ). pasted l (lengthsAt n Receive) (replicate 32 0))
+      (eᵛ
+      ∙ (λ i. pasted ((table-is ∙ ledger-parts a (sound .thirteen) n place ∙ ap (λ (l : List ℕ). front-of ++ l) (append-assoc (numbersOf (entry c)) y rest-of)) i) (entryAt (n .0 - 1)) six)
+      ∙ paste-parts front-of (numbersOf (entry c)) (y ++ rest-of) six (entryAt (n .0 - 1)) b refl ∙ sym (append-assoc front-of six (y ++ rest-of)))
+      ∙ paste-parts (front-of ++ six) y rest-of (replicate 32 0) (lengthsAt n Receive) (omega arith) (omega (arith, size, places-size (c .receive .lengths), places-size (c .send .lengths)))
+      ∙ append-assoc front-of six (replicate 32 0 ++ rest-of) ∙ sym (ap (λ (l : List ℕ). front-of ++ (l ++ rest-of)) closed-numbers)
+      in
+      let free : f + 2 * k ≡ unpromised (withChan a n closed) = (λ i. eᶠ i + 2 * (eᵏ ∙ ap cells (eᵍ ∙ grant-is)) i) ∙ sym freed in
       record {
-        ledger =
-            eᵗ
-            ∙ ap (λ (l : List ℕ). pasted l (lengthsAt n Receive) (replicate 32 0))
-            (eᵛ
-            ∙ (λ i. pasted ((table-is ∙ ledger-parts a (sound .thirteen) n place ∙ ap (λ (l : List ℕ). front-of ++ l) (append-assoc (numbersOf (entry c)) y rest-of)) i) (entryAt (n .0 - 1)) six)
-            ∙ paste-parts front-of (numbersOf (entry c)) (y ++ rest-of) six (entryAt (n .0 - 1)) f refl ∙ sym (append-assoc front-of six (y ++ rest-of)))
-            ∙ paste-parts (front-of ++ six) y rest-of (replicate 32 0) (lengthsAt n Receive) (omega arith) (omega (arith, size, places-size (c .receive .lengths), places-size (c .send .lengths)))
-            ∙ append-assoc front-of six (replicate 32 0 ++ rest-of) ∙ sym (numbered closed ∙ ap (λ (l : List ℕ). front-of ++ (l ++ rest-of)) closed-numbers);
+        ledger = eᵗ ∙ ap (λ (l : List ℕ). set l freeAt (f + 2 * k)) cleared ∙ ledger-with a (sound .thirteen) n place closed (f + 2 * k) free;
         pool = eᵖ ∙ (λ i. cutOut (pool-is i) (eᵃ i) (2 * m i) ((eᵉ ∙ sym used-is) i)) ∙ closed-pool a n sound place at front-is;
       }
 
   pub open-law :
-      (g : ℕ) (k : Link) (j : Carries) (l z : ℕ) (u q : List ℕ) (from sp end : ℕ) → c .grant ≡ 0 → baseIn t 7 + 2 * space g ≤ poolSize →
+      (g : ℕ) (k : Link) (j : Carries) (l z : ℕ) (u v q : List ℕ) (from sp end f m : ℕ) → c .grant ≡ 0 → baseIn t 7 + 2 * space g ≤ poolSize →
       from ≡ at → sp ≡ space g → end ≡ baseIn t 7 → l ≡ linkNumber k → z ≡ carriesNumber j → q ≡ spread p from (2 * sp) end →
-      u ≡ withEntry t n (record { grant = g; link = l; rx = 0; tx = 0; ready = 0; carries = z }) → Changed t p n (fresh g k j) u q
+      v ≡ withEntry t n (record { grant = g; link = l; rx = 0; tx = 0; ready = 0; carries = z }) → f ≡ freeIn t → m ≡ cells g → u ≡ set v freeAt (f - 2 * m) →
+      Changed t p n (fresh g k j) u q
   unfolding fresh entry queue
-  open-law g k j l z u q from sp end o f eᵃ eˢ eᵉ eˡ eᶻ eᵖ eᵗ =
-      let v = used-is in
+  open-law g k j l z u v q from sp end f m o fit eᵃ eˢ eᵉ eˡ eᶻ eᵖ eᵛ eᶠ eᵐ eᵗ =
+      let w = used-is in
       let none = unused-lengths c (chan-sound a n sound) o in
-      changed (fresh g k j) _ u q eᵗ (λ i. record { grant = g; link = eˡ i; rx = 0; tx = 0; ready = 0; carries = eᶻ i }) (by-way _ (sym (none Receive)) (sym (none Send)))
-      (eᵖ ∙ (λ i. spread (pool-is i) (eᵃ i) (2 * eˢ i) ((eᵉ ∙ sym used-is) i)) ∙ opened-pool a n sound place at front-is g k j o (omega arith))
+      let written : v ≡ with-numbers (fresh g k j) =
+      eᵛ ∙ entry-written (fresh g k j) _ (λ i. record { grant = g; link = eˡ i; rx = 0; tx = 0; ready = 0; carries = eᶻ i }) (by-way _ (sym (none Receive)) (sym (none Send))) in
+      let free : f - 2 * m ≡ unpromised (withChan a n (fresh g k j)) = (λ i. eᶠ i - 2 * eᵐ i) ∙ sym (taken (fresh g k j) o) in
+      record {
+        ledger = eᵗ ∙ ap (λ (l : List ℕ). set l freeAt (f - 2 * m)) written ∙ ledger-with a (sound .thirteen) n place (fresh g k j) (f - 2 * m) free;
+        pool = eᵖ ∙ (λ i. spread (pool-is i) (eᵃ i) (2 * eˢ i) ((eᵉ ∙ sym used-is) i)) ∙ opened-pool a n sound place at front-is g k j o (omega arith);
+      }
 
   -- another link and another count of ready bytes
   pub mark-law : (e : Channel) (u : List ℕ) → Marks e x → u ≡ withEntry t n e → Changed t p n (marked c (linkOf (e .link)) (e .ready)) u p
+  unfolding marked
   mark-law e u m eᵗ =
-      changed (marked c (linkOf (e .link)) (e .ready)) e u p eᵗ (marks-entry e m) (marked-lengths c (linkOf (e .link)) (e .ready))
+      changed (marked c (linkOf (e .link)) (e .ready)) e u p eᵗ (marks-entry e m) (marked-lengths c (linkOf (e .link)) (e .ready)) refl
       (pool-is ∙ sym (marked-pool a n sound place (linkOf (e .link)) (e .ready)))
 
   -- the first bytes held for a way lie in the pool

@@ -12,10 +12,11 @@ use Rattle.rules.specs.declared.Events.{Events}
 use Rattle.rules.specs.declared.ChannelNumber.{ChannelNumber}
 use Rattle.rules.specs.Profile.{profileSize}
 use Rattle.rules.specs.State.{State, Chan, closed, chan, withChan, queue}
-use Rattle.rules.specs.Pool.{cellSize, cells, promisedTo}
+use Rattle.rules.specs.Pool.{cellSize, cells, promisedTo, promised, unpromised}
+use Rattle.rules.proofs.Grants.{promised-set}
 use Rattle.octets.specs.Parts.{pasted}
 use Rattle.session.specs.declared.Channel.{Channel}
-use Rattle.session.specs.Book.{availableAt, statusAt, channelsAt, entrySize, ledgerSize, entryAt, numbersOf, entryIn, places, listed, listedNumber, withList}
+use Rattle.session.specs.Book.{availableAt, statusAt, freeAt, freeIn, channelsAt, entrySize, ledgerSize, entryAt, numbersOf, entryIn, places, listed, listedNumber, withList}
 use Rattle.session.specs.Picture.{space, linkNumber, entry, chanNumbers, entriesOf, headsOf, ledgerOf, baseIn}
 use Rattle.session.specs.Changed.{withEvents}
 use Rattle.session.proofs.Places.{places-size}
@@ -105,7 +106,7 @@ listed-back true = refl
 listed-back false = refl
 
 -- a number behind the front of a list
-set-behind : (p q : List ℕ) (i v : ℕ) → set (p ++ q) (length p + i) v ≡ p ++ set q i v
+pub set-behind : (p q : List ℕ) (i v : ℕ) → set (p ++ q) (length p + i) v ≡ p ++ set q i v
 set-behind [] q i v = ap (λ (k : ℕ). set q k v) (zero-add i)
 set-behind (x ∷ p) q i v =
     ap (λ (k : ℕ). set (x ∷ (p ++ q)) k v) (let e : suc (length p) + i ≡ suc (length p + i) = omega arith in e)
@@ -153,13 +154,17 @@ module _ (a : State) (thirteen : length (a .profile) ≡ profileSize) where
   unfolding headsOf
   status-read = ap listed (head-read 1 statusAt refl) ∙ listed-back (a .events .status)
 
+  pub free-read : freeIn (ledgerOf a) ≡ unpromised a
+  unfolding headsOf
+  free-read = head-read 2 freeAt refl
+
   head-written : (q : List ℕ) (i at v : ℕ) → at ≡ profileSize + i → set (a .profile ++ q) at v ≡ a .profile ++ set q i v
   head-written q i at v e =
       ap (λ (k : ℕ). set (a .profile ++ q) k v) (let r : at ≡ length (a .profile) + i = omega arith in r) ∙ set-behind (a .profile) q i v
 
   -- another event list
   pub list-written : (e : Events) → withList (ledgerOf a) e ≡ ledgerOf (withEvents a e)
-  unfolding withList ledgerOf headsOf
+  unfolding withList ledgerOf headsOf unpromised promised
   list-written e =
       let x = listedNumber (e .available) in
       let y = listedNumber (e .status) in
@@ -224,12 +229,33 @@ module _ (a : State) (thirteen : length (a .profile) ≡ profileSize) where
         let f = length-take-le (entrySize * k) y (let n = length-entries (a .chans) in omega arith) in
         omega (arith, front-size)
 
-    pub ledger-with : (d : Chan) → ledgerOf (withChan a n d) ≡ before ++ (chanNumbers d ++ behind)
-    unfolding before behind withChan ledgerOf headsOf
-    ledger-with d =
-        sym (append-assoc (a .profile) (headsOf a) (entriesOf (set (a .chans) k d)))
-        ∙ ap (λ (z : List ℕ). front ++ z) (sym (entries-set (a .chans) k d h))
-        ∙ sym (append-assoc front (take (entrySize * k) y) (chanNumbers d ++ drop (entrySize * k + entrySize) y))
+    -- the numbers of another channel there, and the unpromised cells as they were
+    abbrev numbersWith : Chan → List ℕ
+    numbersWith d = before ++ (chanNumbers d ++ behind)
+
+    entries-with : (d : Chan) → numbersWith d ≡ a .profile ++ (headsOf a ++ entriesOf (set (a .chans) k d))
+    unfolding before behind
+    entries-with d =
+        append-assoc front (take (entrySize * k) y) (chanNumbers d ++ drop (entrySize * k + entrySize) y)
+        ∙ ap (λ (z : List ℕ). front ++ z) (entries-set (a .chans) k d h)
+        ∙ append-assoc (a .profile) (headsOf a) (entriesOf (set (a .chans) k d))
+
+    -- with the cells that are then unpromised it is the ledger with that channel
+    pub ledger-with : (d : Chan) (f : ℕ) → f ≡ unpromised (withChan a n d) → set (numbersWith d) freeAt f ≡ ledgerOf (withChan a n d)
+    unfolding withChan ledgerOf headsOf
+    ledger-with d f e =
+        ap (λ (t : List ℕ). set t freeAt f) (entries-with d) ∙ head-written (headsOf a ++ entriesOf (set (a .chans) k d)) 2 freeAt f refl
+        ∙ (λ i. a .profile ++ (listedNumber (a .events .available) ∷ listedNumber (a .events .status) ∷ e i ∷ entriesOf (set (a .chans) k d)))
+
+    -- a channel of the same grant leaves them
+    pub ledger-same : (d : Chan) → d .grant ≡ chan a n .grant → numbersWith d ≡ ledgerOf (withChan a n d)
+    unfolding withChan ledgerOf headsOf unpromised promised chan
+    ledger-same d e =
+        let m = promised-set (a .chans) k d h in
+        let g = ap cells e in
+        let same : promisedTo (a .chans) ≡ promisedTo (set (a .chans) k d) = omega arith in
+        entries-with d
+        ∙ (λ i. a .profile ++ (listedNumber (a .events .available) ∷ listedNumber (a .events .status) ∷ (256 - same i) ∷ entriesOf (set (a .chans) k d)))
 
     pub ledger-parts : ledgerOf a ≡ before ++ (chanNumbers (chan a n) ++ behind)
     unfolding before behind chan

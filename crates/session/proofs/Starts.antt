@@ -8,14 +8,16 @@ use native.Mathlib.Omega.{arith}
 use native.Mathlib.Nat.{le-of-suc-le-suc, not-suc-le-zero}
 use lib.Dec.{leb}
 use borrow.Author.Tests.{leb-true, leb-false}
-use lib.ListN.{length, take, drop, replicate, length-take, drop-of-length-le}
+use lib.ListN.{length, take, drop, set, replicate, length-append, length-take, drop-of-length-le}
 use lib.Seq.{take-all, take-append-le, take-append-add, drop-append-le}
 use Rattle.rules.specs.Profile.{profileSize, kept}
-use Rattle.rules.specs.Pool.{poolSize, cells}
+use Rattle.rules.specs.Pool.{cellCount, poolSize, cells, promisedTo, promised, unpromised}
+use Rattle.rules.proofs.Soundness.{start-sound}
 use Rattle.rules.specs.State.{start, closed, queue}
 use Rattle.octets.specs.Parts.{part, pasted}
 use Rattle.octets.proofs.Copies.{length-part}
-use Rattle.session.specs.Book.{ledgerSize, places}
+use Rattle.session.specs.Book.{freeAt, ledgerSize, places}
+use Rattle.session.proofs.Ledgers.{set-behind}
 use Rattle.session.specs.Picture.{space, pad, region, regions, poolOf, entry, chanNumbers, entriesOf, headsOf, ledgerOf}
 
 zeros-drop : (a n : ℕ) → a ≤ n → drop a (replicate {A = ℕ} n 0) ≡ replicate (n - a) 0
@@ -70,15 +72,29 @@ over-all d s e =
     let h : length d ≤ 0 + length s = omega arith in
     ap (λ (l : List ℕ). s ++ l) (drop-of-length-le d h) ∙ append-nil s
 
--- the front of a profile, put over as many zeros as the ledger has numbers, is the ledger of a fresh session
-pub start-table : (p : List ℕ) (m : ℕ) → m ≡ min (length p) profileSize → pasted (replicate ledgerSize 0) 0 (part 0 m p) ≡ ledgerOf (start p)
-unfolding pasted ledgerOf headsOf start entriesOf chanNumbers entry closed queue places
+-- the front of a profile, put over as many zeros as the ledger has numbers
+pub start-table : (p : List ℕ) (m : ℕ) → m ≡ min (length p) profileSize → pasted (replicate ledgerSize 0) 0 (part 0 m p) ≡ kept p ++ replicate (ledgerSize - profileSize) 0
+unfolding pasted
 start-table p m e =
     let s = part 0 m p in
     let n : 0 + length s ≤ profileSize = let k = length-part 0 m p (omega arith) in omega arith in
     ap (λ (l : List ℕ). s ++ l) (drop-append-le (0 + length s) (replicate profileSize 0) (replicate (ledgerSize - profileSize) 0) n)
     ∙ sym (append-assoc s (drop (0 + length s) (replicate profileSize 0)) (replicate (ledgerSize - profileSize) 0))
     ∙ ap (λ (l : List ℕ). l ++ replicate (ledgerSize - profileSize) 0) (kept-is p m e)
+
+pub start-size : (p t : List ℕ) → t ≡ kept p ++ replicate (ledgerSize - profileSize) 0 → length t ≡ ledgerSize
+unfolding start
+start-size p t e =
+    let k : length (kept p) ≡ profileSize = start-sound p .thirteen in
+    ap (λ (l : List ℕ). length l) e ∙ length-append (kept p) (replicate (ledgerSize - profileSize) 0) ∙ omega arith
+
+-- with every cell unpromised it is the ledger of a fresh session
+pub start-numbers : (p : List ℕ) → set (kept p ++ replicate (ledgerSize - profileSize) 0) freeAt cellCount ≡ ledgerOf (start p)
+unfolding ledgerOf headsOf start entriesOf chanNumbers entry closed queue places unpromised promised promisedTo cells
+start-numbers p =
+    let k : length (kept p) ≡ profileSize = start-sound p .thirteen in
+    let e : freeAt ≡ length (kept p) + 2 = omega arith in
+    ap (λ (i : ℕ). set (kept p ++ replicate (ledgerSize - profileSize) 0) i cellCount) e ∙ set-behind (kept p) (replicate (ledgerSize - profileSize) 0) 2 cellCount
 
 -- nothing is held, so the pool is empty
 pub empty-pool : (p : List ℕ) → replicate poolSize 0 ≡ poolOf (start p)

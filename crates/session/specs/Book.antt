@@ -13,21 +13,24 @@ use Rattle.rules.specs.declared.Events.{Events}
 use Rattle.octets.specs.Parts.{part, pasted}
 use Rattle.session.specs.declared.Channel.{Channel}
 
--- behind the profile stand two numbers that tell whether 09 and 0A are listed, then an entry for each channel, six numbers and the lengths of datagrams for receive and for send; and the size of all
+-- behind the profile stand two numbers that tell whether 09 and 0A are listed, and the number of cells that are not promised, then an entry for each channel, six numbers and the lengths of datagrams for receive and for send; and the size of all
 abbrev pub availableAt : ℕ
 availableAt = 13
 
 abbrev pub statusAt : ℕ
 statusAt = 14
 
+abbrev pub freeAt : ℕ
+freeAt = 15
+
 abbrev pub channelsAt : ℕ
-channelsAt = 15
+channelsAt = 16
 
 abbrev pub entrySize : ℕ
 entrySize = 38
 
 abbrev pub ledgerSize : ℕ
-ledgerSize = 281
+ledgerSize = 282
 
 -- where the entry of a channel begins; k counts the channels before it
 abbrev pub entryAt : ℕ → ℕ
@@ -101,6 +104,10 @@ listed (suc n) = true
 abbrev pub listedNumber : Bool → ℕ
 listedNumber true = 1
 listedNumber false = 0
+
+-- the cells that are not promised
+abbrev pub freeIn : List ℕ → ℕ
+freeIn t = getD t freeAt 0
 
 -- the numbers with another event list
 unfoldable pub withList : List ℕ → Events → List ℕ

@@ -13,7 +13,7 @@ use Rattle.rules.specs.declared.Way.{Way}
 use Rattle.rules.specs.declared.Way.the-variants.{Receive, Send}
 use Rattle.rules.specs.Profile.{profileSize}
 use Rattle.rules.specs.State.{State, Chan, held}
-use Rattle.rules.specs.Pool.{cellSize, poolSize, cells}
+use Rattle.rules.specs.Pool.{cellSize, poolSize, cells, unpromised}
 use Rattle.rules.specs.Sound.{Sound}
 use Rattle.session.specs.declared.Channel.{Channel}
 use Rattle.session.specs.declared.Session.{Session}
@@ -80,9 +80,9 @@ unfoldable pub entriesOf : List Chan → List ℕ
 entriesOf [] = []
 entriesOf (c ∷ cs) = chanNumbers c ++ entriesOf cs
 
--- the numbers between the profile and the entries: whether 09 and 0A are listed
+-- the numbers between the profile and the entries: whether 09 and 0A are listed, and the cells that are not promised
 unfoldable pub headsOf : State → List ℕ
-headsOf a = listedNumber (a .events .available) ∷ listedNumber (a .events .status) ∷ []
+headsOf a = listedNumber (a .events .available) ∷ listedNumber (a .events .status) ∷ unpromised a ∷ []
 
 -- the ledger: the profile, these, and an entry for each channel
 unfoldable pub ledgerOf : State → List ℕ

@@ -8,16 +8,18 @@ use rules::Link;
 use rules::Refusal;
 use rules::Way;
 ghost use mathlib.Core.Path.{_≡_};
-ghost use Prim.Native.Nat.{_+_, _-_, _*_, _/_, _≤_, min};
-ghost use lib.ListN.{length, replicate};
+ghost use Prim.Native.Nat.{_+_, _-_, _*_, _≤_, min};
+ghost use mathlib.Core.List.{_++_};
+ghost use lib.ListN.{length, replicate, set};
 ghost use lib.Dec.{leb};
-ghost use Rattle.rules.specs.Pool.{cellCount, cellSize, poolSize, cells, unpromised};
+ghost use Rattle.rules.specs.Pool.{cells, unpromised};
+ghost use Rattle.rules.specs.Profile.{profileSize, kept};
 ghost use Rattle.rules.specs.declared.Way.the-variants.{Receive};
 ghost use Rattle.rules.specs.Datagrams.{placeCount};
 ghost use Rattle.rules.specs.State.{start, room, atOnce, queue, closed, fresh, marked, appended, whole, removed};
 ghost use Rattle.octets.specs.Parts.{pasted};
 ghost use Rattle.rules.specs.Own.{capped};
-ghost use Rattle.session.specs.Book.{ledgerSize, entryIn, withEntry, lengthsAt, lengthsIn, withLength, lessLength, withList};
+ghost use Rattle.session.specs.Book.{freeAt, freeIn, ledgerSize, entryIn, withEntry, lengthsAt, lengthsIn, withLength, lessLength, withList};
 ghost use Rattle.session.specs.Picture.{Good, Shows, linkNumber, linkOf, carriesNumber, ledgerOf, shown, baseIn, startIn};
 ghost use Rattle.session.specs.Changed.{Numbered, chanIn, Changed, heldIn, dueIn, moreIn, lessIn, Marks};
 
@@ -43,7 +45,9 @@ impl Ledger {
 
     pub const STATUS_AT: usize = 14;
 
-    pub const CHANNELS_AT: usize = 15;
+    pub const FREE_AT: usize = 15;
+
+    pub const CHANNELS_AT: usize = 16;
 
     pub const ENTRY: usize = 38;
 
@@ -51,7 +55,7 @@ impl Ledger {
 
     pub const PLACES: usize = 16;
 
-    pub const SIZE: usize = 281;
+    pub const SIZE: usize = 282;
 }
 
 // A channel: its grant (0 where it is not open), its link by number, how many bytes are held each way, how many of those to send are ready, and what it carries by number.
@@ -64,7 +68,7 @@ pub struct Channel {
     pub carries: u16,
 }
 
-// What a host keeps for a card: the ledger as numbers (the profile's, two of the event list, an entry for each channel), and the pool in which every held byte lies.
+// What a host keeps for a card: the ledger as numbers (the profile's, two of the event list, the unpromised cells, an entry for each channel), and the pool in which every held byte lies.
 #[repr(C)]
 pub struct Session {
     pub ledger: [u16; Ledger::SIZE],
@@ -216,10 +220,19 @@ pub fn start_of(ledger: &[u16; Ledger::SIZE], n: ChannelNumber, grant: u16, way:
 
 // The cells that are not promised to any channel.
 pub fn free_cells(ledger: &[u16; Ledger::SIZE]) -> usize
-    requires { ⌜ (length (now ledger) ≡ ledgerSize) × (baseIn (now ledger) 7 ≤ poolSize) ⌝ }
-    ensures { λ r. ⌜ r ≡ cellCount - baseIn (now (ledger .entry)) 7 / cellSize ⌝ }
+    requires { ⌜ length (now ledger) ≡ ledgerSize ⌝ }
+    ensures { λ r. ⌜ r ≡ freeIn (now (ledger .entry)) ⌝ }
 {
-    Pool::CELLS - base(ledger, 7) / Pool::CELL_SIZE
+    let free = &ledger[Ledger::FREE_AT];
+    *free as usize
+}
+
+// Writes how many cells are not promised.
+fn put_free(ledger: &mut [u16; Ledger::SIZE], free: usize)
+    requires { ⌜ (length (now ledger) ≡ ledgerSize) × (free ≤ 65535) ⌝ }
+    ensures { λ _. ⌜ now (ledger .exit) ≡ set (now (ledger .entry)) freeAt free ⌝ }
+{
+    ledger[Ledger::FREE_AT] = free as u16;
 }
 
 // Where the lengths of a channel and a way stand.
@@ -386,7 +399,8 @@ pub fn close_channel(
     ensures { λ _. ⌜ Changed (now (ledger .entry)) (now (pool .entry)) n closed (now (ledger .exit)) (now (pool .exit)) ⌝ }
 {
     let at = base(ledger, (n.0 - 1) as usize);
-    let used = base(ledger, 7);
+    let free = free_cells(ledger);
+    let used = Pool::SIZE - Pool::CELL_SIZE * free;
     octets::cut(pool, at, 2 * Pool::space(grant), used);
     let none = Channel {
         grant: 0,
@@ -398,6 +412,7 @@ pub fn close_channel(
     };
     put_entry(ledger, n, none);
     clear_lengths(ledger, n);
+    put_free(ledger, free + 2 * Pool::cells(grant));
 }
 
 // The number of what a channel carries.
@@ -424,7 +439,8 @@ pub fn open_channel(
     ensures { λ _. ⌜ Changed (now (ledger .entry)) (now (pool .entry)) n (fresh grant link carries) (now (ledger .exit)) (now (pool .exit)) ⌝ }
 {
     let at = base(ledger, (n.0 - 1) as usize);
-    let used = base(ledger, 7);
+    let free = free_cells(ledger);
+    let used = Pool::SIZE - Pool::CELL_SIZE * free;
     octets::spread_at(pool, at, 2 * Pool::space(grant), used);
     let empty = Channel {
         grant,
@@ -435,6 +451,7 @@ pub fn open_channel(
         carries: carries_number(carries),
     };
     put_entry(ledger, n, empty);
+    put_free(ledger, free - 2 * Pool::cells(grant));
 }
 
 // Writes the event list.
@@ -466,10 +483,10 @@ pub fn least(a: usize, b: usize) -> usize
     b
 }
 
-// Writes the ledger of a fresh session: no channel and no event, and the bytes of the profile in which every place lies.
-pub fn start_ledger(ledger: &mut [u16; Ledger::SIZE], profile: &[u8])
+// Clears every number, and writes the bytes of the profile in which every place lies.
+fn clear_but_profile(ledger: &mut [u16; Ledger::SIZE], profile: &[u8])
     requires { ⌜ length (now ledger) ≡ ledgerSize ⌝ }
-    ensures { λ _. ⌜ now (ledger .exit) ≡ ledgerOf (start (now (profile .entry))) ⌝ }
+    ensures { λ _. ⌜ now (ledger .exit) ≡ kept (now (profile .entry)) ++ replicate (ledgerSize - profileSize) 0 ⌝ }
 {
     let mut i: usize = 0;
     while i < Ledger::SIZE {
@@ -483,6 +500,16 @@ pub fn start_ledger(ledger: &mut [u16; Ledger::SIZE], profile: &[u8])
         ledger[k] = b as u16;
         k += 1;
     }
+}
+
+// Writes the ledger of a fresh session: what is kept of the profile, no event, no channel, and every cell unpromised.
+pub fn start_ledger(ledger: &mut [u16; Ledger::SIZE], profile: &[u8])
+    requires { ⌜ length (now ledger) ≡ ledgerSize ⌝ }
+    ensures { λ _. ⌜ now (ledger .exit) ≡ ledgerOf (start (now (profile .entry))) ⌝ }
+{
+    let all = Pool::CELLS as u16;
+    clear_but_profile(ledger, profile);
+    ledger[Ledger::FREE_AT] = all;
 }
 
 // A fresh session from profile bytes of any length. Starting anew is a card reset.

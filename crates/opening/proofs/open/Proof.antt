@@ -3,7 +3,7 @@
 use native.Mathlib.Omega.{arith}
 use denote.Ref.{now}
 use Rattle.session.proofs.Facts.{good-table}
-use Rattle.opening.proofs.Checks.{bearer-there, bearer-few, numbers, few-channels, numbered, unopened, grant-fits, unserved, uncarried, sizeless, numberless, cellless, open-done}
+use Rattle.opening.proofs.Checks.{bearer-there, bearer-few, few-channels, numbered, unopened, grant-fits, unserved, uncarried, sizeless, numberless, cellless, open-done}
 use borrow.Author.Needs.{needs}
 use Rattle.opening.proofs.open.Statement.{statement}
 use Rattle.opening.proofs.open.Tie as tie
@@ -81,8 +81,7 @@ returns-4 c =
 free-cells-requires : tie.Need-free-cells-requires
 free-cells-requires c κs =
     let s : tie.Start = search in
-    let b = numbers _ _ (s .pre .0) in
-    (b .table, b .used-fits)
+    good-table _ _ (s .pre .0)
 
 returns-5 : tie.Need-returns-5
 returns-5 c =
