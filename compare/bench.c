@@ -140,6 +140,12 @@ static void list_more_time(uint32_t n)
     add(write_command(frames[0], 0x02, 0, 0x82, 0, NULL, 0));
 }
 
+/* OPEN CHANNEL of n bytes. */
+static void list_open(uint32_t n)
+{
+    add(open_call(frames[0], n));
+}
+
 /* OPEN CHANNEL of n bytes and CLOSE CHANNEL: together they leave the record as it was. */
 static void list_open_and_close(uint32_t n)
 {
@@ -239,6 +245,8 @@ typedef struct {
 static const line lines[] = {
     {"refused frame (length 81 09)", 0, 1, GRANT, 0, 0, 0, list_refused, 0},
     {"MORE TIME", 0, 1, GRANT, 0, 0, 0, list_more_time, 0},
+    {"OPEN of 32, none open", 0, 0, 0, 0, 0, 0, list_open, 32},
+    {"OPEN of 32, six open", 0, 6, 32, 0, 0, 0, list_open, 32},
     {"OPEN of 1500 and CLOSE, the pair", 0, 0, 0, 0, 0, 0, list_open_and_close, GRANT},
     {"SEND DATA of 1", 1, 1, GRANT, 0, 0, 0, list_send, 1},
     {"SEND DATA of 200", 200, 1, GRANT, 0, 0, 0, list_send, 200},

@@ -289,6 +289,8 @@ static uint32_t perform(records *r, const call *c)
         differ("bytes lent to be read were changed", c, a, b);
     if (!honest(c, a, reference_space, before))
         differ("both touch bytes that they do not report", c, a, b);
+    if (r->pomerassol.ledger[POMERASSOL_FREE_CELLS] != CELLS - r->reference.promised)
+        differ("the kept number of unpromised cells", c, a, b);
     return a;
 }
 
