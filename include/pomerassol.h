@@ -33,10 +33,11 @@ extern "C" {
 #define POMERASSOL_STREAM 0
 #define POMERASSOL_DATAGRAMS 1
 
-/* The ledger is 281 numbers. Here is the place of each:
+/* The ledger is 282 numbers. Here is the place of each:
  *   - from 0 to 12 the kept bytes of the profile, each at most 255;
  *   - 13 and 14 the event list: whether 09, data available, and 0A, channel status, are listed. Each is 0 or 1;
- *   - from 15 on 38 numbers for each of the channels 1 to 7, in this order: its grant (0 where it is not open), its link,
+ *   - 15 the cells that are promised to no channel, 256 at the start;
+ *   - from 16 on 38 numbers for each of the channels 1 to 7, in this order: its grant (0 where it is not open), its link,
  *     the bytes held for receive, the bytes held for send, how many of those to send are ready, and what it carries; then
  *     16 lengths of the datagrams held for receive, and 16 of the finished ones held for send, oldest first, 0 where there
  *     is none. The bytes to send that are not ready are those of the unfinished datagram. */
@@ -44,8 +45,9 @@ extern "C" {
 #define POMERASSOL_PROFILE_SIZE 13
 #define POMERASSOL_EVENT_AVAILABLE 13
 #define POMERASSOL_EVENT_STATUS 14
+#define POMERASSOL_FREE_CELLS 15
 #define POMERASSOL_PLACES 16
-#define POMERASSOL_CHANNEL(n) (15 + 38 * ((n) - 1))
+#define POMERASSOL_CHANNEL(n) (16 + 38 * ((n) - 1))
 #define POMERASSOL_GRANT(n) (POMERASSOL_CHANNEL(n) + 0)
 #define POMERASSOL_LINK(n) (POMERASSOL_CHANNEL(n) + 1)
 #define POMERASSOL_RX(n) (POMERASSOL_CHANNEL(n) + 2)
@@ -57,17 +59,17 @@ extern "C" {
 
 /* What a host keeps for a card. Every held byte lies in the pool; a host reads the record if it likes, and never writes it. */
 typedef struct {
-    uint16_t ledger[281];
+    uint16_t ledger[282];
     uint8_t pool[8192];
 } pomerassol_session;
 
-POMERASSOL_ASSERT(sizeof(pomerassol_session) == 8754, "session");
+POMERASSOL_ASSERT(sizeof(pomerassol_session) == 8756, "session");
 POMERASSOL_ASSERT(offsetof(pomerassol_session, ledger) == 0, "ledger");
-POMERASSOL_ASSERT(offsetof(pomerassol_session, pool) == 562, "pool");
-POMERASSOL_ASSERT(POMERASSOL_TX_LENGTHS(7) + POMERASSOL_PLACES == 281, "lengths");
+POMERASSOL_ASSERT(offsetof(pomerassol_session, pool) == 564, "pool");
+POMERASSOL_ASSERT(POMERASSOL_TX_LENGTHS(7) + POMERASSOL_PLACES == 282, "lengths");
 
 /* A fresh session from profile bytes of any length; at a card's reset, anew. The record may hold anything, as memory that is
- * all 0. Afterwards it shows `start` of the profile: no channel, no event, an empty pool. */
+ * all 0. Afterwards it shows `start` of the profile: no channel, no event, an empty pool, every cell unpromised. */
 void pomerassol_start(pomerassol_session *s, const uint8_t *profile, size_t profile_size);
 
 /* The card sends a command. The answer is `command` of the session, the buffer's size and the bytes: the response that the
