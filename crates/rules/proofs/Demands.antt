@@ -18,7 +18,7 @@ use Rattle.rules.specs.Checks.{_⇒_else_, isEmpty, some-of, member}
 use Rattle.rules.specs.Words.{channelOf}
 use Rattle.rules.specs.declared.Way.{Way}
 use Rattle.rules.specs.declared.Way.the-variants.{Receive, Send}
-use Rattle.rules.specs.State.{State, Chan, closed, isOpen, isStream, isEstablished, isDropped, chan, room, queue, held, due, atOnce, without, joined, withQueue, marked, removed, appended, arrived, dropped, unfinished, placesUsed, crowded}
+use Rattle.rules.specs.State.{State, Chan, closed, isOpen, isStream, isEstablished, isDropped, chan, room, queue, held, due, atOnce, without, joined, withQueue, marked, removed, appended, dropped, unfinished, placesUsed, crowded}
 use Rattle.rules.specs.Datagrams.{total, pieces, behind}
 use Rattle.rules.specs.Reading.{reading, kindOf, toModem, Command, Body, Bearer, closeChannel, receiveData, sendData}
 use Rattle.rules.specs.Sound.{SoundChan}
@@ -34,8 +34,8 @@ use Rattle.rules.specs.Demands.{Tells, Follows, reached, told-of, next, 
 use Rattle.rules.proofs.Laws.{by-way, branch, stop, skip, both-left, either-left, either-right, and-false, same-kind, empty-length}
 use Rattle.rules.proofs.Cases.{arrival-cases, taking-cases, dropping-cases, receiving-cases}
 use Rattle.rules.proofs.Datagrams.{first, first-taken, first-piece, length-pieces, pieces-lengths}
-use Rattle.rules.proofs.Soundness.{closed-sound, chan-sound, reached-sound, whole-link}
-use Rattle.rules.proofs.Told.{open-changed, whole-held}
+use Rattle.rules.proofs.Soundness.{closed-sound, chan-sound, reached-sound}
+use Rattle.rules.proofs.Told.{open-changed}
 use Rattle.rules.proofs.Matching.{closed-told, numbered-of}
 use Rattle.rules.proofs.Answers.{arrival-last, sending-last, meant-own, seen-read, Counts, meant-counts, unaccepted-stays, undone-stays}
 use Rattle.rules.proofs.Histories.{follows}

@@ -222,11 +222,7 @@ module _ (c : Chan) (h : SoundChan c) where
             (record { none = y .none; some = y .some; all = y .all; few = y .few });
       }
 
--- a whole datagram more leaves the link and the grant
-pub whole-link : (c : Chan) (w : Way) (k : ℕ) → whole c w k .link ≡ c .link
-unfolding whole withQueue
-whole-link c w k = branch (λ (d : Chan). d .link ≡ c .link) (isStream (c .carries)) _ _ (λ _. refl) (λ _. by-way (λ (v : Way). withQueue c v (counting (queue c v) k) .link ≡ c .link) refl refl w)
-
+-- a whole datagram more leaves the grant
 pub whole-grant : (c : Chan) (w : Way) (k : ℕ) → whole c w k .grant ≡ c .grant
 unfolding whole withQueue
 whole-grant c w k = branch (λ (d : Chan). d .grant ≡ c .grant) (isStream (c .carries)) _ _ (λ _. refl) (λ _. by-way (λ (v : Way). withQueue c v (counting (queue c v) k) .grant ≡ c .grant) refl refl w)
