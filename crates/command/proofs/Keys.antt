@@ -1,6 +1,6 @@
 -- Numbers in lists: the keys of a match, and tests that every number of a list passes.
 -- Assumes nothing.
-use Prim.Native.Nat.{ℕ, zero, suc, _+_, _≤_, _<_}
+use Prim.Native.Nat.{ℕ, zero, suc, _+_, _≤_}
 use mathlib.Core.Path.{_≡_, refl, sym, ap, _∙_}
 use mathlib.Core.Logic.{inl, inr, ⊎-elim}
 use mathlib.Core.Bool.{Bool, true, false, _&&_, _||_, true≢false, false≢true}
@@ -56,13 +56,6 @@ past t a (suc m) h e =
     let n = eqb-false t a (either-left (eqb t a) (member t (run (a + 1) m)) e) in
     let k = past t (a + 1) m (omega arith) (either-right (eqb t a) (member t (run (a + 1) m)) e) in
     omega arith
-
-pub in-run : (t a m : ℕ) → a ≤ t → t < a + m → member t (run a m) ≡ true
-in-run t a m low high = by (member t (run a m)) refl
-  where
-    by : (b : Bool) → member t (run a m) ≡ b → member t (run a m) ≡ true
-    by true e = e
-    by false e = absurd (let h = past t a m low e in omega arith)
 
 pub behind : (t a m : ℕ) → a ≤ t → t ≤ a + m → Outside t (run a m) (Unit {0}) → t ≡ a + m
 behind t a m low high w = let h = past t a m low (outside t (run a m) w) in omega arith

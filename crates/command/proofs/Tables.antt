@@ -1,14 +1,13 @@
 -- The slots of the object numbers, the rows, and the plans of the types.
 -- Assumes nothing.
-use Prim.Native.Nat.{ℕ, _-_, _≤_, _<_}
+use Prim.Native.Nat.{ℕ, _≤_, _<_}
 use mathlib.Core.Path.{_≡_, refl, sym, ap, _∙_}
 use mathlib.Core.Bool.{Bool, true, false, not, _&&_, _||_, true≢false}
 use mathlib.Core.List.{List, [], _∷_, map}
 use native.Mathlib.Omega.{arith}
 use types.Run.{OneOf}
-use lib.ListN.{getD}
 use lib.Dec.{ltb, leb, eqb}
-use borrow.Author.Tests.{ltb-true, leb-true, le-leb, lt-leb, eqb-true, eq-eqb, ne-eqb}
+use borrow.Author.Tests.{ltb-true, leb-true, le-leb, lt-leb, eqb-true, eq-eqb}
 use Rattle.rules.specs.declared.Details.{Details}
 use Rattle.rules.specs.Checks.{_⇒_else_, every, some-of, member}
 use Rattle.rules.specs.Profile.{profileSize, bit, allowsType}
@@ -21,7 +20,7 @@ use Rattle.command.specs.declared.Plan.{Plan}
 use Rattle.command.specs.declared.Row.{Row}
 use Rattle.command.specs.Plans.{handlerKind, ownNumber, needed, besidesBy, timesBy, PlaceFor, PlanOf}
 use Rattle.command.specs.Surveys.{slots, slotOf}
-use Rattle.command.proofs.Keys.{arm, out-keys, run, in-run, Outside, outside, every-member, no-member, all-true}
+use Rattle.command.proofs.Keys.{arm, out-keys, Outside, outside, every-member, no-member, all-true}
 
 -- the slot of a number that a row may have is its own
 abbrev pub has-slot : ℕ → Bool
@@ -225,44 +224,6 @@ place-at p d t e is tried =
       bit-low = leb-true 1 (p .bit) (w .1 .1 .0);
       bit-high = leb-true (p .bit) 8 (w .1 .1 .1 .0);
     }
-
--- the places of 40 to 44: byte 12, and the type less 3F
-channel-place : (p : Place) (d : Details) → 0x40 ≤ d .kind → d .kind ≤ 0x44 → p .byte ≡ 12 → p .bit ≡ d .kind - 0x3F → PlaceFor p d
-unfolding allowsType
-channel-place p d low high b k =
-    record {
-      is =
-          λ q.
-          (λ i. bit q (b i) (k i))
-          ∙ sym (skip _ _ _ (ne-eqb (d .kind) 0x02 (omega arith)) ∙ skip _ _ _ (ne-eqb (d .kind) 0x05 (omega arith)));
-      byte-low = omega arith;
-      byte-high = omega arith;
-      bit-low = omega arith;
-      bit-high = omega arith;
-    }
-
--- the table of places
-abbrev places : List Place
-places =
-    record { byte = 12; bit = 1 } ∷
-    record { byte = 12; bit = 2 } ∷
-    record { byte = 12; bit = 3 } ∷
-    record { byte = 12; bit = 4 } ∷
-    record { byte = 12; bit = 5 } ∷
-    []
-
-abbrev place-of : ℕ → Place
-place-of t = getD places (t - 0x40) (record { byte = 0; bit = 0 })
-
--- it has the profile rule's place for each of the five types
-pub places-rule : (d : Details) → 0x40 ≤ d .kind → d .kind ≤ 0x44 → PlaceFor (place-of (d .kind)) d
-unfolding every
-places-rule d low high =
-    let t = d .kind in
-    let byte = eqb (place-of t .byte) 12 in
-    let bit = eqb (place-of t .bit) (t - 0x3F) in
-    let w = every-member (λ k. eqb (place-of k .byte) 12 && eqb (place-of k .bit) (k - 0x3F)) t (run 0x40 5) refl (in-run t 0x40 5 low (omega arith)) in
-    channel-place (place-of t) d low high (eqb-true _ _ (both-left byte bit w)) (eqb-true _ _ (both-right byte bit w))
 
 -- the types that have a plan: those that have an arm of their own, and the range
 abbrev alone : List ℕ

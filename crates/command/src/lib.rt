@@ -98,22 +98,20 @@ enum Planned {
     Unknown,
 }
 
-// The places of the types 40 to 44.
-const PLACES: [Place; 5] = [
-    Place { byte: 12, bit: 1 },
-    Place { byte: 12, bit: 2 },
-    Place { byte: 12, bit: 3 },
-    Place { byte: 12, bit: 4 },
-    Place { byte: 12, bit: 5 },
-];
+// The byte of the profile that allows the types 40 to 44, and the number below theirs: its bit 1 is for 40.
+const CHANNELS_BYTE: usize = 12;
+
+const BELOW_CHANNELS: u8 = 0x3F;
 
 // The place of a type from 40 to 44: that of the profile rule.
 fn channel_place(d: Details) -> Place
     requires { ⌜ (64 ≤ d .kind) × (d .kind ≤ 68) ⌝ }
     ensures { λ r. ⌜ PlaceFor r d ⌝ }
 {
-    let k = (d.kind - 0x40) as usize;
-    PLACES[k]
+    Place {
+        byte: CHANNELS_BYTE,
+        bit: d.kind - BELOW_CHANNELS,
+    }
 }
 
 // The plan of a type from 40 to 44.
