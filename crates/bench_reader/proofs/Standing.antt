@@ -84,20 +84,21 @@ value-form b u (len n s) h f =
       is = λ i. tag-form b h i ∷ (f ∙ (λ j. lengthBytes (sym k j) ++ sym (take-append-drop n s) j) ∙ sym (append-assoc (lengthBytes (length v)) v (drop n s))) i;
     })
 
-object-form : (b : ℕ) (u : List ℕ) → b < 256 → Form b u (objectAt (b ∷ u))
+object-form : (b : ℕ) (u : List ℕ) → b < 256 → (b ≡ 0x7F → ⊥) → Form b u (objectAt (b ∷ u))
 unfolding objectAt tagAt afterTag
-object-form b u h =
-    branch (λ (r : TagRead). Form b u (afterTag r)) _ _ _ (λ _. tt) (λ _. value-form b u (lengthAt u) h (length-form u))
+object-form b u h short =
+    branch (λ (r : TagRead). Form b u (afterTag r)) _ _ _ (λ e. absurd (short (eqb-true b 0x7F e)))
+    (λ _. branch (λ (r : TagRead). Form b u (afterTag r)) _ _ _ (λ _. tt) (λ _. value-form b u (lengthAt u) h (length-form u)))
 
 module _ {s : List ℕ} {at number : ℕ} {flag : Bool} {start n next : ℕ} (st : Stands s at number flag start n next) where
   stands-before : at < length s
   stands-before = omega (arith, st .behind, st .ends, st .within)
 
-  pub stands-valued : getD s at 0 < 256 → Valued s at (getD s at 0 % 0x80) (leb 0x80 (getD s at 0)) start n next
-  stands-valued h =
+  pub stands-valued : getD s at 0 < 256 → (getD s at 0 ≡ 0x7F → ⊥) → Valued s at (getD s at 0 % 0x80) (leb 0x80 (getD s at 0)) start n next
+  stands-valued h short =
       let o = objectOf s number flag start n in
       let k = drop-cons s at 0 stands-before in
-      let f : Formed (getD s at 0) _ o (drop next s) = subst (Form (getD s at 0) _) (ap objectAt (sym k) ∙ st .is) (object-form (getD s at 0) _ h) in
+      let f : Formed (getD s at 0) _ o (drop next s) = subst (Form (getD s at 0) _) (ap objectAt (sym k) ∙ st .is) (object-form (getD s at 0) _ h short) in
       let l = sym (length-drop at s) ∙ ap length (k ∙ f .is) ∙ length-append (objectBytes o) (drop next s) in
       record {
         holds =
@@ -147,8 +148,10 @@ module _ (s : List ℕ) (at tag : ℕ) {r : Found} (m : Meets r s at) where
     other-tag k =
         record { never = λ v os q. k (ap (λ (l : List ℕ). getD l 0 0) (sym (drop-cons s at 0 (tag-inside s at m e)) ∙ q) ∙ sym (tag-form tag b)) }
 
-    pub that-tag : getD s at 0 ≡ tag → Valued s at (tag % 0x80) (leb 0x80 tag) start n (next .at)
-    that-tag q = subst (λ (k : ℕ). k < 256 → Valued s at (k % 0x80) (leb 0x80 k) start n (next .at)) q (stands-valued (object-told e m)) b
+    pub that-tag : Tag tag → getD s at 0 ≡ tag → Valued s at (tag % 0x80) (leb 0x80 tag) start n (next .at)
+    that-tag h q =
+        subst (λ (k : ℕ). k < 256 → (k ≡ 0x7F → ⊥) → Valued s at (k % 0x80) (leb 0x80 k) start n (next .at)) q (stands-valued (object-told e m)) b
+        (λ z. let w = h .1 in let y : tag % 0x80 ≡ 0x7F = ap (λ (k : ℕ). k % 0x80) z in omega arith)
 
 -- what was told, by the case that it is
 module _ {s : List ℕ} {at number : ℕ} {flag : Bool} where

@@ -1,6 +1,6 @@
 -- One tag, one length and one object at a place, case by case.
 -- Assumes nothing.
-use Prim.Native.Nat.{ℕ, _+_, _-_, _%_, _≤_, _<_}
+use Prim.Native.Nat.{ℕ, _+_, _-_, _*_, _%_, _≤_, _<_}
 use mathlib.Core.Path.{_≡_, refl, sym, ap, subst, _∙_}
 use mathlib.Core.Bool.{Bool, _||_}
 use mathlib.Core.List.{List, _∷_}
@@ -12,7 +12,8 @@ use lib.Dec.{eqb, leb}
 use borrow.Author.Tests.{lt-ltb, le-ltb, le-leb, lt-leb, eq-eqb, ne-eqb}
 use Rattle.rules.specs.declared.Ending.{Ending}
 use Rattle.rules.specs.declared.Ending.the-variants.{BadTag, BadLength, CutValue}
-use Rattle.rules.specs.Frames.{tagAt, noTag, noLength, longLength, lengthAt, object, faulty, valueAfter, afterTag, objectAt}
+use Rattle.rules.specs.Frames.{longTag, tagAt, tag, noTag, noLength, longLength, lengthAt, object, faulty, valueAfter, afterTag, objectAt}
+use Rattle.rules.specs.Checks.{_⇒_else_}
 use Rattle.rules.proofs.Laws.{stop, skip}
 use Rattle.objects.specs.declared.Tagged.{Tagged}
 use Rattle.objects.specs.declared.Tagged.the-variants as tagged
@@ -22,10 +23,38 @@ use Rattle.objects.specs.declared.Sized.the-variants.{By, Not}
 use Rattle.objects.specs.declared.Cursor.{Cursor}
 use Rattle.objects.specs.declared.Found.{Found}
 use Rattle.objects.specs.declared.Found.the-variants.{Object, Fault}
-use Rattle.objects.specs.Places.{Tag, Tags, Length, Measures, Stands, Meets}
+use Rattle.objects.specs.Places.{LongTag, LongTags, Tag, Tags, Length, Measures, Stands, Meets}
 
 pub cons-at : (s : List ℕ) (at : ℕ) → at < length s → drop at s ≡ getD s at 0 ∷ drop (at + 1) s
 cons-at s at h = drop-cons s at 0 h ∙ ap (λ (k : ℕ). getD s at 0 ∷ drop k s) (sym (add-one at))
+
+-- the two bytes behind a 7F
+module _ (s : List ℕ) (at : ℕ) where
+  pub second-none : length s ≤ at → longTag (drop at s) ≡ noTag
+  unfolding longTag
+  second-none h = ap longTag (drop-of-length-le s h)
+
+  pub third-none : at < length s → length s ≤ at + 1 → longTag (drop at s) ≡ noTag
+  unfolding longTag
+  third-none h k = ap longTag (cons-at s at h ∙ ap (λ (l : List ℕ). getD s at 0 ∷ l) (drop-of-length-le s k))
+
+  module _ (k : at + 1 < length s) where
+    abbrev b : ℕ
+    b = getD s at 0
+
+    abbrev number : ℕ
+    number = 256 * (b % 0x80) + getD s (at + 1) 0
+
+    both-there : longTag (drop at s) ≡ longTag (b ∷ getD s (at + 1) 0 ∷ drop (at + 1 + 1) s)
+    both-there = ap longTag (cons-at s at (omega arith) ∙ ap (λ (l : List ℕ). b ∷ l) (cons-at s (at + 1) k))
+
+    pub long-zero : number ≡ 0 → longTag (drop at s) ≡ noTag
+    unfolding longTag
+    long-zero e = both-there ∙ stop _ _ _ (eq-eqb number 0 e)
+
+    pub long-read : (number ≡ 0 → ⊥) → LongTag s at number (leb 0x80 b) (at + 1 + 1)
+    unfolding longTag
+    long-read n = record { is = both-there ∙ skip _ _ _ (ne-eqb number 0 n); behind = omega arith }
 
 -- the tag at a place
 module _ (s : List ℕ) (at : ℕ) where
@@ -40,19 +69,36 @@ module _ (s : List ℕ) (at : ℕ) where
     by-byte : tagAt (drop at s) ≡ tagAt (t ∷ drop (at + 1) s)
     by-byte = ap tagAt (cons-at s at h)
 
-    pub tag-zero : t % 0x80 ≡ 0 → tagAt (drop at s) ≡ noTag
+    by-rest : t ≡ 0x7F → tagAt (drop at s) ≡ longTag (drop (at + 1) s)
     unfolding tagAt
-    tag-zero e = by-byte ∙ stop _ _ _ (ap (λ (b : Bool). b || eqb (t % 0x80) 0x7F) (eq-eqb (t % 0x80) 0 e))
+    by-rest e = by-byte ∙ stop _ _ _ (eq-eqb t 0x7F e)
+
+    pub tag-long : (r : Tagged) → t ≡ 0x7F → LongTags r s (at + 1) → Tags r s at
+    tag-long (As number flag next) e w = record { is = by-rest e ∙ w .is; behind = omega (arith, w .behind) }
+    tag-long tagged.Not e w = by-rest e ∙ w
+
+    short : (t ≡ 0x7F → ⊥) → {b : Bool} → (eqb (t % 0x80) 0 || eqb (t % 0x80) 0x7F) ≡ b → tagAt (drop at s) ≡ (b ⇒ noTag else tag (t % 0x80) (leb 0x80 t) (drop (at + 1) s))
+    unfolding tagAt
+    short k e = by-byte ∙ skip _ _ _ (ne-eqb t 0x7F k) ∙ (λ i. e i ⇒ noTag else tag (t % 0x80) (leb 0x80 t) (drop (at + 1) s))
+
+    pub tag-zero : t % 0x80 ≡ 0 → tagAt (drop at s) ≡ noTag
+    tag-zero e =
+        short (λ k. let z : 0x7F % 0x80 ≡ 0 = sym (ap (λ (x : ℕ). x % 0x80) k) ∙ e in omega arith) (ap (λ (b : Bool). b || eqb (t % 0x80) 0x7F) (eq-eqb (t % 0x80) 0 e))
+        ∙ stop _ _ _ refl
 
     module _ (n₀ : t % 0x80 ≡ 0 → ⊥) where
-      pub tag-long : t % 0x80 ≡ 0x7F → tagAt (drop at s) ≡ noTag
-      unfolding tagAt
-      tag-long e = by-byte ∙ stop _ _ _ (λ i. ne-eqb (t % 0x80) 0 n₀ i || eq-eqb (t % 0x80) 0x7F e i)
-
-      pub tag-read : (t % 0x80 ≡ 0x7F → ⊥) → Tag s at (t % 0x80) (leb 0x80 t) (at + 1)
-      unfolding tagAt
+      pub tag-read : t % 0x80 < 0x7F → Tag s at (t % 0x80) (leb 0x80 t) (at + 1)
       tag-read n =
-          record { is = by-byte ∙ skip _ _ _ (λ i. ne-eqb (t % 0x80) 0 n₀ i || ne-eqb (t % 0x80) 0x7F n i); behind = omega arith }
+          record {
+            is =
+                short (λ k. let z : t % 0x80 ≡ 0x7F % 0x80 = ap (λ (x : ℕ). x % 0x80) k in omega arith)
+                (λ i. ne-eqb (t % 0x80) 0 n₀ i || ne-eqb (t % 0x80) 0x7F (omega arith) i)
+                ∙ skip _ _ _ refl;
+            behind = omega arith;
+          }
+
+      pub tag-last : 0x7F ≤ t % 0x80 → (t ≡ 0x7F → ⊥) → tagAt (drop at s) ≡ noTag
+      tag-last l k = short k (λ i. ne-eqb (t % 0x80) 0 n₀ i || eq-eqb (t % 0x80) 0x7F (omega arith) i) ∙ stop _ _ _ refl
 
 last-byte : (s : List ℕ) (at : ℕ) → getD s (at + 1 - 1) 0 ≡ getD s at 0
 last-byte s at = let e : at + 1 - 1 ≡ at = omega arith in ap (λ (k : ℕ). getD s k 0) e

@@ -7,7 +7,7 @@ use lib.ListN.{length, drop, getD}
 use lib.Dec.{eqb}
 use Rattle.rules.specs.Checks.{_⇒_else_}
 use Rattle.rules.specs.Frames as frames
-use Rattle.rules.specs.Frames.{tagAt, tag, noTag, lengthAt, len, noLength, ObjectRead, objectAt, object, faulty}
+use Rattle.rules.specs.Frames.{longTag, tagAt, tag, noTag, lengthAt, len, noLength, ObjectRead, objectAt, object, faulty}
 use Rattle.octets.specs.Parts.{part}
 use Rattle.objects.specs.declared.Tagged.{Tagged}
 use Rattle.objects.specs.declared.Tagged.the-variants as tagged
@@ -24,6 +24,15 @@ pub record Tag (s : List ℕ) (at number : ℕ) (flag : Bool) (next : ℕ) : Typ
 abbrev pub Tags : Tagged → List ℕ → ℕ → Type 0
 Tags (tagged.As number flag next) s at = Tag s at number flag next
 Tags tagged.Not s at = tagAt (drop at s) ≡ noTag
+
+-- the same of the two bytes behind a 7F
+pub record LongTag (s : List ℕ) (at number : ℕ) (flag : Bool) (next : ℕ) : Type 0 where
+  pub is : longTag (drop at s) ≡ tag number flag (drop next s)
+  pub behind : at < next
+
+abbrev pub LongTags : Tagged → List ℕ → ℕ → Type 0
+LongTags (tagged.As number flag next) s at = LongTag s at number flag next
+LongTags tagged.Not s at = longTag (drop at s) ≡ noTag
 
 -- a length of n at `at`; what it counts starts at start, and its last byte is n in either form
 pub record Length (s : List ℕ) (at n start : ℕ) : Type 0 where

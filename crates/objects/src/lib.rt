@@ -7,7 +7,7 @@ ghost use Prim.Native.Nat.{_+_, _≤_};
 ghost use lib.ListN.{length};
 ghost use Rattle.octets.specs.Parts.{pasted};
 ghost use Rattle.rules.specs.Frames.{lengthBytes, walk};
-ghost use Rattle.objects.specs.Places.{Tags, Measures, Meets};
+ghost use Rattle.objects.specs.Places.{LongTags, Tags, Measures, Meets};
 
 // A tag at a place: its number, its flag, and where its length stands.
 enum Tagged {
@@ -38,7 +38,30 @@ pub struct Stop {
     pub at: usize,
 }
 
-// The tag at `at`: the top bit is the flag, the low seven bits the number; no number is 0 or 127.
+// The first byte of a tag of three.
+const LONG_TAG: u8 = 0x7F;
+
+// The two bytes at `at`, behind a 7F: the top bit of the first is the flag, its other seven bits and the second the number, which is not 0.
+fn long_tag_at(s: &[u8], at: usize) -> Tagged
+    ensures { λ r. ⌜ LongTags r (now (s .entry)) at ⌝ }
+{
+    if s.len() <= at {
+        return Tagged::Not;
+    }
+    let third = at + 1;
+    if s.len() <= third {
+        return Tagged::Not;
+    }
+    let b = s[at];
+    let c = s[third];
+    let number = 256 * (b % 0x80) as u16 + c as u16;
+    if number == 0 {
+        return Tagged::Not;
+    }
+    Tagged::As(number, 0x80 <= b, third + 1)
+}
+
+// The tag at `at`: three bytes from 7F on, else one, whose top bit is the flag and whose low seven bits are the number, which is not 0 or 127.
 fn tag_at(s: &[u8], at: usize) -> Tagged
     ensures { λ r. ⌜ Tags r (now (s .entry)) at ⌝ }
 {
@@ -50,10 +73,13 @@ fn tag_at(s: &[u8], at: usize) -> Tagged
     if number == 0 {
         return Tagged::Not;
     }
-    if number == 0x7F {
-        return Tagged::Not;
+    if number < LONG_TAG {
+        return Tagged::As(number as u16, 0x80 <= b, at + 1);
     }
-    Tagged::As(number as u16, 0x80 <= b, at + 1)
+    if b == LONG_TAG {
+        return long_tag_at(s, at + 1);
+    }
+    Tagged::Not
 }
 
 // The length at `at`: one byte 00 to 7F, or 81 and a byte 80 to FF.

@@ -9,7 +9,7 @@ use lib.ListN.{replicate}
 use Rattle.rules.specs.declared.Link.{Link}
 use Rattle.rules.specs.declared.Link.the-variants.{NotYet, Established, Dropped}
 use Rattle.rules.specs.Checks.{_⇒_else_, isEmpty, some-of, member, same}
-use Rattle.rules.specs.Frames.{longLength, lengthAt, lengthBytes, tagAt, valueAfter, afterTag, objectAt, onward, walkUpTo, walk, objectBytes, written, frame}
+use Rattle.rules.specs.Frames.{longLength, lengthAt, lengthBytes, longTag, tagAt, valueAfter, afterTag, objectAt, onward, walkUpTo, walk, objectBytes, written, frame}
 use Rattle.rules.specs.Table.{table, known}
 use Rattle.rules.specs.State.{isDropped}
 use Rattle.rules.specs.Reading.{Command, Body, Bearer, moreTime, eventList, openChannel, closeChannel, receiveData, sendData, channelStatus, other, kindOf, detailsOf, detailsIn, pairIn, bearerIn, toModem, addressed, zeros}
@@ -108,7 +108,7 @@ heard (untold r) = false
 
 -- the bench reads the responses within each bound, and none past it
 pub bounds-heard : map (λ (r : Row). heard (benchRead (responseBytes (r .response)))) bounds ≡ map (λ (r : Row). r .read) bounds
-unfolding bounds heard _⇒_else_ isEmpty some-of member same longLength lengthAt lengthBytes tagAt valueAfter afterTag objectAt onward walkUpTo walk objectBytes written table known isDropped detailsIn pairIn bearerIn zeros pairBytes detailsBytes bearerBytes statusBytes statusObject statusObjects furtherObjects resultBytes resultObjects responseObjects responseBytes bearerProper errorProper causeProper successProper rising furtherProper resultProper proper valueAt statusIn statusesIn furtherIn resultIn responseIn benchRead
+unfolding bounds heard _⇒_else_ isEmpty some-of member same longLength lengthAt lengthBytes longTag tagAt valueAfter afterTag objectAt onward walkUpTo walk objectBytes written table known isDropped detailsIn pairIn bearerIn zeros pairBytes detailsBytes bearerBytes statusBytes statusObject statusObjects furtherObjects resultBytes resultObjects responseObjects responseBytes bearerProper errorProper causeProper successProper rising furtherProper resultProper proper valueAt statusIn statusesIn furtherIn resultIn responseIn benchRead
 bounds-heard = refl
 
 -- OPEN CHANNEL for 1500 bytes over TCP

@@ -38,7 +38,7 @@ pub record Named (o : Object) : Type 0 where
 tag-read : (t n : ℕ) (f : Bool) (s : List ℕ) → t % 0x80 ≡ n → leb 0x80 t ≡ f → 1 ≤ n → n ≤ 126 → tagAt (t ∷ s) ≡ tag n f s
 unfolding tagAt
 tag-read t n f s e b l h =
-    skip _ _ _ (rw (ne-eqb (t % 0x80) 0 (omega arith), ne-eqb (t % 0x80) 0x7F (omega arith))) ∙ (λ i. tag (e i) (b i) s)
+    skip _ _ _ (ne-eqb t 0x7F (omega arith)) ∙ skip _ _ _ (rw (ne-eqb (t % 0x80) 0 (omega arith), ne-eqb (t % 0x80) 0x7F (omega arith))) ∙ (λ i. tag (e i) (b i) s)
 
 pub tag-back : (n : ℕ) (f : Bool) (s : List ℕ) → 1 ≤ n → n ≤ 126 → tagAt ((f ⇒ n + 0x80 else n) ∷ s) ≡ tag n f s
 unfolding _⇒_else_
@@ -46,7 +46,7 @@ tag-back n true s l h = tag-read (n + 0x80) n true s (omega arith) (le-leb 0x80 
 tag-back n false s l h = tag-read n n false s (omega arith) (lt-leb 0x80 n (omega arith)) l h
 
 -- an object is read as it was written
-value-back : (o : Object) (s : List ℕ) → valueAfter (o .number) (o .flag) (len (length (o .value)) (o .value ++ s)) ≡ object o s
+pub value-back : (o : Object) (s : List ℕ) → valueAfter (o .number) (o .flag) (len (length (o .value)) (o .value ++ s)) ≡ object o s
 unfolding valueAfter
 value-back o s =
     skip _ _ _ (let e = length-append (o .value) s in le-ltb (length (o .value ++ s)) (length (o .value)) (omega arith))

@@ -12,6 +12,7 @@ pub mod Forms
 pub mod Meant
 pub mod Heard
 pub mod Asked
+pub mod TagForms
 pub mod Bounds
 pub mod Matching
 pub mod Histories

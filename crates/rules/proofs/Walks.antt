@@ -9,7 +9,7 @@ use native.Mathlib.Nat.{le-of-suc-le-suc, not-suc-le-zero}
 use lib.ListN.{length, length-drop}
 use Rattle.rules.specs.declared.Ending.{Ending}
 use Rattle.rules.specs.declared.Ending.the-variants.{End}
-use Rattle.rules.specs.Frames.{LengthRead, len, noLength, longLength, lengthAt, ObjectRead, object, faulty, Object, Walk, TagRead, tagAt, valueAfter, afterTag, objectAt, onward, walkUpTo, walk}
+use Rattle.rules.specs.Frames.{LengthRead, len, noLength, longLength, lengthAt, ObjectRead, object, faulty, Object, Walk, TagRead, longTag, tagAt, valueAfter, afterTag, objectAt, onward, walkUpTo, walk}
 use Rattle.rules.proofs.Laws.{branch}
 
 -- what is left after a length, and after an object, is shorter than what was there
@@ -17,7 +17,7 @@ abbrev LengthLeaves : ℕ → LengthRead → Type 0
 LengthLeaves k noLength = Unit {0}
 LengthLeaves k (len n s) = length s ≤ k
 
-abbrev ObjectLeaves : ℕ → ObjectRead → Type 0
+abbrev pub ObjectLeaves : ℕ → ObjectRead → Type 0
 ObjectLeaves k (faulty e) = Unit {0}
 ObjectLeaves k (object o s) = length s ≤ k
 
@@ -42,10 +42,20 @@ unfolding valueAfter
 value-leaves t f k noLength h = tt
 value-leaves t f k (len n s) h = branch (ObjectLeaves k) _ _ _ (λ _. tt) (λ _. let e = length-drop n s in omega arith)
 
-object-leaves : (t : ℕ) (s : List ℕ) → ObjectLeaves (length s) (objectAt (t ∷ s))
+-- so is what is left after a tag of three bytes
+tag-leaves : (s : List ℕ) → ObjectLeaves (length s) (afterTag (longTag s))
+unfolding longTag afterTag
+tag-leaves [] = tt
+tag-leaves (b ∷ []) = tt
+tag-leaves (b ∷ c ∷ s) =
+    branch (λ (r : TagRead). ObjectLeaves (suc (suc (length s))) (afterTag r)) _ _ _ (λ _. tt)
+    (λ _. value-leaves _ _ _ (lengthAt s) (weaken (length s) (suc (suc (length s))) (lengthAt s) (omega arith) (length-leaves s)))
+
+pub object-leaves : (t : ℕ) (s : List ℕ) → ObjectLeaves (length s) (objectAt (t ∷ s))
 unfolding objectAt tagAt afterTag
 object-leaves t s =
-    branch (λ (r : TagRead). ObjectLeaves (length s) (afterTag r)) _ _ _ (λ _. tt) (λ _. value-leaves _ _ (length s) (lengthAt s) (length-leaves s))
+    branch (λ (r : TagRead). ObjectLeaves (length s) (afterTag r)) _ _ _ (λ _. tag-leaves s)
+    (λ _. branch (λ (r : TagRead). ObjectLeaves (length s) (afterTag r)) _ _ _ (λ _. tt) (λ _. value-leaves _ _ (length s) (lengthAt s) (length-leaves s)))
 
 -- a walk goes on the same with any fuel that is enough
 onward-same :

@@ -1,5 +1,5 @@
 -- "Frames and objects": lengths, tags, an object, the walk and its first fault, the outer frame; and how an object is written.
-use Prim.Native.Nat.{ℕ, zero, suc, _+_, _%_}
+use Prim.Native.Nat.{ℕ, zero, suc, _+_, _*_, _%_}
 use mathlib.Core.Path.{_≡_, refl}
 use mathlib.Core.Bool.{Bool, false, _&&_, _||_}
 use mathlib.Core.List.{List, [], _∷_, _++_}
@@ -42,10 +42,20 @@ pub data TagRead : Type 0 where
   tag : ℕ → Bool → List ℕ → TagRead
   noTag : TagRead
 
--- the tag's top bit is the flag, its low seven bits the number; numbers 0 and 127 are faults
+-- behind a 7F: the top bit of the second byte is the flag, its other seven bits and the third byte the number; 0 is a fault
+unfoldable pub longTag : List ℕ → TagRead
+longTag [] = noTag
+longTag (b ∷ []) = noTag
+longTag (b ∷ c ∷ s) =
+    let number = 256 * (b % 0x80) + c in
+    eqb number 0 ⇒ noTag else
+    tag number (leb 0x80 b) s
+
+-- 7F begins a tag of three bytes; else the tag's top bit is the flag, its low seven bits the number, and 0 and 127 are faults
 unfoldable pub tagAt : List ℕ → TagRead
 tagAt [] = noTag
 tagAt (b ∷ s) =
+    eqb b 0x7F ⇒ longTag s else
     eqb (b % 0x80) 0 || eqb (b % 0x80) 0x7F ⇒ noTag else
     tag (b % 0x80) (leb 0x80 b) s
 

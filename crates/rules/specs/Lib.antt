@@ -2,6 +2,7 @@
 pub mod Checks
 pub mod Words
 pub mod Frames
+pub mod TagForms
 pub mod Table
 pub mod Profile
 pub mod Datagrams

@@ -9,7 +9,7 @@ use mathlib.Core.Option.{Option, none, some}
 use lib.ListN.{length}
 use Rattle.rules.specs.declared.Refusal.the-variants.{Unopened}
 use Rattle.rules.specs.Checks.{_⇒_else_, isEmpty, every, some-of, occurrences, member, same}
-use Rattle.rules.specs.Frames.{longLength, lengthAt, lengthBytes, tagAt, valueAfter, afterTag, objectAt, onward, walkUpTo, walk, objectBytes, written, fills, following, framed, contents, frame}
+use Rattle.rules.specs.Frames.{longLength, lengthAt, lengthBytes, longTag, tagAt, valueAfter, afterTag, objectAt, onward, walkUpTo, walk, objectBytes, written, fills, following, framed, contents, frame}
 use Rattle.rules.specs.Table.{table, known, rowAmong, rowOf, times, sift, present, valueOf, complete, bearerFits, lengthFits, measured}
 use Rattle.rules.specs.Profile.{bit, kept, allowsType, allowsEvent, allowsBearer, channels}
 use Rattle.rules.specs.Datagrams.{another, lessened}
@@ -114,7 +114,7 @@ sizeOf (refused r) = 0
 pub twelve :
     (map endOf numbers ≡ map (λ (r : Number). r .ends) numbers) ×
     (map (λ (r : Number). sizeOf (endOf r)) numbers ≡ map (λ (r : Number). r .size) numbers)
-unfolding row chars orNone bytes profile openLine eventLine arriveLine receiveLine pattern holding full answer numbers endOf sizeOf _⇒_else_ isEmpty every some-of occurrences member same longLength lengthAt lengthBytes tagAt valueAfter afterTag objectAt onward walkUpTo walk objectBytes written fills following framed contents frame table known rowAmong rowOf times sift present valueOf complete bearerFits lengthFits measured bit kept allowsType allowsEvent allowsBearer channels isEstablished isDropped establish closed isOpen start chan withChan queue withQueue isStream room due atOnce joined without counting marked fresh appended whole arrived removed unfinished readied dropped placesUsed crowded another lessened served carriedBy kindOf detailsOf zeros detailsIn pairIn bearerIn transportIn bodyIn commandIn toModem addressed isFault startsWithDetails readObjects reading bit1 capped plain listed listing protocolOf openBefore opening closing receiving sending statusesFrom own cells promisedTo promised unpromised grantFor pairBytes detailsBytes bearerBytes statusBytes statusObject statusObjects furtherObjects resultBytes resultObjects responseObjects responseBytes eventBytes meantBy command numbered arrivalEvent arrival taking dropEvent dropping step after isDigit digitValue with-byte bytesOf
+unfolding row chars orNone bytes profile openLine eventLine arriveLine receiveLine pattern holding full answer numbers endOf sizeOf _⇒_else_ isEmpty every some-of occurrences member same longLength lengthAt lengthBytes longTag tagAt valueAfter afterTag objectAt onward walkUpTo walk objectBytes written fills following framed contents frame table known rowAmong rowOf times sift present valueOf complete bearerFits lengthFits measured bit kept allowsType allowsEvent allowsBearer channels isEstablished isDropped establish closed isOpen start chan withChan queue withQueue isStream room due atOnce joined without counting marked fresh appended whole arrived removed unfinished readied dropped placesUsed crowded another lessened served carriedBy kindOf detailsOf zeros detailsIn pairIn bearerIn transportIn bodyIn commandIn toModem addressed isFault startsWithDetails readObjects reading bit1 capped plain listed listing protocolOf openBefore opening closing receiving sending statusesFrom own cells promisedTo promised unpromised grantFor pairBytes detailsBytes bearerBytes statusBytes statusObject statusObjects furtherObjects resultBytes resultObjects responseObjects responseBytes eventBytes meantBy command numbered arrivalEvent arrival taking dropEvent dropping step after isDigit digitValue with-byte bytesOf
 twelve = (refl, refl)
 
 -- the listing, through the whole line program: its lines in, its lines out
@@ -138,7 +138,7 @@ listingOut =
     []
 
 pub listing-printed : program (map chars listingIn) ≡ map chars listingOut
-unfolding listingIn listingOut chars _⇒_else_ isEmpty every some-of occurrences member same longLength lengthAt lengthBytes tagAt valueAfter afterTag objectAt onward walkUpTo walk objectBytes written fills following framed contents frame table known rowAmong rowOf times sift present valueOf complete bearerFits lengthFits measured bit kept allowsType allowsEvent allowsBearer channels isEstablished isDropped establish closed isOpen start chan withChan queue withQueue isStream room due atOnce joined without counting marked fresh appended whole arrived removed unfinished readied dropped placesUsed crowded another lessened served carriedBy kindOf detailsOf zeros detailsIn pairIn bearerIn transportIn bodyIn commandIn toModem addressed isFault startsWithDetails readObjects reading bit1 capped plain listed listing protocolOf openBefore opening closing receiving sending statusesFrom own cells promisedTo promised unpromised grantFor pairBytes detailsBytes bearerBytes statusBytes statusObject statusObjects furtherObjects resultBytes resultObjects responseObjects responseBytes eventBytes meantBy command numbered arrivalEvent arrival taking dropEvent dropping step after isDigit digitValue with-byte bytesOf frameOf callOf digitOf hex printed callIn perform lineStep linesFrom profileThen program
+unfolding listingIn listingOut chars _⇒_else_ isEmpty every some-of occurrences member same longLength lengthAt lengthBytes longTag tagAt valueAfter afterTag objectAt onward walkUpTo walk objectBytes written fills following framed contents frame table known rowAmong rowOf times sift present valueOf complete bearerFits lengthFits measured bit kept allowsType allowsEvent allowsBearer channels isEstablished isDropped establish closed isOpen start chan withChan queue withQueue isStream room due atOnce joined without counting marked fresh appended whole arrived removed unfinished readied dropped placesUsed crowded another lessened served carriedBy kindOf detailsOf zeros detailsIn pairIn bearerIn transportIn bodyIn commandIn toModem addressed isFault startsWithDetails readObjects reading bit1 capped plain listed listing protocolOf openBefore opening closing receiving sending statusesFrom own cells promisedTo promised unpromised grantFor pairBytes detailsBytes bearerBytes statusBytes statusObject statusObjects furtherObjects resultBytes resultObjects responseObjects responseBytes eventBytes meantBy command numbered arrivalEvent arrival taking dropEvent dropping step after isDigit digitValue with-byte bytesOf frameOf callOf digitOf hex printed callIn perform lineStep linesFrom profileThen program
 listing-printed = refl
 
 -- a script: the lines that go in, and the lines that come out
@@ -168,9 +168,13 @@ edges =
     script
     ("00000800010C00000000001F82" ∷ "D00C810301050082028182190109" ∷ "D015810301400182028182350103390200203C03031F90" ∷ "D015810301400182028182350103390200203C03011F90" ∷ "A001010203" ∷ "A001" ∷ "A0010405" ∷ "D00C810301420082028121370102" ∷ "D00C810301420082028121370109" ∷ "D00C810301420082028121370100" ∷ "D00C810301420082028121370109" ∷ "D00D81030143008202812136020A0B" ∷ "A1010010" ∷ "D00C81030143008202812136010C" ∷ "D00C81030143018202812136010D" ∷ "D00B8103014301820281213600" ∷ "D00C81030143018202812136010E" ∷ "A1010003" ∷ "A1010010" ∷ "A1010001" ∷ "A1010000" ∷ "A00100" ∷ "A00101" ∷ "A00102" ∷ "A00103" ∷ "A00104" ∷ "A00105" ∷ "A00106" ∷ "A00107" ∷ "A00108" ∷ "A00109" ∷ "A0010A" ∷ "A0010B" ∷ "A0010C" ∷ "A0010D" ∷ "A0010E" ∷ "A0010F" ∷ "A00110" ∷ "A001" ∷ "A0010000000000000000000000000000000000" ∷ "D00C810301420082028121370101" ∷ "A00111" ∷ "D00C810301430182028121360100" ∷ "D00C810301430182028121360101" ∷ "D00C810301430182028121360102" ∷ "D00C810301430182028121360103" ∷ "D00C810301430182028121360104" ∷ "D00C810301430182028121360105" ∷ "D00C810301430182028121360106" ∷ "D00C810301430182028121360107" ∷ "D00C810301430182028121360108" ∷ "D00C810301430182028121360109" ∷ "D00C81030143018202812136010A" ∷ "D00C81030143018202812136010B" ∷ "D00C81030143018202812136010C" ∷ "D00C81030143018202812136010D" ∷ "D00C81030143018202812136010E" ∷ "D00C810301430082028121360140" ∷ "D00C810301430082028121360141" ∷ "D00B8103014301820281213600" ∷ "D00C810301430082028121360142" ∷ "D00B8103014301820281213600" ∷ [])
     ("810301050082028281830100" ∷ "81030140018202828183023A06" ∷ "8103014001820282818301003802810035010339020020" ∷ "D60E1901098202828138028100370103" ∷ "--" ∷ "--" ∷ "81030142008202828183010036020102370103" ∷ "810301420082028281830102360103370102" ∷ "8103014200820282818301003600370102" ∷ "81030142008202828183010236020405370100" ∷ "81030143008202828183010037011E" ∷ "--" ∷ "81030143008202828183010037011D" ∷ "81030143018202828183010037011C" ∷ "81030143018202828183010037011C" ∷ "81030143018202828183010037011B" ∷ "R12" ∷ "0A0B0C0D" ∷ "0E" ∷ "--" ∷ "D60E1901098202828138028100370101" ∷ "--" ∷ "--" ∷ "--" ∷ "--" ∷ "--" ∷ "--" ∷ "--" ∷ "--" ∷ "--" ∷ "--" ∷ "--" ∷ "--" ∷ "--" ∷ "--" ∷ "--" ∷ "R11" ∷ "--" ∷ "R6" ∷ "81030142008202828183010036010037010F" ∷ "--" ∷ "81030143018202828183010037011F" ∷ "81030143018202828183010037011E" ∷ "81030143018202828183010037011D" ∷ "81030143018202828183010037011C" ∷ "81030143018202828183010037011B" ∷ "81030143018202828183010037011A" ∷ "810301430182028281830100370119" ∷ "810301430182028281830100370118" ∷ "810301430182028281830100370117" ∷ "810301430182028281830100370116" ∷ "810301430182028281830100370115" ∷ "810301430182028281830100370114" ∷ "810301430182028281830100370113" ∷ "810301430182028281830100370112" ∷ "810301430182028281830100370111" ∷ "810301430082028281830100370110" ∷ "81030143008202828183010037010F" ∷ "81030143018202828183010037010F" ∷ "81030143008202828183023A04" ∷ "81030143018202828183010037010F" ∷ []) ∷
+    -- tags of three bytes: both, the first without its flag; a second 02 without and with it; 32767 so; 0; 127 and 256; a tag cut behind two bytes and behind one; 258, which is not 02; a first one that is cut; FF
+    script
+    ("000008" ∷ "D00D7F8001030102007F8002028182" ∷ "D00B7F00010301020082028182" ∷ "D00F8103010200820281827F0002028182" ∷ "D00F8103010200820281827F8002028182" ∷ "D00D8103010200820281827F7FFF00" ∷ "D00D8103010200820281827FFFFF00" ∷ "D00D8103010200820281827F000000" ∷ "D00D8103010200820281827F007F00" ∷ "D00D8103010200820281827F010000" ∷ "D00B8103010200820281827F00" ∷ "D00A8103010200820281827F" ∷ "D00B81030102007F0102028182" ∷ "D0027F80" ∷ "D00BFF80010301020082028182" ∷ [])
+    ("810301020082028281830100" ∷ "810301020082028281830100" ∷ "810301020082028281830101" ∷ "810301020082028281830132" ∷ "810301020082028281830101" ∷ "810301020082028281830132" ∷ "810301020082028281830132" ∷ "810301020082028281830101" ∷ "810301020082028281830101" ∷ "810301020082028281830132" ∷ "810301020082028281830132" ∷ "810301020082028281830136" ∷ "810300000082028281830132" ∷ "810300000082028281830132" ∷ []) ∷
     []
 
 -- every script prints what it must
 pub edges-printed : map (λ (s : Script). program (map chars (s .given))) edges ≡ map (λ (s : Script). map chars (s .prints)) edges
-unfolding script edges chars _⇒_else_ isEmpty every some-of occurrences member same longLength lengthAt lengthBytes tagAt valueAfter afterTag objectAt onward walkUpTo walk objectBytes written fills following framed contents frame table known rowAmong rowOf times sift present valueOf complete bearerFits lengthFits measured bit kept allowsType allowsEvent allowsBearer channels isEstablished isDropped establish closed isOpen start chan withChan queue withQueue isStream room due atOnce joined without counting marked fresh appended whole arrived removed unfinished readied dropped placesUsed crowded another lessened served carriedBy kindOf detailsOf zeros detailsIn pairIn bearerIn transportIn bodyIn commandIn toModem addressed isFault startsWithDetails readObjects reading bit1 capped plain listed listing protocolOf openBefore opening closing receiving sending statusesFrom own cells promisedTo promised unpromised grantFor pairBytes detailsBytes bearerBytes statusBytes statusObject statusObjects furtherObjects resultBytes resultObjects responseObjects responseBytes eventBytes meantBy command numbered arrivalEvent arrival taking dropEvent dropping step after isDigit digitValue with-byte bytesOf frameOf callOf digitOf hex printed callIn perform lineStep linesFrom profileThen program
+unfolding script edges chars _⇒_else_ isEmpty every some-of occurrences member same longLength lengthAt lengthBytes longTag tagAt valueAfter afterTag objectAt onward walkUpTo walk objectBytes written fills following framed contents frame table known rowAmong rowOf times sift present valueOf complete bearerFits lengthFits measured bit kept allowsType allowsEvent allowsBearer channels isEstablished isDropped establish closed isOpen start chan withChan queue withQueue isStream room due atOnce joined without counting marked fresh appended whole arrived removed unfinished readied dropped placesUsed crowded another lessened served carriedBy kindOf detailsOf zeros detailsIn pairIn bearerIn transportIn bodyIn commandIn toModem addressed isFault startsWithDetails readObjects reading bit1 capped plain listed listing protocolOf openBefore opening closing receiving sending statusesFrom own cells promisedTo promised unpromised grantFor pairBytes detailsBytes bearerBytes statusBytes statusObject statusObjects furtherObjects resultBytes resultObjects responseObjects responseBytes eventBytes meantBy command numbered arrivalEvent arrival taking dropEvent dropping step after isDigit digitValue with-byte bytesOf frameOf callOf digitOf hex printed callIn perform lineStep linesFrom profileThen program
 edges-printed = refl

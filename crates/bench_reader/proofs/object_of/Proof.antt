@@ -18,7 +18,7 @@ that c =
     let n : tie.After-start = search in
     let o : tie.After-object = search in
     let s : tie.Start = search in
-    that-tag _ _ _ (o .object .ensures) (n .start .given .1) (omega (arith, s .fits)) (c .if1 .left)
+    that-tag _ _ _ (o .object .ensures) (n .start .given .1) (omega (arith, s .fits)) (s .pre) (c .if1 .left)
 
 pub object-of-spec : {M : Type 1} → statement M
 object-of-spec =
