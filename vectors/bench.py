@@ -233,6 +233,14 @@ def changed(data):
     yield data + data[-1:]
 
 
+def long_tags(data):
+    """The form with each of its tags in three bytes, one at a time."""
+    i = 0
+    for tag, value in objects(data):
+        yield data[:i] + bytes([0x7F, tag & 0x80, tag & 0x7F]) + data[i + 1:]
+        i += len(tlv(tag, value))
+
+
 def sweeps():
     """Every result of some types, every cause, every type, every status, and grants about their bounds."""
     for kind in SEVEN + [0x00, 0x45]:
@@ -394,7 +402,8 @@ def check(accepted):
 def main(root):
     accepted = list(forms())
     check(accepted)
-    responses = accepted + [c for f in accepted for c in changed(f)] + list(sweeps()) + list(odd_forms())
+    responses = accepted + [c for f in accepted for c in changed(f)] + [c for f in accepted[::4] for c in long_tags(f)]
+    responses += list(sweeps()) + list(odd_forms())
     orders = list(records())
     lines = [d.hex().upper().encode() for d in responses + orders] + list(others())
     lines.append(b"81030102008202828183010")

@@ -533,7 +533,7 @@ def make_results():
     s.add("D0028103", "z32", "01 without its value")
     s.add("D00181", "z32", "01 without its length")
     s.add("D00A" "00" "8103010200" "82028182", "z32", "first tag 00")
-    s.add("D00A" "7F" "8103010200" "82028182", "z32", "first tag 7F")
+    s.add("D00A" "7F" "8103010200" "82028182", "z36", "first tag 7F 81 03, which is 259, of length 1")
     s.add("D00A" "FF" "8103010200" "82028182", "z32", "first tag FF")
     s.add("D00A" "80" "8103010200" "82028182", "z32", "first tag 80")
     s.add("D00A" "81810301020082028182", "z32", "first length 81 03")
@@ -1292,6 +1292,158 @@ def make_tags():
     for tag in (0x00, 0x05, 0x7F, 0x80, 0x85, 0xFF):
         s.add(more_time(bytes([tag, 0])), "32" if tag != 0x05 else "01", "tag %02X, no value" % tag)
         s.add(more_time(bytes([tag])), "32", "tag %02X, no length" % tag)
+
+
+# ---------------------------------------------------------------- tags of three bytes
+
+def long_tag(number, flag=False):
+    return bytes([0x7F, (0x80 if flag else 0) | number >> 8, number & 255])
+
+
+def long_obj(number, value=b"", flag=False):
+    value = H(value) if isinstance(value, str) else value
+    return long_tag(number, flag) + length(len(value)) + value
+
+
+def tagged(objects, longs):
+    """A command of objects (number, flag, value); those at the places of longs have three-byte tags."""
+    return frame(b"".join(long_obj(n, v, f) if i in longs else obj(n | (0x80 if f else 0), v)
+                          for i, (n, f, v) in enumerate(objects)))
+
+
+def in_all_forms(s, objects, want, after=None):
+    """Every single tag long, all, none, and some mixtures; what is opened is closed again."""
+    count = len(objects)
+    rng = Rng(count)
+    choices = [set()] + [{i} for i in range(count)] + [set(range(count))]
+    choices += [{i for i in range(count) if rng.below(2)} for _ in range(2 * count)]
+    for longs in choices:
+        s.add(tagged(objects, longs), want, "long: " + (" ".join(str(i) for i in sorted(longs)) or "none"))
+        if after is not None:
+            s.add(*after)
+
+
+def basic(kind, dst="82", q="00"):
+    return [(0x01, True, "01%02X%s" % (kind, q)), (0x02, True, "81" + dst)]
+
+
+NAMED = [(0x05, False, "41"), (0x1E, False, "0001")]
+
+
+def make_long_tags():
+    s = Script("long_tags_each")
+    in_all_forms(s, basic(0x02), "=810301020082028281830100")
+    in_all_forms(s, basic(0x05) + [(0x19, True, "09")], "=810301050082028281830100")
+    in_all_forms(s, basic(0x40, q="01") + [(0x35, True, "03"), (0x39, True, "0020")] + NAMED
+                 + [(0x3C, False, "021F90"), (0x47, False, "41"), (0x04, False, "0102"), (0x04, False, "0304"),
+                    (0x0D, False, "04"), (0x0D, False, "05"), (0x3E, False, "21"), (0x3E, False, "22")],
+                 "=810301400182028281830100" "38028100" "350103" "39020020", (close(1), "00"))
+    s.add(open_(1500), "00")
+    in_all_forms(s, basic(0x42, "21") + [(0x37, True, "01")] + NAMED, "=810301420082028281830102" "3600" "370100")
+    in_all_forms(s, basic(0x43, "21", "01") + [(0x36, True, "41")] + NAMED, "=810301430182028281830100" "3701FF",
+                 (take(1, 9), "=41"))
+    in_all_forms(s, basic(0x44), "=810301440082028281830100" "38028100")
+    in_all_forms(s, basic(0x41, "21") + NAMED, "=810301410082028281830100", (open_(32), "00"))
+
+    s = Script("long_tags_values")
+    s.add(tagged(basic(0x40, q="01") + [(0x35, True, "02030405061F02"), (0x39, True, "0100"), (0x3C, False, "011F90")],
+                 {2, 3, 4}), "=810301400182028281830100" "38028100" "350702030405061F02" "39020100",
+          "the values of three long objects: bearer 02, 256 bytes, datagrams")
+    s.add(arr(1, H("414243")), "--")
+    s.add(arr(1, H("44")), "--")
+    s.add(tagged(basic(0x42, "21") + [(0x37, True, "09")], {2}), "..830102" "3603414243" "370101", "nine asked for")
+    s.add(tagged(basic(0x43, "21", "01") + [(0x36, True, "5152")], {2}), "..3701FE")
+    s.add(take(1, 9), "=5152")
+    s.add(tagged(basic(0x05) + [(0x19, True, "090A")], {2}), "00")
+    s.add(recv(1, 9), "..360144" "370100")
+    s.add(arr(1, H("45")), "..370101", "09 is listed")
+    s.add(drop(1), "=D60B19010A8202828138020105", "and 0A")
+    s.add(tagged(basic(0x41, "21"), {0, 1}), "00")
+    s.add(open_(1500), "00")
+    d = data(235, 235)
+    s.add(tagged(basic(0x43, "21", "01") + [(0x36, True, d)], {0, 1, 2}), "..3701FF", "256 bytes in all")
+    s.add(take(1, 1500), "=" + hx(d))
+    s.add(tagged(basic(0x43, "21", "01") + [(0x36, True, d + b"\x41")], {0, 1, 2}), "R2", "257 bytes")
+    s.add(tagged(basic(0x43, "21", "01") + [(0x36, True, d + b"\x41")], {0, 1}), "..3701FF", "36 short: 255")
+    # wrong lengths, wrong devices
+    s.add(tagged([(0x01, True, "010200"), (0x02, True, "81")], {1}), "32", "02 of length 1")
+    s.add(tagged([(0x01, True, "010200"), (0x02, True, "818282")], {1}), "32", "02 of length 3")
+    s.add(tagged([(0x01, True, "010200"), (0x02, True, "8282")], {1}), "32", "source 82")
+    s.add(tagged(basic(0x42, "21") + [(0x37, True, "0102")], {2}), "32", "37 of length 2")
+    s.add(tagged(basic(0x40, q="01") + [(0x35, True, "0300"), (0x39, True, "0020")], {2}), "32", "35 of length 2")
+    s.add(tagged(basic(0x40, q="01") + [(0x35, True, "03"), (0x39, True, "20")], {3}), "32", "39 of length 1")
+    s.add(tagged(basic(0x40, q="01") + [(0x35, True, "03"), (0x39, True, "0020"), (0x3C, False, "02")], {4}), "32",
+          "3C of length 1")
+    s.add(tagged(basic(0x41, "21") + [(0x1E, False, "00")], {2}), "32", "1E of length 1")
+
+    s = Script("long_tags_numbers")
+    for number in (127, 128, 255, 256, 257, 258, 261, 300, 383, 32512, 32640, 32766, 32767):
+        s.add(more_time(long_obj(number, "41")), "01", "number %d" % number)
+        s.add(more_time(long_obj(number, "41", True)), "32", "number %d with the flag" % number)
+    s.add(more_time(long_obj(5, "41")), "01", "05 has no place here")
+    s.add(more_time(long_obj(5, "41", True)), "32")
+    s.add(more_time(long_obj(126)), "01")
+    s.add(more_time(long_obj(126, flag=True)), "32")
+    for flag in (False, True):
+        s.add(more_time(long_obj(0, "41", flag)), "32", "number 0")
+        s.add(more_time(long_tag(0, flag)), "32", "number 0, and no length")
+    for first in ("00", "80", "FF"):
+        s.add(more_time(H(first + "0005" "0141")), "32", "%s begins no tag" % first)
+    s.add(more_time(H("FF8005" "0141")), "32")
+    s.add(more_time(H("7F7F05" "0141")), "01", "7F 7F 05 is number 32517")
+    s.add(more_time(H("7FFF05" "0141")), "32", "with the flag")
+    # the low byte alone is another number
+    s.add(raw(0x02, long_obj(0x102, "8182")), "36", "258 is not 02")
+    s.add(raw(0x02, long_obj(0x102, "8182", True)), "32", "and with the flag it is unexpected first")
+    s.add(raw(0x02, long_obj(0x102, "8282"), dev()), "01", "nor does it count before the 02 object")
+    s.add(raw(0x05, dev(), long_obj(0x119, "09")), "36", "281 is not 19")
+    s.add(open_(32), "00")
+    s.add(cmd(0x43, long_obj(0x136, "4141"), obj(0xB6, "42"), dst=0x21), "..830101" "37011F", "310 is not 36")
+    s.add(cmd(0x41, long_obj(0x105, "41"), dst=0x21), "01")
+    # one too many goes across forms
+    s.add(more_time(long_obj(2, "8182")), "01", "a second 02, long")
+    s.add(more_time(long_obj(2, "8182", True)), "32")
+    s.add(raw(0x02, long_obj(2, "8182", True), dev(tag=0x02)), "01", "a long one, then a short one")
+    s.add(raw(0x02, long_obj(2, "8182", True), dev()), "32")
+    s.add(raw(0x02, long_obj(2, "8182"), long_obj(2, "8182")), "01", "both long")
+    s.add(more_time(long_obj(1, "010200")), "01", "a second 01")
+    s.add(more_time(long_obj(1, "010200", True)), "32")
+    s.add(cmd(0x40, BEARER3, size39(32), obj(0x04, "0102"), long_obj(4, "0304"), q=1), "00", "two 04")
+    s.add(close(1), "00")
+    s.add(cmd(0x40, BEARER3, size39(32), obj(0x04, "0102"), long_obj(4, "0304"), obj(0x04, "0506"), q=1), "01", "three")
+    s.add(close(1), "00")
+    s.add(cmd(0x40, BEARER3, size39(32), obj(0x04, "0102"), obj(0x04, "0304"), long_obj(4, "0506", True), q=1), "32",
+          "the third long and flagged")
+    s.add(cmd(0x40, BEARER3, long_obj(0x35, "02030405061F02", True), size39(32), q=1), "32", "a second 35")
+    s.add(cmd(0x40, BEARER3, long_obj(0x35, "02030405061F02"), size39(32), q=1),
+          "..830101" "38028100" "350103" "39020020", "the first one counts")
+    s.add(cmd(0x43, long_obj(0x36, "41", True), obj(0x36, "4243"), q=1, dst=0x21), "..830101" "37011F", "the long one is the first")
+    s.add(take(1, 9), "=41")
+    s.add(cmd(0x43, obj(0x36, "4243"), long_obj(0x36, "41"), q=1, dst=0x21), "..830101" "37011E", "the short one is")
+    s.add(take(1, 9), "=4243")
+
+    s = Script("long_tags_cut")
+    # the first object: 7F 80 01 03, then number, type, qualifier; the second 7F 80 02 02, then the devices
+    body = H("7F800103" "010200" "7F800202" "8182")
+    for k in range(len(body) + 1):
+        want = "z36" if k == 0 else "z32" if k < 7 else "36" if k == 7 else "32" if k < 13 else "00"
+        s.add(frame(body[:k]), want, "MORE TIME in long tags, %d bytes of its objects" % k)
+    for first, want in (("7F000103" "010200", "00"), ("7F800103" "010200", "00"), ("7F010103" "010200", "z36"),
+                        ("7F810103" "010200", "z36"), ("7F800203" "010200", "z36"), ("7F000003" "010200", "z32"),
+                        ("7F800003" "010200", "z32"), ("7F800102" "0102", "z36"), ("7F800104" "01020000", "z36"),
+                        ("7F80018103" "010200", "z32"), ("FF800103" "010200", "z32")):
+        s.add(frame(H(first) + dev()), want, "first object %s" % first)
+    for end in ("7F", "7F00", "7F80", "7F05", "7FFF", "7F0005", "7F8005", "7F000501", "7F800502FF", "7F0000", "7F000000"):
+        s.add(more_time(H(end)), "32", "ends with %s" % end)
+        s.add(cmd(0x99, H(end)), "32", "before the unknown type")
+    s.add(more_time(H("7F000500")), "01", "05 of no bytes")
+    s.add(more_time(H("7F0005" "817F" + "41" * 127)), "32", "length 81 7F")
+    s.add(more_time(H("7F0005" "8180" + "41" * 128)), "01", "length 81 80")
+    s.add(more_time(H("0500" "7F")), "32", "a cut tag behind an object that is ignored")
+    s.add(more_time(H("0500" "7F80")), "32")
+    s.add(more_time(H("0500" "7F8005")), "32")
+    s.add(more_time(H("0500" "7F800500")), "32", "flagged and not expected")
+    s.add(more_time(H("0500" "7F000500")), "01")
 
 
 # ---------------------------------------------------------------- unreadable
@@ -2426,6 +2578,7 @@ def main(root):
     make_types()
     make_identities()
     make_tags()
+    make_long_tags()
     make_unreadable()
     make_bare()
     make_mixed()

@@ -82,16 +82,27 @@ def write_object(tag, value):
     return bytes([tag]) + write_length(len(value)) + value
 
 
+def read_tag(data, at):
+    """The tag at data[at]: (number, flag, place after it), or None if it is none."""
+    first = data[at]
+    if first != 0x7F:
+        return None if first in (0x00, 0x80, 0xFF) else (first & 0x7F, first >= 0x80, at + 1)
+    if at + 2 >= len(data):
+        return None
+    both = data[at + 1] << 8 | data[at + 2]
+    return None if both & 0x7FFF == 0 else (both & 0x7FFF, both >= 0x8000, at + 3)
+
+
 def walk(body):
     """All objects up to the first fault: (list of (number, flag, value), faulty?)."""
     objects = []
     at = 0
     while at < len(body):
-        tag = body[at]
-        number, flag = tag & 0x7F, tag >= 0x80
-        if number in (0, 127):
+        tag = read_tag(body, at)
+        if tag is None:
             return objects, True
-        length = read_length(body, at + 1)
+        number, flag, behind = tag
+        length = read_length(body, behind)
         if length is None:
             return objects, True
         size, start = length
