@@ -144,6 +144,8 @@ typedef enum {
     ENDED_WITHOUT_BYTES,
     ENDED_NOTHING,
     NO_PLACE_TO_SEND,
+    LONG_TAG_DONE,
+    LONG_TAG_REFUSED,
     LONGEST_COMMAND,
     LONGEST_RESPONSE,
     PLACES
@@ -201,6 +203,8 @@ static const char *const place_names[PLACES] = {
     [ENDED_WITHOUT_BYTES] = "SEND: no bytes end a datagram",
     [ENDED_NOTHING] = "SEND: no bytes end nothing, 16 held",
     [NO_PLACE_TO_SEND] = "SEND: 3A 04 for a seventeenth",
+    [LONG_TAG_DONE] = "command with a tag of three bytes, done",
+    [LONG_TAG_REFUSED] = "command with a tag of three bytes, 32",
     [LONGEST_COMMAND] = "command of 256 bytes",
     [LONGEST_RESPONSE] = "response of 255 bytes",
 };
@@ -611,6 +615,8 @@ enum { OBJECTS = 20 };
 /* An object of a command in the making. */
 typedef struct {
     uint8_t tag;
+    bool long_tag;      /* whether its tag is in three bytes */
+    uint16_t behind_7f; /* and which stand behind the first */
     uint8_t n;
     uint8_t value[256];
 } object;
@@ -626,6 +632,8 @@ static object *add(uint8_t number, uint32_t flagged, const uint8_t *value, uint3
 {
     object *o = &plan[planned < OBJECTS ? planned++ : OBJECTS - 1];
     o->tag = number | (chance(flagged) ? 0x80 : 0);
+    o->long_tag = chance(rough ? 12 : 3);
+    o->behind_7f = (uint16_t)((o->tag & 0x80) << 8 | number);
     o->n = (uint8_t)n;
     memcpy(o->value, value, o->n);
     return o;
@@ -790,7 +798,12 @@ static void add_unexpected(void)
 {
     static const uint8_t tags[] = {0x01, 0x02, 0x04, 0x05, 0x0D, 0x19, 0x1E, 0x35, 0x36, 0x37, 0x38, 0x39, 0x3C, 0x3E, 0x47};
     uint8_t number = chance(60) ? tags[below(sizeof tags)] : (uint8_t)(1 + below(126));
-    add(number, 30, random_bytes(), chance(90) ? below(9) : below(140));
+    object *o = add(number, 30, random_bytes(), chance(90) ? below(9) : below(140));
+    if (chance(80))
+        return;
+    o->tag = 0x7E;
+    o->long_tag = true;
+    o->behind_7f = (uint16_t)(random_byte() << 8 | (chance(60) ? number : random_byte()));
 }
 
 /* Plans a second of an object that stands already. */
@@ -825,7 +838,10 @@ static void change_device(void)
 static void spoil_tag(void)
 {
     static const uint8_t faults[] = {0x00, 0x80, 0x7F, 0xFF};
-    plan[below(planned)].tag = faults[below(4)];
+    object *o = &plan[below(planned)];
+    o->tag = faults[below(4)];
+    o->long_tag = chance(30);
+    o->behind_7f = chance(50) ? 0x8000 : 0;
 }
 
 /* The bytes that the planned objects take. */
@@ -833,7 +849,7 @@ static uint32_t planned_size(void)
 {
     uint32_t n = 0;
     for (uint32_t i = 0; i < planned; i++)
-        n += (plan[i].n < 0x80 ? 2u : 3u) + plan[i].n;
+        n += (plan[i].n < 0x80 ? 2u : 3u) + (plan[i].long_tag ? 2u : 0u) + plan[i].n;
     return n;
 }
 
@@ -845,7 +861,7 @@ static void pad(void)
     if (n + 2 > edge_at)
         return;
     uint32_t rest = edge_at - n - 2;
-    add(0x05, 20, random_bytes(), rest < 0x80 ? rest : rest - 1);
+    add(0x05, 20, random_bytes(), rest < 0x80 ? rest : rest - 1)->long_tag = false;
 }
 
 /* Disturbs what is planned, in one of many ways. */
@@ -890,12 +906,25 @@ static size_t write_length(uint8_t *to, size_t n, bool wrong)
     return size;
 }
 
+/* Writes the tag of an object, in one byte or three. */
+static size_t write_tag(uint8_t *to, const object *o)
+{
+    if (!o->long_tag) {
+        to[0] = o->tag;
+        return 1;
+    }
+    to[0] = 0x7F;
+    to[1] = (uint8_t)(o->behind_7f >> 8);
+    to[2] = (uint8_t)o->behind_7f;
+    return 3;
+}
+
 /* Writes the planned objects; returns their size, at most FRAME_CAP. */
 static size_t write_objects(uint8_t *to)
 {
     size_t size = 0;
-    for (uint32_t i = 0; i < planned && size + 3 + plan[i].n <= FRAME_CAP; i++) {
-        to[size++] = plan[i].tag;
+    for (uint32_t i = 0; i < planned && size + 5 + plan[i].n <= FRAME_CAP; i++) {
+        size += write_tag(to + size, &plan[i]);
         size += write_length(to + size, plan[i].n, rough && chance(plan[i].n == 127 ? 20 : 1));
         memcpy(to + size, plan[i].value, plan[i].n);
         size += plan[i].n;
@@ -1216,6 +1245,15 @@ static void count_places(const uint8_t *out)
         count_unsent(before);
 }
 
+/* Whether an object that was planned has a tag of three bytes. */
+static bool has_long_tag(void)
+{
+    for (uint32_t i = 0; i < planned; i++)
+        if (plan[i].long_tag)
+            return true;
+    return false;
+}
+
 /* Counts a command's answer; one that the paper does not know ends the run. */
 static void count_command(const call *c, uint32_t returned)
 {
@@ -1226,6 +1264,8 @@ static void count_command(const call *c, uint32_t returned)
     if (returned < 12 || column < 0 || known[row][column] != 'x')
         differ("both give an answer that the paper does not know", c, returned, returned);
     answers[row][column]++;
+    count(LONG_TAG_DONE, has_long_tag() && out[11] <= 0x07);
+    count(LONG_TAG_REFUSED, has_long_tag() && out[11] == 0x32);
     count(LONGEST_COMMAND, c->n == COMMAND_CAP);
     count(LONGEST_RESPONSE, returned == 255);
     count_places(out);

@@ -97,7 +97,8 @@ static const rule rule_other = {0, 0, 0, 0, 0};
 
 /* An object as it stands in the command. */
 typedef struct {
-    uint8_t tag;
+    uint16_t number;
+    bool flag;
     uint8_t length;
     const uint8_t *value;
 } object;
@@ -376,14 +377,33 @@ static inline const uint8_t *read_length(const uint8_t *p, const uint8_t *end, u
     return p + 2;
 }
 
+/* Reads the tag of three bytes at p, which has 7F; the place behind it, or NULL where it is cut or has number 0. */
+static const uint8_t *read_long_tag(const uint8_t *p, const uint8_t *end, object *o)
+{
+    if (end - p < 3)
+        return NULL;
+    o->number = (uint16_t)((FAULT == 7 ? 0 : (p[1] & 0x7F) << 8) | p[2]);
+    o->flag = p[1] >= 0x80;
+    return o->number == 0 ? NULL : p + 3;
+}
+
+/* Reads the tag at p; the place behind it, or NULL where there is none. */
+static inline const uint8_t *read_tag(const uint8_t *p, const uint8_t *end, object *o)
+{
+    if (*p == 0x7F)
+        return read_long_tag(p, end, o);
+    o->number = *p & 0x7F;
+    o->flag = *p >= 0x80;
+    return o->number == 0 || o->number == 0x7F ? NULL : p + 1;
+}
+
 /* Reads the object at p; the place behind it, or NULL at a fault. */
 static inline const uint8_t *read_object(const uint8_t *p, const uint8_t *end, object *o)
 {
-    uint8_t number = *p & 0x7F;
-    if (number == 0 || number == 0x7F)
+    p = read_tag(p, end, o);
+    if (p == NULL)
         return NULL;
-    o->tag = *p;
-    o->value = read_length(p + 1, end, &o->length);
+    o->value = read_length(p, end, &o->length);
     if (o->value == NULL || end - o->value < o->length)
         return NULL;
     return o->value + o->length;
@@ -436,7 +456,7 @@ static bool length_fits(const object *o, uint8_t place)
 /* Notes an object that does not count. */
 static void note_unexpected(asked *a, const object *o)
 {
-    if (o->tag & 0x80)
+    if (o->flag)
         a->flagged = true;
     else
         a->ignored = true;
@@ -445,7 +465,7 @@ static void note_unexpected(asked *a, const object *o)
 /* Sorts an object of the walk into those that count and the unexpected. */
 static void sort(asked *a, const object *o)
 {
-    uint8_t place = place_of[o->tag & 0x7F];
+    uint8_t place = o->number < 128 ? place_of[o->number] : NOWHERE;
     uint32_t bit = B(place);
     if (!(a->rule->may & bit)) {
         note_unexpected(a, o);
@@ -740,7 +760,7 @@ static uint32_t read_objects(reference_session *s, const uint8_t *at, const uint
     at = read_object(at, end, &first);
     if (at == NULL)
         return answer(out, no_details, BAD_DATA);
-    if ((first.tag & 0x7F) != 0x01 || first.length != 3)
+    if (first.number != 0x01 || first.length != 3)
         return answer(out, no_details, VALUES_MISSING);
     a.details = first.value;
     a.rule = rule_of(first.value[1]);
