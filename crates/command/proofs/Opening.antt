@@ -1,17 +1,20 @@
 -- The beginning of a reading: the first object, the ending of the walk, and the plan of the type.
 -- Assumes nothing.
-use Prim.Native.Nat.{ℕ, _+_, _≤_}
+use Prim.Native.Nat.{ℕ, _+_, _-_, _*_, _≤_, _<_}
 use mathlib.Core.Path.{_≡_, refl, sym, ap, subst, _∙_}
-use mathlib.Core.Bool.{Bool, true, false, not, _&&_, true≢false}
+use mathlib.Core.Bool.{Bool, true, false, not, _&&_, _||_, true≢false}
 use mathlib.Core.List.{List, [], _∷_}
 use native.Mathlib.Omega.{arith}
-use lib.ListN.{length, drop, getD}
-use lib.Dec.{eqb}
-use borrow.Author.Tests.{eq-eqb, ne-eqb, not-true, not-false}
+use lib.ListN.{length, drop, getD, length-drop}
+use lib.Seq.{take-all}
+use lib.Dec.{ltb, eqb}
+use borrow.Author.Tests.{lt-ltb, le-ltb, eq-eqb, ne-eqb, not-true, not-false}
 use Rattle.rules.specs.declared.Details.{Details}
 use Rattle.rules.specs.declared.Ending.{Ending}
 use Rattle.rules.specs.Checks.{isEmpty}
-use Rattle.rules.specs.Frames.{Object, objectAt, faulty, Walk, walk}
+use Rattle.rules.specs.Frames.{Object, objectAt, faulty, Walk, walk, framed}
+use Rattle.rules.specs.AtHand.{detailsFirst, detailsTold, packedDetails, atHand}
+use Rattle.rules.proofs.AtHand.{readWith, objects-details, told-first, framed-details}
 use Rattle.rules.specs.Table.{known, valueOf}
 use Rattle.rules.specs.Profile.{bit, allowsType}
 use Rattle.rules.specs.Reading.{Reading, wrong, zeros, detailsIn, startsWithDetails, isFault, readObjects}
@@ -21,10 +24,12 @@ use Rattle.octets.specs.Parts.{part}
 use Rattle.objects.specs.Places.{objectOf, Stands}
 use Rattle.objects.proofs.Alike.{part-size}
 use Rattle.objects.proofs.Walking.{here-object}
+use Rattle.command.specs.declared.First.{First}
+use Rattle.command.specs.declared.First.the-variants.{Told, Absent}
 use Rattle.command.specs.declared.Plan.{Plan}
 use Rattle.command.specs.declared.Sorted.{Sorted}
 use Rattle.command.specs.Plans.{RowFor, PlanOf}
-use Rattle.command.specs.Requests.{theDetails, detailsAt, Detailed, Headed, Typed, Sorts, Begun}
+use Rattle.command.specs.Requests.{FramedAt, theDetails, detailsAt, Detailed, Headed, Leads, Firsts, Typed, Sorts, Begun}
 use Rattle.command.proofs.Lengths.{empty, filled, part-first, part-at}
 use Rattle.command.proofs.Steps.{read-began}
 
@@ -81,9 +86,9 @@ module _ {s : List ℕ} (h : length s ≡ 0 → ⊥) {number : ℕ} {flag : Bool
       pub first-within : start + 3 ≤ length s
       first-within = omega (arith, fits)
 
-      pub detailed : length s ≤ 256 → {d : Details} → d ≡ detailsAt s start → Detailed s d
+      pub leads : {d : Details} → d ≡ detailsAt s start → Leads s d start
       unfolding detailsIn valueOf
-      detailed small q =
+      leads q =
           let v : valueOf 0x01 (walk s .objects) ≡ part start (start + n) s = ap (valueOf 0x01) first-is ∙ stop _ _ _ (eq-eqb 0x01 number (sym e)) in
           let a = ap (λ (x : List ℕ). getD x 0 0) v ∙ part-first s start n (omega arith) in
           let b = ap (λ (x : List ℕ). getD x 1 0) v ∙ part-at s start n 1 (omega arith) in
@@ -91,8 +96,49 @@ module _ {s : List ℕ} (h : length s ≡ 0 → ⊥) {number : ℕ} {flag : Bool
           record {
             began = record { bytes = filled s h; objects = some-objects; details = begins ∙ (λ i. eq-eqb number 0x01 e i && eq-eqb n 3 l i) };
             details = (λ i. record { number = a i; kind = b i; qualifier = c i }) ∙ sym q;
-            small = small;
+            headed = headed;
           }
+
+-- what step 3 told, by the case that it is
+pub leads-told : {s : List ℕ} {r : First} {d : Details} {first : ℕ} → r ≡ Told d first → Firsts r s → Leads s d first
+leads-told {s} e w = subst (λ (x : First). Firsts x s) e w
+
+pub absent-told : (s : List ℕ) {r : First} {e : ℕ} → r ≡ Absent e → Firsts r s → (p : List ℕ) → readObjects p s ≡ wrong zeros e
+absent-told s q w = subst (λ (x : First). Firsts x s) q w
+
+-- the details of a command in a right frame
+module _ (s : List ℕ) {start : ℕ} (f : FramedAt s start) where
+  -- the bytes of its objects, as they are lent
+  abbrev objects : List ℕ
+  objects = part start (length s) s
+
+  first-there : detailsTold s ≡ detailsFirst (walk objects .objects)
+  first-there =
+      let rest = take-all (length s - start) (drop start s) (omega (arith, length-drop start s)) in
+      framed-details s (f .is) ∙ ap (λ (t : List ℕ). detailsFirst (walk t .objects)) (f .objects ∙ sym rest)
+
+  pub hand-told : {d : Details} {first : ℕ} → Leads objects d first → d ≡ detailsTold s
+  hand-told l = sym (first-there ∙ sym (told-first (walk objects .objects) (l .began .details)) ∙ l .details)
+
+  pub hand-absent : {e : ℕ} → ((p : List ℕ) → readObjects p objects ≡ wrong zeros e) → zeros ≡ detailsTold s
+  hand-absent r = sym (first-there ∙ sym (objects-details [] objects) ∙ ap readWith (r []))
+
+pub hand-unframed : (s : List ℕ) → framed s ≡ false → zeros ≡ detailsTold s
+unfolding detailsTold
+hand-unframed s e = sym (skip _ _ _ e)
+
+-- R2, and the details in one number
+pub hand-empty : (s : List ℕ) → length s ≡ 0 → 0x1000002 ≡ atHand s
+unfolding atHand
+hand-empty s e = sym (stop _ _ _ (ap (λ (b : Bool). b || ltb 256 (length s)) (empty s e)))
+
+pub hand-long : (s : List ℕ) → (length s ≡ 0 → ⊥) → 256 < length s → 0x1000002 ≡ atHand s
+unfolding atHand
+hand-long s h l = sym (stop _ _ _ (λ i. filled s h i || lt-ltb 256 (length s) l i))
+
+pub hand-packed : (s : List ℕ) → (length s ≡ 0 → ⊥) → length s ≤ 256 → {d : Details} → d ≡ detailsTold s → 0x10000 * d .number + 0x100 * d .kind + d .qualifier ≡ atHand s
+unfolding atHand packedDetails
+hand-packed s h l q = ap packedDetails q ∙ sym (skip _ _ _ (λ i. filled s h i || le-ltb 256 (length s) l i))
 
 -- step 4, and step 5 for a type without a plan
 module _ {s : List ℕ} {d : Details} (g : Detailed s d) where

@@ -11,10 +11,12 @@ use Rattle.rules.specs.Checks.{_⇒_else_, isEmpty}
 use Rattle.rules.specs.Frames.{framed, contents, walk}
 use Rattle.rules.specs.Profile.{allowsType}
 use Rattle.rules.specs.Table.{known, rowOf, Sifted, sift, present, valueOf, complete, bearerFits}
-use Rattle.rules.specs.Reading.{wrong, asked, Command, Body, Transport, moreTime, eventList, openChannel, closeChannel, receiveData, sendData, channelStatus, other, bearerIn, detailsIn, commandIn, startsWithDetails, isFault, addressed, readObjects}
+use Rattle.rules.specs.Reading.{wrong, asked, Command, Body, Transport, moreTime, eventList, openChannel, closeChannel, receiveData, sendData, channelStatus, other, bearerIn, zeros, detailsIn, commandIn, startsWithDetails, isFault, addressed, readObjects}
 use Rattle.rules.specs.Own.{protocolOf}
 use Rattle.octets.specs.Parts.{part}
 use Rattle.objects.specs.Places.{Stands, placeOf}
+use Rattle.command.specs.declared.First.{First}
+use Rattle.command.specs.declared.First.the-variants.{Told, Absent}
 use Rattle.command.specs.declared.Framed.{Framed}
 use Rattle.command.specs.declared.Framed.the-variants.{At, Not}
 use Rattle.command.specs.declared.Handler.{Handler}
@@ -121,6 +123,16 @@ pub record Detailed (s : List ℕ) (d : Details) : Type 0 where
   pub began : Began s
   pub details : theDetails s ≡ d
   pub small : length s ≤ 256
+
+-- the first object tells the details, and its value starts there; or step 3 ends with this result
+pub record Leads (s : List ℕ) (d : Details) (first : ℕ) : Type 0 where
+  pub began : Began s
+  pub details : theDetails s ≡ d
+  pub headed : Headed s first
+
+abbrev pub Firsts : First → List ℕ → Type 0
+Firsts (Told d first) s = Leads s d first
+Firsts (Absent e) s = (p : List ℕ) → readObjects p s ≡ wrong zeros e
 
 -- steps 3 to 5 are passed
 pub record Typed (p s : List ℕ) : Type 0 where

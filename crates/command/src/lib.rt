@@ -20,7 +20,8 @@ ghost use Rattle.rules.specs.Table.{known, bearerFits, lengthFits};
 ghost use Rattle.octets.specs.Parts.{part};
 ghost use Rattle.command.specs.Plans.{PlaceFor, needed, timesBy, RowFor, PlanOf, Plans};
 ghost use Rattle.command.specs.Surveys.{slots, slotOf, firstOf, noted, allStand, sortedBy};
-ghost use Rattle.command.specs.Requests.{Frames, detailsAt, theDetails, addressedBy, sizeBy, protocolBy, Headed, Detailed, Begun, Typed, Sorts, Fitted, Reads};
+ghost use Rattle.rules.specs.AtHand.{detailsTold, atHand};
+ghost use Rattle.command.specs.Requests.{Frames, Firsts, detailsAt, theDetails, addressedBy, sizeBy, protocolBy, Headed, Detailed, Begun, Typed, Sorts, Fitted, Reads};
 
 // The objects, by number.
 const DETAILS: u16 = 0x01;
@@ -590,30 +591,80 @@ fn details_at(s: &[u8], at: usize) -> Details
     }
 }
 
-// Reads the bytes of a command's objects: steps 3 to 8.
-pub fn read_objects(profile: &[u16], s: &[u8]) -> Read
-    requires { ⌜ (length (now s) ≤ 256) × (profileSize ≤ length (now profile)) ⌝ }
-    ensures { λ r. ⌜ Reads r (now (profile .entry)) (now (s .entry)) ⌝ }
+// The first of a command's objects: the details and where their value starts, or the result that tells that there are none.
+enum First {
+    Told(Details, usize),
+    Absent(u8),
+}
+
+// Step 3: the first object is 01 with length 3; none or another one is 36, a faulty one 32.
+fn first_object(s: &[u8]) -> First
+    ensures { λ r. ⌜ Firsts r (now (s .entry)) ⌝ }
 {
-    let none = Details {
-        number: 0,
-        kind: 0,
-        qualifier: 0,
-    };
     if s.len() == 0 {
-        return Read::Wrong(none, 0x36);
+        return First::Absent(0x36);
     }
     let c = Cursor { at: 0 };
     match c.object(s) {
         Found::Object(number, _, start, len, _) => {
             if number != DETAILS {
-                return Read::Wrong(none, 0x36);
+                return First::Absent(0x36);
             }
             if len != 3 {
-                return Read::Wrong(none, 0x36);
+                return First::Absent(0x36);
             }
-            read_typed(profile, s, details_at(s, start), start)
+            First::Told(details_at(s, start), start)
         }
-        Found::Fault(_) => Read::Wrong(none, 0x32),
+        Found::Fault(_) => First::Absent(0x32),
     }
+}
+
+// Details 00 00 00.
+const ZEROS: Details = Details {
+    number: 0,
+    kind: 0,
+    qualifier: 0,
+};
+
+// Reads the bytes of a command's objects: steps 3 to 8.
+pub fn read_objects(profile: &[u16], s: &[u8]) -> Read
+    requires { ⌜ (length (now s) ≤ 256) × (profileSize ≤ length (now profile)) ⌝ }
+    ensures { λ r. ⌜ Reads r (now (profile .entry)) (now (s .entry)) ⌝ }
+{
+    match first_object(s) {
+        First::Told(d, start) => read_typed(profile, s, d, start),
+        First::Absent(result) => Read::Wrong(ZEROS, result),
+    }
+}
+
+// The details that the outer head and the first object tell; zeros where they tell none.
+fn details_told(s: &[u8]) -> Details
+    ensures { λ r. ⌜ r ≡ detailsTold (now (s .entry)) ⌝ }
+{
+    let Framed::At(start) = frame_start(s) else {
+        return ZEROS;
+    };
+    match first_object(&s[start..]) {
+        First::Told(d, _) => d,
+        First::Absent(_) => ZEROS,
+    }
+}
+
+// The most bytes of a command, and the number that tells R2.
+const COMMAND_CAP: usize = 256;
+
+const REFUSED_SIZE: u32 = 0x1000002;
+
+// What command is at hand: number, type and qualifier in one number, or R2.
+pub fn at_hand(s: &[u8]) -> u32
+    ensures { λ r. ⌜ r ≡ atHand (now (s .entry)) ⌝ }
+{
+    if s.len() == 0 {
+        return REFUSED_SIZE;
+    }
+    if COMMAND_CAP < s.len() {
+        return REFUSED_SIZE;
+    }
+    let d = details_told(s);
+    0x10000 * d.number as u32 + 0x100 * d.kind as u32 + d.qualifier as u32
 }

@@ -11,6 +11,7 @@ pub mod Walks
 pub mod Forms
 pub mod Meant
 pub mod Heard
+pub mod AtHand
 pub mod Asked
 pub mod TagForms
 pub mod Bounds

@@ -8,6 +8,7 @@ pub mod Profile
 pub mod Datagrams
 pub mod State
 pub mod Reading
+pub mod AtHand
 pub mod Own
 pub mod Pool
 pub mod Written
