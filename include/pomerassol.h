@@ -91,6 +91,12 @@ uint32_t pomerassol_take(pomerassol_session *s, uint8_t channel, uint8_t *out, s
  * and event 0A, 13 bytes, tells of it where it is listed. R1 where the buffer has fewer than 16 bytes, then R3 to R5. */
 uint32_t pomerassol_drop(pomerassol_session *s, uint8_t channel, uint8_t *out, size_t out_size);
 
+/* What command is at hand, from its outer head and its first object alone: number times 10000 plus type times 100 plus
+ * qualifier, all hexadecimal, which are the details that the answer to the same bytes has; 0 where the outer frame is wrong,
+ * or the first object is none, faulty or not 01 with length 3. `POMERASSOL_REFUSED` plus 2 where there is no byte, or more
+ * than 256. The answer is `atHand`. It needs no record. */
+uint32_t pomerassol_details(const uint8_t *bytes, size_t bytes_size);
+
 #ifdef __cplusplus
 }
 #endif

@@ -1,14 +1,17 @@
 -- The contract of each exported call settles its outcome: the number, the record and the buffer.
 -- Assumes nothing.
 use Prim.Native.Nat.{ℕ}
-use mathlib.Core.Path.{_≡_, sym, _∙_}
+use mathlib.Core.Path.{_≡_, refl, sym, _∙_}
 use mathlib.Core.List.{List}
+use Rattle.outcomes.specs.Determined.{Determined}
 use Rattle.outcomes.specs.Settles.{Settles}
 use Rattle.outcomes.proofs.Claims.{from-claims}
 use Rattle.rules.specs.Command.{Answer}
 use Rattle.session.specs.declared.Session.{Session}
 use Rattle.session.proofs.Alike.{lent-alike, ledger-told, pool-told, session-alike}
 use Rattle.host.specs.Packed.{Hosts}
+use Rattle.host.proofs.pomerassol_details.Kinds as details-kinds
+use Rattle.host.proofs.pomerassol_details.Reads as details-reads
 use Rattle.host.proofs.pomerassol_start as start-call
 use Rattle.host.proofs.pomerassol_command as command-call
 use Rattle.host.proofs.pomerassol_arrival as arrival-call
@@ -49,3 +52,6 @@ pub drop-settled : Settles drop-call.ended (λ M 𝓤. drop-call.clauses 𝓤)
 drop-settled M 𝓤 H A mem run κs a g x y v w =
     from-claims 𝓤 _ _ _ _
     (λ p q. (number-alike (v .0) (w .0) p q, λ i. (record-alike (v .0) (w .0) p q i, (tt, (buffer-alike (v .0) (w .0) p q i, tt)))))
+
+pub details-settled : Determined 1 details-kinds.ps details-kinds.r details-reads.Pre details-reads.Post
+details-settled κs a _ x y v w p q = (p ∙ sym q, refl)

@@ -1,4 +1,5 @@
 // The calls over a record that the host lends, exported to C. Each lends both arrays, moves nothing, and packs how it ended into one number.
+use command::at_hand;
 use modem::command_in;
 use octets;
 use pool::Pool;
@@ -14,6 +15,7 @@ ghost use mathlib.Core.Path.{_≡_};
 ghost use lib.ListN.{length};
 ghost use Rattle.rules.specs.Pool.{poolSize};
 ghost use Rattle.rules.specs.State.{start};
+ghost use Rattle.rules.specs.AtHand.{atHand};
 ghost use Rattle.rules.specs.Command.{command};
 ghost use Rattle.rules.specs.Radio.{arrival, taking, dropping};
 ghost use Rattle.session.specs.Book.{ledgerSize};
@@ -140,4 +142,12 @@ pub extern "C" fn pomerassol_drop(s: &mut Session, channel: u8, out: &mut [u8]) 
     ensures { λ r. ⌜ Hosts (dropping (view (now (s .entry))) (length (now (out .entry))) (record { 0 = channel })) (now (s .exit)) r (now (out .entry)) (now (out .exit)) ⌝ }
 {
     drop_packed(&mut s.ledger, &mut s.pool, channel, out)
+}
+
+// What command is at hand: number, type and qualifier in one number, or R2; from the outer head and the first object alone.
+#[no_mangle]
+pub extern "C" fn pomerassol_details(bytes: &[u8]) -> u32
+    ensures { λ r. ⌜ r ≡ atHand (now (bytes .entry)) ⌝ }
+{
+    at_hand(bytes)
 }
