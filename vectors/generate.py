@@ -2562,7 +2562,7 @@ def play(root, names, answers, s, file):
     answers.append(b"== " + file.encode("ascii") + b".in\n" + out)
 
 
-def main(root):
+def make_all():
     make_listing()
     make_numbers()
     make_run_only()
@@ -2593,6 +2593,10 @@ def main(root):
     make_datagrams_kept()
     make_datagrams_mixed()
     make_lessons()
+
+
+def main(root):
+    make_all()
     names = [s.name for s in ALL]
     assert len(names) == len(set(names)), "a name twice"
     for folder in (NOTES, os.path.join(LESSONS, "data")):

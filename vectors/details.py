@@ -1,0 +1,107 @@
+#!/usr/bin/env python3
+"""Writes what the gate runs for M-101, what command is at hand: crates/details_lines/stdin, commands in hexadecimal,
+one a line, and stdout, the details of each. With a folder behind it everything is written below that folder instead.
+
+    python3 details.py [FOLDER]
+
+The details are those that oracle.py puts into its full response to the same bytes, whatever its other steps find; so
+the two must not differ where a later object is damaged. A line is each line of the scripts, and those made here.
+"""
+
+import os
+import sys
+
+import generate
+import oracle
+
+LINE_CAP = 4000                                 # longer lines of the scripts are left out
+
+# Line by line with the answer, worked out by hand from the request.
+BY_HAND = [
+    (b"", "R2"),
+    (b"D009810301020082028182", "010200"),
+    (b"d009810301020082028182", "010200"),
+    (b"D0098103FE43FF82028121", "FE43FF"),
+    (b"D000", "000000"),
+    (b"D0", "000000"),
+    (b"00", "000000"),
+    (b"D109810301020082028182", "000000"),
+    (b"D00A810301020082028182", "000000"),
+    (b"D008810301020082028182", "000000"),
+    (b"D00581030102FF", "0102FF"),
+    (b"D0050103019900", "019900"),
+    (b"D0058103000000", "000000"),
+    (b"D00481030102", "000000"),
+    (b"D00481020102", "000000"),
+    (b"D0068104010203FF", "000000"),
+    (b"D00982028182" b"8103010200", "000000"),
+    (b"D0068103010200FF", "010200"),
+    (b"D0068103010200" b"82", "010200"),
+    (b"D00A8103010200" b"8103FFFFFF", "010200"),
+    (b"D0077F8001" b"03014205", "014205"),
+    (b"D0077F0001" b"03014205", "014205"),
+    (b"D0077F8101" b"03014205", "000000"),
+    (b"D0027F80", "000000"),
+    (b"D", "R9"),
+    (b"D00", "R9"),
+    (b"D0 00", "R9"),
+    (b"D00G", "R9"),
+    (b"D0" + b"00" * 255, "000000"),
+    (b"D0" + b"00" * 256, "R2"),
+    (b"D081FD" + b"8103011234" + b"05" + b"81F5" + b"41" * 245, "011234"),
+    (b"D0" + b"00" * 1599, "R2"),
+    (b"D0" + b"00" * 1600, "R9"),
+    (b"D0" + b"0" * 3199, "R9"),
+]
+
+
+def at_hand(line):
+    """What a line prints."""
+    data = oracle.read_hex(line)
+    if data is None:
+        return "R9"
+    try:
+        return oracle.Session(bytes(13)).command(data)[2:5].hex().upper()
+    except oracle.Refusal as r:
+        return "R%d" % r.number
+
+
+def cut_and_changed(frame):
+    """A command cut at each byte, its outer length put right or not, and with each byte of its front changed."""
+    for k in range(len(frame)):
+        yield frame[:k]
+        if k >= 2:
+            yield frame[:1] + bytes([k - 2]) + frame[2:k]
+    for k in range(min(len(frame), 12)):
+        for by in (1, 0x80, 255):
+            yield frame[:k] + bytes([(frame[k] + by) % 256]) + frame[k + 1:]
+
+
+def lines():
+    yield from (line for line, _ in BY_HAND)
+    for name in sorted(s.name for s in generate.ALL):
+        script = next(s for s in generate.ALL if s.name == name)
+        text = script.whole()[0]
+        yield from (line for line in text.split(b"\n") if len(line) <= LINE_CAP)
+    for frame in (generate.more_time(), generate.send(3, b"ABC", q=0x7F), generate.open_(1500, generate.UDP),
+                  generate.tagged(generate.basic(0x42, "21") + [(0x37, True, "09")], {0, 2})):
+        yield from (data.hex().upper().encode() for data in cut_and_changed(frame))
+
+
+def main(root):
+    for line, want in BY_HAND:
+        if at_hand(line) != want:
+            raise SystemExit("%r\n got  %s\n want %s" % (line[:80], at_hand(line), want))
+    generate.make_all()
+    seen = list(dict.fromkeys(lines()))
+    crate = os.path.join(root, "crates", "details_lines")
+    os.makedirs(crate, exist_ok=True)
+    with open(os.path.join(crate, "stdin"), "wb") as out:
+        out.write(b"\n".join(seen) + b"\n")
+    with open(os.path.join(crate, "stdout"), "w") as out:
+        out.write("".join(at_hand(line) + "\n" for line in seen))
+    print(len(seen), "lines")
+
+
+if __name__ == "__main__":
+    main(sys.argv[1] if sys.argv[1:] else os.path.join(os.path.dirname(os.path.abspath(__file__)), ".."))
