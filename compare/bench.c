@@ -140,6 +140,13 @@ static void list_more_time(uint32_t n)
     add(write_command(frames[0], 0x02, 0, 0x82, 0, NULL, 0));
 }
 
+/* The details of a command: MORE TIME, with an object 05 of n bytes behind it where that is not 0. */
+static void list_details(uint32_t n)
+{
+    call c = write_command(frames[0], 0x02, 0, 0x82, n == 0 ? 0 : 0x05, data, n);
+    add((call){DETAILS, 0, c.bytes, c.n, 0});
+}
+
 /* OPEN CHANNEL of n bytes. */
 static void list_open(uint32_t n)
 {
@@ -245,6 +252,8 @@ typedef struct {
 static const line lines[] = {
     {"refused frame (length 81 09)", 0, 1, GRANT, 0, 0, 0, list_refused, 0},
     {"MORE TIME", 0, 1, GRANT, 0, 0, 0, list_more_time, 0},
+    {"details of MORE TIME, 11 bytes", 0, 0, 0, 0, 0, 0, list_details, 0},
+    {"details of MORE TIME, 256 bytes", 0, 0, 0, 0, 0, 0, list_details, 241},
     {"OPEN of 32, none open", 0, 0, 0, 0, 0, 0, list_open, 32},
     {"OPEN of 32, six open", 0, 6, 32, 0, 0, 0, list_open, 32},
     {"OPEN of 1500 and CLOSE, the pair", 0, 0, 0, 0, 0, 0, list_open_and_close, GRANT},

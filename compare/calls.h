@@ -5,7 +5,7 @@
 #include "../include/pomerassol.h"
 #include "reference.h"
 
-typedef enum { NOTHING, START, COMMAND, ARRIVAL, TAKE, DROP } call_kind;
+typedef enum { NOTHING, START, COMMAND, ARRIVAL, TAKE, DROP, DETAILS } call_kind;
 
 /* What is lent to a call: the bytes in, and the size of the buffer for the answer. */
 typedef struct {
@@ -33,6 +33,8 @@ typedef struct {
             return side##_take(s, c->channel, out, c->size);                        \
         case DROP:                                                                  \
             return side##_drop(s, c->channel, out, c->size);                        \
+        case DETAILS:                                                               \
+            return side##_details(c->bytes, c->n);                                  \
         default:                                                                    \
             return 0;                                                               \
         }                                                                           \

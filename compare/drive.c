@@ -9,7 +9,7 @@
 
 enum { LARGEST = 65535, GUARD = 64, SPACE = GUARD + LARGEST + 1 + GUARD, NOISE = 1 << 18 };
 enum { REFUSED = REFERENCE_REFUSED, COMMAND_CAP = 256, FRAME_CAP = 300, DATA_CAP = 241, CELLS = 256, CELL = 32 };
-enum { DATAGRAMS = REFERENCE_DATAGRAMS, R6 = 6, R11 = 11, R12 = 12, REFUSALS = 13 };
+enum { DATAGRAMS = REFERENCE_DATAGRAMS, R2 = 2, R6 = 6, R11 = 11, R12 = 12, REFUSALS = 13 };
 
 /* ---- The two sides ---- */
 
@@ -273,6 +273,19 @@ static bool honest(const call *c, uint32_t returned, const uint8_t *space, const
     return memcmp(space + GUARD + written, before + GUARD + written, all - GUARD - written) == 0;
 }
 
+/* Compares what both sides say is at hand, with each other and with the details in the answer. */
+static void compare_details(const call *c, uint32_t returned)
+{
+    uint32_t a = reference_details(c->bytes, c->n), b = pomerassol_details(c->bytes, c->n);
+    const uint8_t *out = reference_space + GUARD;
+    if (a != b)
+        differ("the details at hand", c, a, b);
+    if (returned < REFUSED && b != (uint32_t)(out[2] << 16 | out[3] << 8 | out[4]))
+        differ("the details at hand and those of the answer", c, returned, b);
+    if (returned == REFUSED + R2 && b != returned)
+        differ("R2 of the details at hand", c, returned, b);
+}
+
 /* Makes the call on both records and compares numbers, buffers and what was lent. */
 static uint32_t perform(records *r, const call *c)
 {
@@ -293,6 +306,8 @@ static uint32_t perform(records *r, const call *c)
         differ("bytes lent to be read were changed", c, a, b);
     if (!honest(c, a, reference_space, before))
         differ("both touch bytes that they do not report", c, a, b);
+    if (c->kind == COMMAND)
+        compare_details(c, a);
     if (r->pomerassol.ledger[POMERASSOL_FREE_CELLS] != CELLS - r->reference.promised)
         differ("the kept number of unpromised cells", c, a, b);
     return a;

@@ -886,3 +886,17 @@ uint32_t reference_drop(reference_session *s, uint8_t channel, uint8_t *out, siz
         return 0;
     return (uint32_t)(write_event(out, 0x0B, EVENT_DROP, c, channel) - out);
 }
+
+/* What command is at hand: the details in the first object; 0 where the frame or that object is none. */
+uint32_t reference_details(const uint8_t *command, size_t n)
+{
+    object first;
+    if (n == 0 || n > COMMAND_CAP)
+        return R2;
+    const uint8_t *end = command + n, *at = open_frame(command, end);
+    if (at == NULL || at == end || read_object(at, end, &first) == NULL)
+        return 0;
+    if (first.number != 0x01 || first.length != 3)
+        return 0;
+    return (uint32_t)(first.value[0] << 16 | first.value[1] << 8 | first.value[2]);
+}

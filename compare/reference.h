@@ -60,4 +60,7 @@ uint32_t reference_arrival(reference_session *s, uint8_t channel, const uint8_t 
 uint32_t reference_take(reference_session *s, uint8_t channel, uint8_t *out, size_t size);
 uint32_t reference_drop(reference_session *s, uint8_t channel, uint8_t *out, size_t size);
 
+/* What command is at hand: number, type and qualifier in one number, or REFERENCE_REFUSED plus 2. */
+uint32_t reference_details(const uint8_t *command, size_t n);
+
 #endif
