@@ -9,7 +9,7 @@ use Rattle.rules.specs.declared.ChannelNumber.{ChannelNumber}
 use Rattle.rules.specs.State.{State, start}
 use Rattle.rules.specs.Command.{Outcome, wrote, refused, Answer}
 use Rattle.rules.specs.Run.{Call, starting, commanding, arriving, takingOut, droppingLink, step, after}
-use Rattle.rules.specs.History.{Exchange, history, seenFrom}
+use Rattle.rules.specs.History.{Exchange, history, callsOf, seenFrom}
 use Rattle.rules.specs.Pool.{unpromised}
 use Rattle.rules.specs.Demands.{Follows, freeBy}
 use Rattle.rules.proofs.Histories.{follows}
@@ -23,7 +23,7 @@ use Rattle.session.specs.Calls.{Answers, endedOf, writtenBy, overlaid}
 use Rattle.session.proofs.Facts.{unpromised-kept}
 use Rattle.session.proofs.Views.{shows-back}
 use Rattle.text.specs.Prints.{outcomeOf}
-use Rattle.bridge.specs.Reached.{Left, Called, Runs, callsOf, Reached}
+use Rattle.bridge.specs.Reached.{Left, Called, Runs, Reached}
 
 -- what is seen in the buffer is how the call ended
 front-seen : (o : Outcome) (before : List ℕ) → outcomeOf (endedOf o) (overlaid (writtenBy o) before) ≡ o

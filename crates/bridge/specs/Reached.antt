@@ -1,7 +1,7 @@
 -- Records that the code handed back: each follows from the one before by the contract of a public call.
 use Prim.Native.Nat.{ℕ}
 use mathlib.Core.Path.{_≡_}
-use mathlib.Core.List.{List, [], _∷_, map}
+use mathlib.Core.List.{List, [], _∷_}
 use lib.ListN.{length}
 use Rattle.rules.specs.State.{start}
 use Rattle.rules.specs.Command.{Outcome, wrote, Answer, command}
@@ -41,10 +41,6 @@ Called s (droppingLink buffer n) t o = Left (dropping (view s) buffer n) buffer 
 abbrev pub Runs : Session → List Exchange → Session → Type 0
 Runs s [] t = s ≡ t
 Runs s (e ∷ es) t = (m : Session) × Called s (e .call) m (e .outcome) × Runs m es t
-
--- the calls of a list of exchanges
-abbrev pub callsOf : List Exchange → List Call
-callsOf es = map (λ (e : Exchange). e .call) es
 
 -- the record came from a start with this profile, and from these calls
 pub record Reached (p : List ℕ) (es : List Exchange) (s : Session) : Type 0 where

@@ -23,4 +23,7 @@ pub mod Listed
 pub mod Demands
 pub mod Openings
 pub mod Input
+pub mod Stages
+pub mod Fetch
+pub mod Acts
 pub mod Settled

@@ -1,7 +1,7 @@
 -- What anyone outside can see: calls and how they ended, and what they tell of one channel since its latest opening.
 use Prim.Native.Nat.{ℕ, _+_, _-_, min}
 use mathlib.Core.Bool.{Bool, true, false}
-use mathlib.Core.List.{List, [], _∷_, _++_}
+use mathlib.Core.List.{List, [], _∷_, _++_, map}
 use lib.ListN.{length, getD, take, drop}
 use lib.Dec.{eqb}
 use Rattle.rules.specs.declared.Carries.{Carries}
@@ -171,6 +171,10 @@ historyFrom n h (e ∷ es) = historyFrom n (tells n h (e .call) (e .outcome)) es
 
 unfoldable pub history : ChannelNumber → List Exchange → History
 history n es = historyFrom n ended es
+
+-- the calls of a list of exchanges
+abbrev pub callsOf : List Exchange → List Call
+callsOf es = map (λ (e : Exchange). e .call) es
 
 -- what is seen of a run
 unfoldable pub seenFrom : State → List Call → List Exchange

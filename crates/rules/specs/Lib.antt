@@ -13,12 +13,14 @@ pub mod Own
 pub mod Pool
 pub mod Written
 pub mod Command
+pub mod Fetch
 pub mod Radio
 pub mod Bench
 pub mod Lines
 pub mod Input
 pub mod Run
 pub mod History
+pub mod Acts
 pub mod Demands
 pub mod Sound
 pub mod Numbers

@@ -79,6 +79,13 @@ pub enum Ending {
     CutValue,
 }
 
+// What bytes from the front of a command are: so many are lacking at least; too long a command; or what they are can be told, a whole frame or what can never be one.
+pub enum Stage {
+    Lacks(usize),
+    Overlong,
+    Decided,
+}
+
 // A channel, 1 to 7, as the radio and the statuses count it.
 pub struct ChannelNumber(pub u8);
 
