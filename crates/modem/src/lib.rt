@@ -32,7 +32,7 @@ ghost use Rattle.session.specs.Calls.{Answers};
 ghost use Rattle.modem.specs.Obeyed.{obeyed};
 
 // The least buffer for a response, and the longest command.
-const LEAST_BUFFER: usize = 255;
+pub const LEAST_BUFFER: usize = 255;
 
 const LONGEST: usize = 256;
 
