@@ -4,7 +4,8 @@
  * The host owes what a C compiler cannot check:
  *   - a pointer is not null, also where its size is 0, and leads to as many bytes as its size says;
  *   - the record, the bytes handed in and the buffer lent do not overlap, and nobody else touches them during a call;
- *   - a record that is handed to a call came from pomerassol_start and the calls below, and from nothing else.
+ *   - a record that is handed to a call came from pomerassol_start and the calls below, and from nothing else; the gathered
+ *     bytes came from pomerassol_fetch_start and pomerassol_fetch.
  * Then every call ends with an answer or with a numbered refusal. A refusal changes neither the record nor a byte of the
  * buffer. An answer writes the front of the buffer, as many bytes as it reports, and leaves the bytes behind them.
  */
@@ -68,6 +69,16 @@ POMERASSOL_ASSERT(offsetof(pomerassol_session, ledger) == 0, "ledger");
 POMERASSOL_ASSERT(offsetof(pomerassol_session, pool) == 564, "pool");
 POMERASSOL_ASSERT(POMERASSOL_TX_LENGTHS(7) + POMERASSOL_PLACES == 282, "lengths");
 
+/* What was gathered of a command so far: its bytes, 0 behind them, and their count. A host reads it if it likes, and never
+ * writes it. */
+typedef struct {
+    uint8_t bytes[256];
+    uint8_t count;
+} pomerassol_gathered;
+
+POMERASSOL_ASSERT(sizeof(pomerassol_gathered) == 257, "gathered");
+POMERASSOL_ASSERT(offsetof(pomerassol_gathered, count) == 256, "count");
+
 /* A fresh session from profile bytes of any length; at a card's reset, anew. The record may hold anything, as memory that is
  * all 0. Afterwards it shows `start` of the profile: no channel, no event, an empty pool, every cell unpromised. */
 void pomerassol_start(pomerassol_session *s, const uint8_t *profile, size_t profile_size);
@@ -96,6 +107,21 @@ uint32_t pomerassol_drop(pomerassol_session *s, uint8_t channel, uint8_t *out, s
  * or the first object is none, faulty or not 01 with length 3. `POMERASSOL_REFUSED` plus 2 where there is no byte, or more
  * than 256. The answer is `atHand`. It needs no record. */
 uint32_t pomerassol_details(const uint8_t *bytes, size_t bytes_size);
+
+/* Nothing is gathered; at a card's reset, anew. The memory may hold anything. */
+void pomerassol_fetch_start(pomerassol_gathered *gathered);
+
+/* The card's bytes, as they come off the line: a burst of them, none among them. The answer is `fetch`. Bytes are taken one
+ * after the other until those gathered are a command, which is answered as pomerassol_command answers it; or can never be
+ * one, by the outer head, which is answered at the byte that shows it; or call for more than 256 bytes, which is R2. Then
+ * nothing is gathered, and the bytes behind are left. Else all are taken, and nothing is written: more is to come.
+ * R1 where the buffer has fewer than 255 bytes, before everything: the burst is not taken, and what was gathered stays. */
+uint64_t pomerassol_fetch(pomerassol_session *s, pomerassol_gathered *gathered, const uint8_t *bytes, size_t bytes_size, uint8_t *out, size_t out_size);
+
+/* What that number says: how many of the burst's bytes are left, FFFFFFFF for that many and more; and how the call ended, as
+ * in the other calls, 0 being that more is to come. */
+#define POMERASSOL_LEFT(number) ((uint32_t)((number) >> 32))
+#define POMERASSOL_ENDED(number) ((uint32_t)(number))
 
 #ifdef __cplusplus
 }

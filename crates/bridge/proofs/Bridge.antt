@@ -31,7 +31,7 @@ unfolding outcomeOf endedOf overlaid writtenBy
 front-seen (wrote s) before = ap wrote (take-append-seam s (drop (length s) before))
 front-seen (refused r) before = refl
 
-answer-seen : (x : Answer) (l p : List ℕ) (e : Ended) (before after : List ℕ) → Answers x l p e before after → outcomeOf e after ≡ x .outcome
+pub answer-seen : (x : Answer) (l p : List ℕ) (e : Ended) (before after : List ℕ) → Answers x l p e before after → outcomeOf e after ≡ x .outcome
 answer-seen x l p e before after h = (λ i. outcomeOf (h .ended i) (h .lent i)) ∙ front-seen (x .outcome) before
 
 -- one call: the record after it is good, shows the state of the definitions, and what is seen is how it ended

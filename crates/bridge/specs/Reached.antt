@@ -5,6 +5,7 @@ use mathlib.Core.List.{List, [], _∷_}
 use lib.ListN.{length}
 use Rattle.rules.specs.State.{start}
 use Rattle.rules.specs.Command.{Outcome, wrote, Answer, command}
+use Rattle.rules.specs.Fetch.{Fetched}
 use Rattle.rules.specs.Radio.{arrival, taking, dropping}
 use Rattle.rules.specs.Run.{Call, starting, commanding, arriving, takingOut, droppingLink}
 use Rattle.rules.specs.History.{Exchange}
@@ -13,6 +14,8 @@ use Rattle.session.specs.declared.Ended.{Ended}
 use Rattle.session.specs.Picture.{Good, Shows, view}
 use Rattle.session.specs.Calls.{Answers}
 use Rattle.text.specs.Prints.{outcomeOf}
+use Rattle.rules.specs.Acts.{burstSeen, gatheredBy}
+use Rattle.fetch.specs.Gathers.{gatheredIn, Gathers, Leaves}
 
 -- a call with a buffer of so many bytes left the record t, and this could be seen of it
 pub record Left (x : Answer) (buffer : ℕ) (t : Session) (o : Outcome) : Type 0 where
@@ -47,3 +50,19 @@ pub record Reached (p : List ℕ) (es : List Exchange) (s : Session) : Type 0 wh
   pub first : Session
   pub begun : Started p first (wrote [])
   pub run : Runs first es s
+
+-- a burst with a buffer of so many bytes left the record t and the gathered record r, and this could be seen of it
+pub record Burst (f : Fetched) (buffer : ℕ) (t : Session) (r : List ℕ) (o : Outcome) (left : ℕ) : Type 0 where
+  pub before : List ℕ
+  pub after : List ℕ
+  pub ended : Ended
+  pub size : length before ≡ buffer
+  pub leaves : Leaves f (t .ledger) (t .pool) r ended before after
+  pub seen : o ≡ outcomeOf ended after
+  pub count : left ≡ length (f .left)
+
+-- a burst over the record s and the gathered record g: the record t follows by what is seen of it, what is gathered is what was seen, and the record of that may be lent to the next burst
+pub record BurstFollows (s : Session) (g : List ℕ) (buffer : ℕ) (bytes : List ℕ) (t : Session) (r : List ℕ) (o : Outcome) (left : ℕ) : Type 0 where
+  pub runs : Runs s (burstSeen buffer (gatheredIn g) bytes left o) t
+  pub gathered : gatheredIn r ≡ gatheredBy (gatheredIn g) bytes o
+  pub gathers : Gathers r

@@ -1,16 +1,15 @@
 -- The bytes that a burst brings, some at a time: what the loop keeps, and that the fetch call is what they come to.
 -- Assumes nothing.
-use Prim.Native.Nat.{ℕ, zero, suc, _+_, _-_, _≤_, _<_, min}
+use Prim.Native.Nat.{ℕ, zero, suc, _+_, _-_, _≤_, min}
 use mathlib.Core.Path.{_≡_, refl, sym, ap, subst, _∙_}
 use mathlib.Core.Bool.{Bool, true, false, true≢false}
 use mathlib.Core.List.{List, [], _∷_, _++_, append-assoc, append-nil}
 use native.Mathlib.Omega.{arith}
 use lib.ListN.{length, take, drop, take-append-drop, length-append, length-take, length-drop, drop-of-length-le}
-use lib.Seq.{length-take-le, take-add, take-all, drop-drop}
+use lib.Seq.{length-take-le, take-add, drop-drop}
 use borrow.Author.Tests.{le-ltb}
 use Rattle.rules.specs.declared.Stage.{Stage}
 use Rattle.rules.specs.declared.Stage.the-variants.{Lacks, Overlong, Decided}
-use Rattle.rules.specs.Checks.{_⇒_else_}
 use Rattle.rules.specs.State.{State}
 use Rattle.rules.specs.Fetch.{stage, Means, takenAt, oneMore, goesOn, Fetched, burst, fetch}
 use Rattle.rules.proofs.Laws.{branch, stop, skip}

@@ -2,16 +2,15 @@
 -- Assumes nothing.
 use Prim.Native.Nat.{ℕ, _+_, _-_, _≤_, _<_}
 use mathlib.Core.Path.{_≡_, refl, sym, ap, subst, _∙_}
-use mathlib.Core.Bool.{true}
 use mathlib.Core.List.{List, [], _++_}
 use native.Mathlib.Omega.{arith}
-use lib.ListN.{length, getD, take, drop, set, length-drop, length-append}
+use lib.ListN.{length, getD, take, drop, set, length-drop}
 use borrow.Author.Tests.{lt-ltb}
 use Rattle.rules.specs.declared.Refusal.the-variants.{ShortBuffer, CommandSize}
 use Rattle.rules.specs.declared.Stage.{Stage}
 use Rattle.rules.specs.declared.Stage.the-variants.{Lacks, Overlong, Decided}
 use Rattle.rules.specs.State.{State}
-use Rattle.rules.specs.Command.{answered, command}
+use Rattle.rules.specs.Command.{command}
 use Rattle.rules.specs.Fetch as rules
 use Rattle.rules.specs.Fetch.{stage, fetch}
 use Rattle.rules.proofs.Laws.{stop}
@@ -23,7 +22,7 @@ use Rattle.session.specs.Picture.{GoodIn, shown}
 use Rattle.session.specs.Calls.{Answers}
 use Rattle.session.proofs.Answers.{refuse-answers, quiet-answers}
 use Rattle.fetch.specs.declared.Fetched.{Fetched}
-use Rattle.fetch.specs.Gathers.{countAt, gatheredSize, gatheredOf, gatheredIn, isLacking, Gathers, Stands, brought, concluded, Leaves, Fetches}
+use Rattle.fetch.specs.Gathers.{countAt, gatheredSize, gatheredIn, isLacking, Gathers, Stands, brought, concluded, Leaves, Fetches}
 use Rattle.fetch.proofs.Records.{lacking-few, none-lacks, gathers-stand, front-length, stands-size, stands-counted, stands-on, record-cleared}
 use Rattle.fetch.proofs.Bringing.{brought-fetched, brought-few}
 

@@ -9,7 +9,7 @@ use Rattle.rules.specs.declared.Stage.{Stage}
 use Rattle.rules.specs.declared.Stage.the-variants.{Lacks, Overlong, Decided}
 use Rattle.rules.specs.Checks.{_⇒_else_}
 use Rattle.rules.specs.State.{State}
-use Rattle.rules.specs.Command.{Answer, answered, refusal, command}
+use Rattle.rules.specs.Command.{answered, refusal, command}
 use Rattle.rules.specs.Fetch as rules
 use Rattle.rules.specs.Fetch.{stage}
 use Rattle.session.specs.declared.Ended.{Ended}

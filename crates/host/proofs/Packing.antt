@@ -1,29 +1,36 @@
 -- A call writes at most 1500 bytes, so however it ends, one number tells it, and that is read back from the number.
 -- Assumes nothing.
-use Prim.Native.Nat.{ℕ, _+_, _-_, _≤_, min}
+use Prim.Native.Nat.{ℕ, _+_, _-_, _*_, _%_, _≤_, _<_, min}
 use mathlib.Core.Path.{_≡_, refl, sym, ap, subst, _∙_}
 use mathlib.Core.List.{List}
 use native.Mathlib.Omega.{arith}
 use lib.ListN.{length-take}
 use borrow.Author.Tests.{lt-ltb, le-ltb}
 use Rattle.rules.specs.declared.ChannelNumber.{ChannelNumber}
+use Rattle.rules.specs.declared.Refusal.{Refusal}
+use Rattle.rules.specs.declared.Refusal.the-variants.{ShortBuffer, CommandSize, NoChannel, Unopened, Unlinked, Overfull, UnfitRecord, NoResponse, Unreadable, NoPlace, Undersized}
 use Rattle.rules.specs.declared.Way.the-variants.{Send}
 use Rattle.rules.specs.Words.{numberOf, refusalOf}
 use Rattle.rules.specs.Pool.{grantCap}
 use Rattle.rules.specs.State.{State, chan, held, atOnce}
 use Rattle.rules.specs.Command.{Answer, Outcome, wrote, refused}
+use Rattle.rules.specs.Fetch as rules
+use Rattle.rules.specs.Fetch.{fetch}
 use Rattle.rules.specs.Radio.{taking}
 use Rattle.rules.specs.Run.{Call, starting, commanding, arriving, takingOut, droppingLink, step}
 use Rattle.rules.specs.Sound.{Sound, Within}
 use Rattle.rules.proofs.Laws.{stop, skip}
 use Rattle.rules.proofs.Told.{refusal-back}
 use Rattle.rules.proofs.Cases.{taking-cases}
+use Rattle.rules.proofs.Fetch.{fetch-within}
 use Rattle.rules.proofs.Sizes.{written-within}
 use Rattle.rules.proofs.Soundness.{chan-sound}
 use Rattle.session.specs.declared.Ended.{Ended}
 use Rattle.session.specs.declared.Ended.the-variants.{Wrote, Refused}
 use Rattle.session.specs.Calls.{endedOf, Answers}
-use Rattle.host.specs.Packed.{packed, unpacked, Fits, Packs}
+use Rattle.fetch.specs.declared.Fetched.{Fetched}
+use Rattle.fetch.specs.Gathers.{Fetches}
+use Rattle.host.specs.Packed.{packed, unpacked, leftCap, packedBurst, endedIn, leftIn, Fits, Packs, PacksBurst}
 
 -- what was packed is read back: each count and each refusal has a number of its own
 pub unpacked-packed : (e : Ended) → Fits e → unpacked (packed e) ≡ e
@@ -74,3 +81,59 @@ pub packs-back :
 packs-back a c t p r before after s h =
     let k = h .answers in
     record { shows = k .shows; good = k .good; ended = ap unpacked (h .told) ∙ unpacked-packed _ (call-fits a c s); lent = k .lent }
+
+-- the number of a burst, with so many bytes left or as many as can be told
+pub burst-few : (x : Fetched) (told : ℕ) → told ≡ packed (x .ended) → x .left < leftCap → 0x100000000 * x .left + told ≡ packedBurst x
+unfolding packedBurst
+burst-few x told e h =
+    let m : x .left ≡ min (x .left) leftCap = omega (arith, h) in λ i. 0x100000000 * m i + e i
+
+pub burst-many : (x : Fetched) (told : ℕ) → told ≡ packed (x .ended) → leftCap ≤ x .left → 0x100000000 * leftCap + told ≡ packedBurst x
+unfolding packedBurst
+burst-many x told e h =
+    let m : leftCap ≡ min (x .left) leftCap = omega (arith, h) in λ i. 0x100000000 * m i + e i
+
+-- how a burst ended can be packed
+pub fetch-fits : (a : State) (buffer : ℕ) (g s : List ℕ) → Sound a → Fits (endedOf (fetch a buffer g s .answer .outcome))
+fetch-fits a buffer g s sound = within-fits 255 _ (omega arith) (fetch-within a buffer g s sound)
+
+pub burst-fits :
+    (a : State) (buffer : ℕ) (g s : List ℕ) (t p r : List ℕ) (x : Fetched) (before after : List ℕ) → Sound a → Fetches (fetch a buffer g s) t p r x before after → Fits (x .ended)
+burst-fits a buffer g s t p r x before after sound h =
+    subst Fits (sym (h .leaves .answers .ended)) (fetch-fits a buffer g s sound)
+
+-- and once it is packed, the burst is told
+pub burst-packs :
+    (f : rules.Fetched) (t p r : List ℕ) (x : Fetched) (before after : List ℕ) (n : ℕ) → Fetches f t p r x before after → n ≡ packedBurst x → PacksBurst f t p r n before after
+burst-packs f t p r x before after n h e =
+    let k = h .leaves .answers in
+    record {
+      leaves = record { answers = record { shows = k .shows; good = k .good; ended = refl; lent = k .lent }; gathered = h .leaves .gathered; lacks = h .leaves .lacks };
+      told = e ∙ (λ i. packedBurst (record { ended = k .ended i; left = h .left i }));
+    }
+
+-- the number of a call that ended so fits the lower half
+number-small : (r : Refusal) → numberOf r ≤ 12
+number-small ShortBuffer = omega arith
+number-small CommandSize = omega arith
+number-small NoChannel = omega arith
+number-small Unopened = omega arith
+number-small Unlinked = omega arith
+number-small Overfull = omega arith
+number-small UnfitRecord = omega arith
+number-small NoResponse = omega arith
+number-small Unreadable = omega arith
+number-small NoPlace = omega arith
+number-small Undersized = omega arith
+
+packed-small : (e : Ended) → Fits e → packed e < 0x100000000
+unfolding packed Fits
+packed-small (Wrote count) h = omega (arith, h)
+packed-small (Refused r) h = let k = number-small r in omega (arith, k)
+
+-- and both halves of a burst's number are read back
+pub burst-back : (x : Fetched) → Fits (x .ended) → (endedIn (packedBurst x) ≡ x .ended) × (leftIn (packedBurst x) ≡ min (x .left) leftCap)
+unfolding packedBurst
+burst-back x h =
+    let k = packed-small (x .ended) h in
+    let low : (0x100000000 * min (x .left) leftCap + packed (x .ended)) % 0x100000000 ≡ packed (x .ended) = omega (arith, k) in (ap unpacked low ∙ unpacked-packed (x .ended) h, omega (arith, k))

@@ -17,6 +17,9 @@ use Rattle.host.proofs.pomerassol_command as command-call
 use Rattle.host.proofs.pomerassol_arrival as arrival-call
 use Rattle.host.proofs.pomerassol_take as take-call
 use Rattle.host.proofs.pomerassol_drop as drop-call
+use Rattle.host.proofs.pomerassol_fetch as fetch-call
+use Rattle.host.proofs.pomerassol_fetch_start.Kinds as fetch-start-kinds
+use Rattle.host.proofs.pomerassol_fetch_start.Reads as fetch-start-reads
 
 -- two that hand back one answer
 module _ {r : Answer} {m n : ℕ} {before after after′ : List ℕ} (s t : Session) (p : Hosts r s m before after) (q : Hosts r t n before after′) where
@@ -55,3 +58,14 @@ drop-settled M 𝓤 H A mem run κs a g x y v w =
 
 pub details-settled : Determined 1 details-kinds.ps details-kinds.r details-reads.Pre details-reads.Post
 details-settled κs a _ x y v w p q = (p ∙ sym q, refl)
+
+pub fetch-start-settled : Determined 1 fetch-start-kinds.ps fetch-start-kinds.r fetch-start-reads.Pre fetch-start-reads.Post
+fetch-start-settled κs a _ x y v w p q = (refl, λ i. ((p ∙ sym q) i, tt))
+
+pub fetch-settled : Settles fetch-call.ended (λ M 𝓤. fetch-call.clauses 𝓤)
+fetch-settled M 𝓤 H A mem run κs a g x y v w =
+    from-claims 𝓤 _ _ _ _
+    (λ p q.
+    let h = p .leaves .answers in
+    let k = q .leaves .answers in
+    (p .told ∙ sym (q .told), λ i. (session-alike (v .0) (w .0) (h .shows) (k .shows) i, ((p .leaves .gathered ∙ sym (q .leaves .gathered)) i, (tt, (lent-alike h k i, tt))))))

@@ -1,5 +1,9 @@
 // The calls over a record that the host lends, exported to C. Each lends both arrays, moves nothing, and packs how it ended into one number.
 use command::at_hand;
+use fetch::Fetched;
+use fetch::Gathered;
+use fetch::fetch_in;
+use fetch::start_gathered;
 use modem::command_in;
 use octets;
 use pool::Pool;
@@ -12,15 +16,18 @@ use session::Ledger;
 use session::Session;
 use session::start_ledger;
 ghost use mathlib.Core.Path.{_≡_};
+ghost use mathlib.Core.List.{[]};
 ghost use lib.ListN.{length};
 ghost use Rattle.rules.specs.Pool.{poolSize};
 ghost use Rattle.rules.specs.State.{start};
 ghost use Rattle.rules.specs.AtHand.{atHand};
 ghost use Rattle.rules.specs.Command.{command};
+ghost use Rattle.rules.specs.Fetch.{fetch};
 ghost use Rattle.rules.specs.Radio.{arrival, taking, dropping};
 ghost use Rattle.session.specs.Book.{ledgerSize};
 ghost use Rattle.session.specs.Picture.{Good, GoodIn, Shows, shown, view};
-ghost use Rattle.host.specs.Packed.{packed, Fits, Hosts, Packs};
+ghost use Rattle.fetch.specs.Gathers.{gatheredOf, gatheredIn, Gathers};
+ghost use Rattle.host.specs.Packed.{packed, packedBurst, Fits, Hosts, Packs, PacksBurst, HostsBurst};
 
 // How a call ended, in one number: the count, or 1000000 (hexadecimal) plus the refusal's number.
 fn pack(ended: Ended) -> u32
@@ -31,6 +38,25 @@ fn pack(ended: Ended) -> u32
         Ended::Wrote(count) => count as u32,
         Ended::Refused(why) => 0x1000000 + why.number() as u32,
     }
+}
+
+// What one bit more than the lower half stands for, and the most that the upper half can tell.
+const UPPER: u64 = 0x100000000;
+
+const LEFT_CAP: u64 = 0xFFFFFFFF;
+
+// How a burst ended, and in the upper half how many of its bytes are left, FFFFFFFF for that many and more.
+fn pack_burst(fetched: Fetched) -> u64
+    requires { ⌜ Fits (fetched .ended) ⌝ }
+    ensures { λ r. ⌜ r ≡ packedBurst fetched ⌝ }
+{
+    let ended = fetched.ended;
+    let left = fetched.left as u64;
+    let told = pack(ended) as u64;
+    if left < LEFT_CAP {
+        return UPPER * left + told;
+    }
+    UPPER * LEFT_CAP + told
 }
 
 // The start over the lent arrays: the pool's bytes are cleared, and the ledger is written anew.
@@ -95,6 +121,20 @@ fn drop_packed(
     pack(dropping_in(ledger, pool, ChannelNumber(channel), out))
 }
 
+// A burst over the lent arrays and the gathered record.
+fn fetch_packed(
+    ledger: &mut [u16; Ledger::SIZE],
+    pool: &mut [u8; Pool::SIZE],
+    gathered: &mut [u8; Gathered::SIZE],
+    bytes: &[u8],
+    out: &mut [u8],
+) -> u64
+    requires { ⌜ GoodIn (now ledger) (now pool) × Gathers (now gathered) ⌝ }
+    ensures { λ r. ⌜ PacksBurst (fetch (shown (now (ledger .entry)) (now (pool .entry))) (length (now (out .entry))) (gatheredIn (now (gathered .entry))) (now (bytes .entry))) (now (ledger .exit)) (now (pool .exit)) (now (gathered .exit)) r (now (out .entry)) (now (out .exit)) ⌝ }
+{
+    pack_burst(fetch_in(ledger, pool, gathered, bytes, out))
+}
+
 // A fresh session from profile bytes of any length, in the host's record, whatever it held.
 #[no_mangle]
 pub extern "C" fn pomerassol_start(s: &mut Session, profile: &[u8])
@@ -150,4 +190,26 @@ pub extern "C" fn pomerassol_details(bytes: &[u8]) -> u32
     ensures { λ r. ⌜ r ≡ atHand (now (bytes .entry)) ⌝ }
 {
     at_hand(bytes)
+}
+
+// Nothing is gathered of a command, whatever the memory held.
+#[no_mangle]
+pub extern "C" fn pomerassol_fetch_start(gathered: &mut [u8; Gathered::SIZE])
+    ensures { λ _. ⌜ now (gathered .exit) ≡ gatheredOf [] ⌝ }
+{
+    start_gathered(gathered)
+}
+
+// The card's bytes come off the line, a burst of them.
+#[no_mangle]
+pub extern "C" fn pomerassol_fetch(
+    s: &mut Session,
+    gathered: &mut [u8; Gathered::SIZE],
+    bytes: &[u8],
+    out: &mut [u8],
+) -> u64
+    requires { ⌜ Good (now s) × Gathers (now gathered) ⌝ }
+    ensures { λ r. ⌜ HostsBurst (fetch (view (now (s .entry))) (length (now (out .entry))) (gatheredIn (now (gathered .entry))) (now (bytes .entry))) (now (s .exit)) (now (gathered .exit)) r (now (out .entry)) (now (out .exit)) ⌝ }
+{
+    fetch_packed(&mut s.ledger, &mut s.pool, gathered, bytes, out)
 }

@@ -1,27 +1,25 @@
 -- Calls and bursts in any order are calls: each burst that completes a command is that command, and no other burst changes a session.
 -- So every statement on a list of calls is one on what a host does.
 -- Assumes nothing.
-use Prim.Native.Nat.{ℕ, _+_, _-_}
+use Prim.Native.Nat.{ℕ, _-_}
 use mathlib.Core.Path.{_≡_, refl, sym, ap, subst, _∙_}
-use mathlib.Core.Bool.{Bool, true, false, true≢false}
-use mathlib.Core.List.{List, [], _∷_, _++_, append-nil}
+use mathlib.Core.Bool.{false, true≢false}
+use mathlib.Core.List.{List, [], _∷_, _++_}
 use native.Mathlib.Omega.{arith}
 use lib.ListN.{length, getD, take, drop, length-append}
 use lib.Seq.{take-at}
 use lib.Dec.{ltb}
-use borrow.Author.Tests.{ltb-false}
-use Rattle.rules.specs.declared.Refusal.{Refusal}
 use Rattle.rules.specs.declared.Refusal.the-variants.{CommandSize}
-use Rattle.rules.specs.Checks.{_⇒_else_, isEmpty}
+use Rattle.rules.specs.Checks.{_⇒_else_}
 use Rattle.rules.specs.Frames.{objectBytes, written}
 use Rattle.rules.specs.Written.{Response, responseObjects, responseBytes}
 use Rattle.rules.specs.State.{State}
-use Rattle.rules.specs.Command.{Outcome, wrote, refused, Answer, answered, refusal, command}
+use Rattle.rules.specs.Command.{wrote, refused, Answer, answered, command}
 use Rattle.rules.specs.Fetch.{Fetched, fetch}
 use Rattle.rules.specs.Run.{Call, commanding, step, after}
 use Rattle.rules.specs.History.{Exchange, callsOf, seenFrom}
 use Rattle.rules.specs.Acts.{Act, calls, bursts, clears, burstSeen, gatheredBy, acted}
-use Rattle.rules.proofs.Laws.{branch, skip}
+use Rattle.rules.proofs.Laws.{branch}
 use Rattle.rules.proofs.Cases.{command-cases}
 use Rattle.rules.proofs.Fetch.{burst-cases}
 
@@ -49,7 +47,7 @@ led-on a b c (e ∷ es) fs h k =
     record { state = rest .state; seen = λ i. first i ∷ rest .seen i }
 
 -- the bytes of a burst that were taken
-taken-back : (s t u : List ℕ) → s ≡ t ++ u → take (length s - length u) s ≡ t
+pub taken-back : (s t u : List ℕ) → s ≡ t ++ u → take (length s - length u) s ≡ t
 taken-back s t u e =
     let k = ap length e in
     let j = length-append t u in

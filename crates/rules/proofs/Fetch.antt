@@ -1,26 +1,27 @@
 -- Bytes that come in bursts: how they are divided does not matter, and a whole command is answered as the command call answers it.
 -- Assumes nothing.
-use Prim.Native.Nat.{ℕ, zero, suc, _+_, _-_, _≤_, _<_}
+use Prim.Native.Nat.{ℕ, _-_, _≤_}
 use mathlib.Core.Path.{_≡_, refl, sym, ap, subst, _∙_}
-use mathlib.Core.Bool.{Bool, true, false, true≢false, false≢true}
+use mathlib.Core.Bool.{true, false, false≢true}
 use mathlib.Core.List.{List, [], _∷_, _++_, append-assoc, append-nil}
 use native.Mathlib.Omega.{arith}
 use lib.ListN.{length, take, drop, take-append-drop, length-append, length-take, length-drop}
 use lib.Dec.{ltb}
-use borrow.Author.Tests.{le-ltb, ltb-false}
-use Rattle.rules.specs.declared.Refusal.the-variants.{ShortBuffer, CommandSize}
+use borrow.Author.Tests.{le-ltb}
+use Rattle.rules.specs.declared.Refusal.the-variants.{CommandSize}
 use Rattle.rules.specs.declared.Stage.{Stage}
 use Rattle.rules.specs.declared.Stage.the-variants.{Lacks, Overlong, Decided}
 use Rattle.rules.specs.Checks.{_⇒_else_, isEmpty}
-use Rattle.rules.specs.Words.{numberOf}
 use Rattle.rules.specs.Frames.{objectBytes, written, lengthAt, fills, framed}
 use Rattle.rules.specs.Written.{Response, responseObjects, responseBytes}
 use Rattle.rules.specs.State.{State}
 use Rattle.rules.specs.Command.{Outcome, wrote, refused, Answer, answered, refusal, command}
-use Rattle.rules.specs.Sound.{Each}
-use Rattle.rules.specs.Fetch.{stage, Means, Lacking, Taken, gathers, ends, takenAt, oneMore, Fetched, goesOn, burst, fetch, Turn, Turned, tellings, turned}
-use Rattle.rules.proofs.Laws.{branch, stop, skip}
+use Rattle.rules.specs.Run.{commanding, step}
+use Rattle.rules.specs.Sound.{Each, Sound, Within}
+use Rattle.rules.specs.Fetch.{stage, Means, Taken, gathers, ends, takenAt, oneMore, Fetched, goesOn, burst, fetch, Turn, Turned, tellings, turned}
+use Rattle.rules.proofs.Laws.{branch, skip}
 use Rattle.rules.proofs.Stages.{some-length, stage-means}
+use Rattle.rules.proofs.Sizes.{written-within}
 
 -- a buffer of 255 bytes does
 roomy : (a : State) (buffer : ℕ) (s : List ℕ) → ltb buffer 255 ≡ false → command a buffer s ≡ command a 255 s
@@ -219,3 +220,14 @@ frame-divided a s us f h e =
     let c = command a 255 s in
     all-through a [] s us e ∙ ap (through a []) (sym (append-nil s)) ∙ fetch-through a 255 [] s []
     ∙ ap (λ (x : Fetched). beyond x []) (frame-fetched a 255 s (omega arith) f h) ∙ through-none c ∙ (λ i. record { state = c .state; gathered = []; told = command-told a s i; rest = [] })
+
+command-within : (a : State) (buffer : ℕ) (s : List ℕ) → Sound a → Within 255 (command a buffer s .outcome)
+unfolding step
+command-within a buffer s h = written-within a (commanding buffer s) h
+
+-- a burst writes at most 255 bytes
+pub fetch-within : (a : State) (buffer : ℕ) (g s : List ℕ) → Sound a → Within 255 (fetch a buffer g s .answer .outcome)
+unfolding fetch
+fetch-within a buffer g s h =
+    let Q : Fetched → Type 0 = λ (f : Fetched). Within 255 (f .answer .outcome) in
+    branch Q _ _ _ (λ _. tt) (λ _. burst-cases Q a buffer g s (omega arith) (λ t u _ _. tt) (λ t u _ _. command-within a buffer (g ++ t) h))

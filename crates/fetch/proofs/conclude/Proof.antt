@@ -2,8 +2,7 @@
 -- Assumes nothing.
 use mathlib.Core.Path.{refl, sym}
 use native.Mathlib.Omega.{arith}
-use lib.Seq.{length-take-le}
-use Rattle.fetch.proofs.Records.{stands-size, front-length, lacking-few}
+use Rattle.fetch.proofs.Records.{stands-size, front-length}
 use Rattle.fetch.proofs.Concluding.{conclude-kept, conclude-long, conclude-command, kept-few}
 use borrow.Author.Needs.{needs}
 use Rattle.fetch.proofs.conclude.Statement.{statement}

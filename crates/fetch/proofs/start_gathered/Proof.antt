@@ -2,7 +2,6 @@
 -- Assumes nothing.
 use Rattle.fetch.specs.Gathers.{gatheredOf}
 use Rattle.session.specs.Picture.{pad}
-use borrow.Author.Needs.{needs}
 use Rattle.fetch.proofs.start_gathered.Statement.{statement}
 use Rattle.fetch.proofs.start_gathered.Tie as tie
 
