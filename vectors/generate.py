@@ -165,6 +165,15 @@ def short(out):
     return out
 
 
+def meets(got, want):
+    """Whether an answer is what the short form of a want says."""
+    if want.startswith("="):
+        return got == want[1:]
+    if want.startswith(".."):
+        return got.endswith(want[2:])
+    return short(got) == want
+
+
 ALL = []
 
 
@@ -188,17 +197,10 @@ class Script:
         self.lines.append(line_bytes)
         got = oracle.run_line(self.session, line_bytes)
         self.printed.append(got)
-        if want is not None:
-            if want.startswith("="):
-                ok = got == want[1:]
-            elif want.startswith(".."):
-                ok = got.endswith(want[2:])
-            else:
-                ok = short(got) == want
-            if not ok:
-                raise SystemExit("%s line %d (%s): %s\n got  %s\n want %s"
-                                 % (self.name, len(self.lines), note,
-                                    line_bytes[:80], got[:200], want[:200]))
+        if want is not None and not meets(got, want):
+            raise SystemExit("%s line %d (%s): %s\n got  %s\n want %s"
+                             % (self.name, len(self.lines), note,
+                                line_bytes[:80], got[:200], want[:200]))
         if note:
             self.notes.append((len(self.lines), note))
         return got

@@ -1,13 +1,14 @@
 #!/usr/bin/env python3
 """An independent oracle for the line program of document 01 ("Data channels: the rules").
 
-Written from the paper, from request M-104 ("Datagram channels") and from the settled
-readings alone. It keeps plain Python bytes for each stream and way, and lists of them for
-datagrams; of the pool it keeps only the counts of cells.
+Written from the paper, from the requests M-104 ("Datagram channels") and M-109 ("Fetch bytes as
+they come off the line") and from the settled readings alone. It keeps plain Python bytes for each
+stream and way, and lists of them for datagrams; of the pool it keeps only the counts of cells.
 
     python3 oracle.py < script.in > script.out
 """
 
+import functools
 import sys
 
 # ---------------------------------------------------------------- the paper's numbers
@@ -18,6 +19,7 @@ GRANT_CAP = 1500       # "the lesser of s and 1500"
 DATA_CAP = 237         # RECEIVE DATA hands out at most this many
 PLACES = 16            # datagrams held each way at most
 COMMAND_MAX = 256      # R2 above
+RESPONSE_MAX = 255     # bytes of a buffer for a response, R1 under
 LINE_MAX = 1600        # bytes of a line, R9 above
 TAKE_MAX = 1500        # R9 above
 
@@ -458,6 +460,40 @@ def event(number, after):
                         + write_object(0x82, b"\x82\x81") + after)
 
 
+# ---------------------------------------------------------------- the fetch call
+
+def called_for(front):
+    """How many bytes a frame with this front has: None where that is still to come, 0 where no frame has it."""
+    if front in (b"\xD0", b"\xD0\x81"):
+        return None
+    outer = read_length(front, 1)
+    if front[0] != 0xD0 or outer is None:
+        return 0
+    size, start = outer
+    return start + size
+
+
+class Gathered:
+    """What came of a frame so far, a record beside the session."""
+    def __init__(self):
+        self.data = b""
+
+    def fetch(self, session, burst, buffer):
+        """What a burst gets, with a buffer of so many bytes, and the count of its bytes left: a response,
+        no bytes where more is to come, or a Refusal."""
+        if buffer < RESPONSE_MAX:
+            return Refusal(1), len(burst)
+        for taken, byte in enumerate(burst, 1):
+            self.data += bytes([byte])
+            total = called_for(self.data)
+            if total is None or len(self.data) < total <= COMMAND_MAX:
+                continue
+            frame, self.data = self.data, b""
+            answer = Refusal(2) if total > COMMAND_MAX else session.command(frame)
+            return answer, len(burst) - taken
+        return b"", 0
+
+
 # ---------------------------------------------------------------- the line program
 
 DIGITS = {ord(c): v for v, c in enumerate("0123456789abcdef")}
@@ -471,6 +507,13 @@ def read_hex(line):
     if len(line) // 2 > LINE_MAX:
         return None
     return bytes(16 * DIGITS[line[i]] + DIGITS[line[i + 1]] for i in range(0, len(line), 2))
+
+
+def printed(answer):
+    """Bytes written, in capitals; "--" if none; or R and the number."""
+    if isinstance(answer, Refusal):
+        return "R%d" % answer.number
+    return answer.hex().upper() if answer else "--"
 
 
 def run_line(session, line):
@@ -492,9 +535,9 @@ def run_line(session, line):
             written = session.drop(data[1])
         else:
             raise Refusal(9)
-        return written.hex().upper() if written else "--"
+        return printed(written)
     except Refusal as r:
-        return "R%d" % r.number
+        return printed(r)
 
 
 def split_lines(raw):
@@ -513,15 +556,31 @@ def start(line):
     return Session(profile), None
 
 
-def run(raw):
-    """All of the output for all of the input, as bytes."""
+def run(raw, line_of=run_line):
+    """All of the output for all of the input, as bytes; line_of says what a later line prints."""
     lines = split_lines(raw)
     if not lines:
         return b""
     session, first = start(lines[0])
     out = [] if first is None else [first]
-    out += [run_line(session, line) for line in lines[1:]]
+    out += [line_of(session, line) for line in lines[1:]]
     return "".join(o + "\n" for o in out).encode("ascii")
+
+
+# ---------------------------------------------------------------- the program fetch_lines
+
+def fetch_line(gathered, session, line):
+    """What one later line prints: each is a burst."""
+    burst = read_hex(line)
+    if burst is None:
+        return printed(Refusal(9))
+    answer, left = gathered.fetch(session, burst, RESPONSE_MAX)
+    return "%s %d" % (printed(answer), left)
+
+
+def run_fetch(raw):
+    """All of its output for all of its input, as bytes."""
+    return run(raw, functools.partial(fetch_line, Gathered()))
 
 
 if __name__ == "__main__":

@@ -1,11 +1,13 @@
 #!/usr/bin/env python3
 """The listing, the twelve "Numbers to prove and to run" and "Run only" of document 01, and each
-sentence of request M-104 ("Datagram channels"), with answers written down by hand from the paper
-(nothing here is taken from oracle.py)."""
+sentence of the requests M-104 ("Datagram channels") and M-109 ("Fetch bytes as they come off the
+line"), with answers written down by hand from the paper (none is taken from oracle.py)."""
 
 import os
 import subprocess
 import sys
+
+import oracle
 
 HERE = os.path.dirname(os.path.abspath(__file__))
 PROFILE = "00000800010C00000000001F82"
@@ -234,6 +236,107 @@ script("opened again as the other kind", UDP_64, *[("A00141", "--")] * 16, (piec
        (opening("021F90", 64), UDP_64[1]), *[("A00142", "--")] * 17, (receive(17), received("00", "42" * 17, "00")),
        (piece("52"), sent("3F")), (piece("53", "01"), sent("3E", "01")), (take(1), "52"), CLOSE_1,
        UDP_64, (take(0), "--"), (piece("54"), sent("3F")), (piece("55", "01"), sent("3E", "01")), (take(1), "R12"))
+
+# ---------------------------------------------------------------- the fetch call
+
+MORE_TIME = "D009" "8103010200" "82028182"
+DONE = "8103010200" "82028281" "830100"
+IGNORED = "8103010200" "82028281" "830101"
+STEP_2 = "8103000000" "82028281" "830132"
+NO_OBJECTS = "8103000000" "82028281" "830136"
+STATUS = "D009" "8103014400" "82028182"
+NONE_OPEN = "8103014400" "82028281" "830100" "38020000"
+ONE_OPEN = "8103014400" "82028281" "830100" "38028100"
+
+
+def bursts(name, *steps):
+    """Bursts behind a start, each with its answer, its bytes left, and where it is not 255 the size of the buffer."""
+    session, gathered = oracle.Session(bytes.fromhex(PROFILE)), oracle.Gathered()
+    for number, (burst, want, *buffer) in enumerate(steps, 1):
+        answer, left = gathered.fetch(session, bytes.fromhex(burst), *buffer or [255])
+        check("fetch, %s, burst %d: %s" % (name, number, burst[:60]), "%s %d" % (oracle.printed(answer), left), want)
+
+
+def fetch_lines(text):
+    """What the program prints."""
+    return oracle.run_fetch(text.encode("latin-1")).decode("ascii")
+
+
+def byte_by_byte(frame, want):
+    """A frame in bursts of one byte, all but the last of which call for more."""
+    pieces = [frame[k:k + 2] for k in range(0, len(frame), 2)]
+    return [(piece, "-- 0") for piece in pieces[:-1]] + [(pieces[-1], want)]
+
+
+bursts("one piece", (MORE_TIME, DONE + " 0"), (MORE_TIME, DONE + " 0"))
+bursts("byte by byte", *byte_by_byte(MORE_TIME, DONE + " 0"), (MORE_TIME, DONE + " 0"))
+bursts("a larger buffer", (MORE_TIME[:4], "-- 0", 256), (MORE_TIME[4:], DONE + " 0", 1500))
+bursts("no bytes", ("", "-- 0"), ("", "-- 0"), ("D0", "-- 0"), ("", "-- 0"), ("0981030102", "-- 0"), ("", "-- 0"),
+       ("0082028182", DONE + " 0"), ("", "-- 0"), (MORE_TIME, DONE + " 0"))
+bursts("no objects", ("D000", NO_OBJECTS + " 0"), ("D0", "-- 0"), ("00", NO_OBJECTS + " 0"),
+       ("D000D000", NO_OBJECTS + " 2"))
+bursts("the length is met at the last byte", ("D002", "-- 0"), ("01", "-- 0"), ("00", NO_OBJECTS + " 0"),
+       (MORE_TIME[:20], "-- 0"), ("82", DONE + " 0"))
+bursts("bytes behind the end are left", (MORE_TIME + "AA", DONE + " 1"), (MORE_TIME + "00" * 300, DONE + " 300"),
+       (MORE_TIME[:10], "-- 0"), (MORE_TIME[10:] + "D009", DONE + " 2"), ("D0", "-- 0"), (MORE_TIME[2:], DONE + " 0"))
+bursts("several frames", (MORE_TIME * 3 + "D0", DONE + " 23"), (MORE_TIME * 2 + "D0", DONE + " 12"),
+       (MORE_TIME + "D0", DONE + " 1"), ("D0", "-- 0"), (MORE_TIME[2:] + STATUS, DONE + " 11"),
+       (STATUS, NONE_OPEN + " 0"))
+for first in ("00", "01", "09", "50", "81", "A0", "CF", "D1", "D6", "FF"):
+    bursts("first byte", (first, STEP_2 + " 0"), (first + MORE_TIME, STEP_2 + " 11"), (MORE_TIME, DONE + " 0"))
+for second in ("80", "82", "83", "8F", "D0", "FE", "FF"):
+    bursts("second byte", ("D0" + second, STEP_2 + " 0"), ("D0" + second + MORE_TIME, STEP_2 + " 11"),
+           ("D0", "-- 0"), (second, STEP_2 + " 0"), ("D0", "-- 0"), (second + "AABB", STEP_2 + " 2"),
+           (MORE_TIME, DONE + " 0"))
+for third in ("00", "01", "09", "7E", "7F"):
+    bursts("third byte", ("D081" + third, STEP_2 + " 0"), ("D081" + third + MORE_TIME, STEP_2 + " 11"),
+           *byte_by_byte("D081" + third, STEP_2 + " 0"), ("D0", "-- 0"), ("81", "-- 0"),
+           (third + "AABB", STEP_2 + " 2"), ("D0", "-- 0"), ("81" + third + "AA", STEP_2 + " 1"),
+           (MORE_TIME, DONE + " 0"))
+for head, last in (("D07F", "0574" + "41" * 116), ("D08180", "0575" + "41" * 117), ("D08181", "0576" + "41" * 118),
+                   ("D081FC", "0581F0" + "41" * 240), ("D081FD", "0581F1" + "41" * 241)):
+    rest = "8103010200" "82028182" + last
+    bursts("a head that is right", (head + rest, IGNORED + " 0"), (head + rest + "AA", IGNORED + " 1"),
+           *byte_by_byte(head, "-- 0"), (rest[:-2], "-- 0"), ("41AABB", IGNORED + " 2"), (MORE_TIME, DONE + " 0"))
+for head, size in (("D081FE", 254), ("D081FF", 255)):
+    bursts("over 256 bytes", (head, "R2 0"), (head + "41" * size, "R2 %d" % size),
+           ("41" * size, STEP_2 + " %d" % (size - 1)), *byte_by_byte(head, "R2 0"), ("", "-- 0"),
+           (MORE_TIME, DONE + " 0"), ("D081", "-- 0"), (head[4:] + MORE_TIME, "R2 11"), (MORE_TIME, DONE + " 0"),
+           (head + head, "R2 3"), (head, "R2 0"))
+bursts("the session moves once and stays", (OPEN_1500[:8], "-- 0"), ("", "-- 0"), (OPEN_1500[8:40], "-- 0"),
+       (OPEN_1500[40:] + "AA", ANSWERS[0] + " 1"), (STATUS, ONE_OPEN + " 0"), ("AA", STEP_2 + " 0"),
+       (STATUS, ONE_OPEN + " 0"), ("D081FE", "R2 0"), (STATUS, ONE_OPEN + " 0"), ("D0", "-- 0"),
+       (CLOSE_1[0][2:], CLOSE_1[1] + " 0"), (STATUS, NONE_OPEN + " 0"))
+for size in (0, 1, 254):
+    bursts("R1, nothing gathered", (MORE_TIME, "R1 11", size), ("", "R1 0", size), ("D0", "R1 1", size),
+           ("AA", "R1 1", size), ("D081FE", "R1 3", size), ("00" * 300, "R1 300", size), ("", "-- 0"),
+           (MORE_TIME, DONE + " 0"))
+    bursts("R1, within a frame", (MORE_TIME[:8], "-- 0"), (MORE_TIME[8:], "R1 7", size), ("", "R1 0", size),
+           (MORE_TIME[8:12], "R1 2", size), (MORE_TIME[8:12], "-- 0"), (MORE_TIME[12:] + "AA", "R1 6", size),
+           (MORE_TIME[12:], DONE + " 0"), ("", "R1 0", size), (MORE_TIME, DONE + " 0"))
+    bursts("R1 before a wrong head and R2", ("D0", "-- 0"), ("80", "R1 1", size), ("81", "-- 0"),
+           ("00AA", "R1 2", size), ("FE", "R1 1", size), ("FEAA", "R2 1"), (MORE_TIME, DONE + " 0"))
+    bursts("R1 leaves the session", (OPEN_1500, "R1 23", size), (STATUS, NONE_OPEN + " 0"),
+           (OPEN_1500, ANSWERS[0] + " 0"), (CLOSE_1[0], "R1 11", size), (STATUS, ONE_OPEN + " 0"))
+
+for what, text, want in (
+        ("empty input", "", ""),
+        ("a profile alone", PROFILE + "\n", ""),
+        ("a blank profile", "\n" + MORE_TIME + "\n", DONE[:-2] + "30 0\n"),
+        ("an unreadable profile", "0\n" + MORE_TIME + "\n", "R9\n" + DONE[:-2] + "30 0\n"),
+        ("a profile of 1600 bytes", PROFILE + "00" * 1587 + "\n" + MORE_TIME, DONE + " 0\n"),
+        ("a profile of 1601 bytes", PROFILE + "00" * 1588 + "\n" + MORE_TIME, "R9\n" + DONE[:-2] + "30 0\n"),
+        ("either case", PROFILE.lower() + "\n" + MORE_TIME.lower() + "\nd081fE\n", DONE + " 0\nR2 0\n"),
+        ("no last line feed", PROFILE + "\nD000\nD0", NO_OBJECTS + " 0\n-- 0\n"),
+        ("a last line of no bytes", PROFILE + "\nD0\n\n", "-- 0\n-- 0\n"),
+        ("left bytes are not kept", PROFILE + "\n" + MORE_TIME * 2 + "\n\n09\n",
+         DONE + " 11\n-- 0\n" + STEP_2 + " 0\n"),
+        ("1600 bytes", PROFILE + "\n" + MORE_TIME + "00" * 1589 + "\n", DONE + " 1589\n"),
+        ("1601 bytes", PROFILE + "\n" + MORE_TIME + "00" * 1590 + "\n", "R9\n")):
+    check("fetch_lines, " + what, fetch_lines(text), want)
+for line in ("0", "008", " 00", "00 ", "00\r", "\t", " ", "0G", "0x", "\xff\xfe", "\0\0", "00" * 1601, "0" * 3199):
+    check("fetch_lines, unreadable: %r" % line[:20], fetch_lines("\n".join((PROFILE, line, "D0", line, "00", line))),
+          "R9\n-- 0\nR9\n" + NO_OBJECTS + " 0\nR9\n")
 
 print("%d checks passed, %d failed" % (passed, failures))
 sys.exit(1 if failures else 0)

@@ -10,6 +10,7 @@ use Rattle.session.specs.Picture.{shown, ledgerOf, poolOf, pad}
 use Rattle.text.specs.Sizes.{keptCap}
 use Rattle.outcomes.specs.Determined.{Determined}
 use Rattle.lines.specs.declared.Progress.{Progress}
+use Rattle.lines.specs.Says.{Says}
 use Rattle.lines.specs.Holds.{readerIn, cut}
 use Rattle.lines.specs.Fills.{Fills}
 use Rattle.lines.proofs.Feeding.{held-size}
@@ -17,6 +18,8 @@ use Rattle.lines.proofs.fill.Kinds as fill-kinds
 use Rattle.lines.proofs.fill.Reads as fill-reads
 use Rattle.lines.proofs.finish.Kinds as finish-kinds
 use Rattle.lines.proofs.finish.Reads as finish-reads
+use Rattle.lines.proofs.begin.Kinds as begin-kinds
+use Rattle.lines.proofs.begin.Reads as begin-reads
 use Rattle.lines.proofs.before.Kinds as before-kinds
 use Rattle.lines.proofs.before.Reads as before-reads
 
@@ -66,3 +69,18 @@ finish-settled κs a _ x y v w p q = (
 
 pub before-settled : Determined 1 before-kinds.ps before-kinds.r before-reads.Pre before-reads.Post
 before-settled κs a _ x y v w p q = (p .1 ∙ sym (q .1), λ i. ((p .0 ∙ sym (q .0)) i, tt))
+
+-- two first lines that leave one session and print the same
+module _ {f : Fed} {t p u q before after after′ : List ℕ} {m n at : ℕ} (g : Says f t p m before at after) (h : Says f u q n before at after′) where
+  first-same : shown t p ≡ shown u q
+  first-same = g .state ∙ sym (h .state)
+
+  first-ledger : t ≡ u
+  first-ledger = g .good .shows .ledger ∙ ap ledgerOf first-same ∙ sym (h .good .shows .ledger)
+
+  first-pool : p ≡ q
+  first-pool = g .good .shows .pool ∙ ap poolOf first-same ∙ sym (h .good .shows .pool)
+
+pub begin-settled : Determined 4 begin-kinds.ps begin-kinds.r begin-reads.Pre begin-reads.Post
+begin-settled κs a _ x y v w p q =
+    (p .place ∙ sym (q .place), λ i. (first-ledger p q i, (first-pool p q i, (tt, ((p .stands ∙ sym (q .stands)) i, (tt, tt))))))

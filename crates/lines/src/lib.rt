@@ -98,7 +98,7 @@ fn perform(
 }
 
 // Performs the first line, which is the profile: a fresh session, and R9 where the line is unreadable.
-fn begin(
+pub fn begin(
     ledger: &mut [u16; Ledger::SIZE],
     pool: &mut [u8; Pool::SIZE],
     line: &[u8],
