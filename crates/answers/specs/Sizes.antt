@@ -7,9 +7,6 @@ lineSize = 3201
 abbrev pub frameSize : ℕ
 frameSize = 1600
 
-abbrev pub outSize : ℕ
-outSize = 65536
-
 abbrev pub answerSize : ℕ
 answerSize = 3230
 

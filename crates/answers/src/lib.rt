@@ -8,9 +8,9 @@ use bench_writer::Asking;
 use bench_writer::Level;
 use bench_writer::Record;
 use command::at_hand;
+use input::Place;
+use input::next_line;
 use io;
-use libc;
-use libc::STDIN_FILENO;
 use libc::STDOUT_FILENO;
 use rules::ChannelNumber;
 use rules::DeviceIdentity;
@@ -18,39 +18,23 @@ use rules::Link;
 use rules::Refusal;
 use session::Ended;
 use text::Frame;
-use text::gather;
 use text::print;
 use text::read_frame;
 ghost use mathlib.Core.Path.{_≡_};
 ghost use Prim.Native.Nat.{_+_, _-_, _*_, _≤_, _<_};
 ghost use lib.ListN.{length};
 ghost use Rattle.bench_reader.specs.Heard.{FurtherAt, VerdictAt};
-ghost use Rattle.answers.specs.Sizes.{lineSize, frameSize, outSize, answerSize, commandSize};
+ghost use Rattle.answers.specs.Sizes.{lineSize, frameSize, answerSize, commandSize};
 
 // The bytes of a line that are kept, enough to see that it is too long.
 pub const LINE: usize = 3201;
 // The most bytes of a frame.
 const FRAME: usize = 1600;
-// The most bytes that the answer to a line takes as print.
-const ANSWER: usize = 3230;
 
 // What answers the lines.
 pub enum Program {
     Bench,
     Details,
-}
-
-// How far a piece of the input was read: how many bytes of a line are kept, the place behind what was read, and where the output goes on.
-struct Progress {
-    len: usize,
-    next: usize,
-    at: usize,
-}
-
-// How many bytes of a line a piece left behind, and whether more is to come.
-struct Turn {
-    len: usize,
-    more: bool,
 }
 
 // Prints a refusal as a line, and tells the place behind it.
@@ -386,127 +370,34 @@ fn perform(program: Program, line: &[u8], out: &mut [u8], at: usize) -> usize
     }
 }
 
-// Prints the answer to a line that stands at the front of a buffer.
-fn perform_front(program: Program, line: &[u8], len: usize, out: &mut [u8], at: usize) -> usize
-    requires { ⌜ (len ≤ length (now line)) × (at + answerSize ≤ length (now out)) ⌝ }
-    ensures { λ r. ⌜ r ≤ at + answerSize ⌝ }
+// Answers the line that stands at the front of a buffer, and tells whether the answer could be written.
+fn turn(program: Program, line: &[u8], len: usize, out: &mut [u8]) -> bool
+    requires { ⌜ (len ≤ length (now line)) × (answerSize ≤ length (now out)) ⌝ }
 {
-    perform(program, &line[..len], out, at)
-}
-
-// Reads a piece from a place on, up to the end of one line or of the piece; a line that is whole is answered.
-fn feed(
-    program: Program,
-    len: usize,
-    line: &mut [u8],
-    piece: &[u8],
-    from: usize,
-    out: &mut [u8],
-    at: usize,
-) -> Progress
-    requires { ⌜ (length (now line) ≡ lineSize) × (len ≤ lineSize) × (from < length (now piece)) × (at + answerSize ≤ length (now out)) ⌝ }
-    ensures { λ r. ⌜ (r .len ≤ lineSize) × (from < r .next) × (r .next ≤ length (now (piece .entry))) × (r .at ≤ at + answerSize) ⌝ }
-{
-    let gathered = gather(line, len, piece, from);
-    let next = gathered.next;
-    let kept = gathered.len;
-    if !gathered.whole {
-        return Progress {
-            len: kept,
-            next,
-            at,
-        };
-    }
-    Progress {
-        len: 0,
-        next,
-        at: perform_front(program, line, kept, out, at),
-    }
-}
-
-// Writes the output up to a place, and tells whether all of it was written.
-fn write_out(out: &[u8], at: usize) -> bool
-    requires { ⌜ at ≤ length (now out) ⌝ }
-{
+    let at = perform(program, &line[..len], out, 0);
     io::write_all(STDOUT_FILENO, &out[..at])
 }
 
-// Answers the lines of a piece of the input. The output is written where a further line might not fit, and at the end.
-fn feed_all(program: Program, len: usize, line: &mut [u8], piece: &[u8], out: &mut [u8]) -> Turn
-    requires { ⌜ (length (now line) ≡ lineSize) × (len ≤ lineSize) × (length (now out) ≡ outSize) ⌝ }
-    ensures { λ r. ⌜ r .len ≤ lineSize ⌝ }
-{
-    let mut kept = len;
-    let mut next: usize = 0;
-    let mut at: usize = 0;
-    while next < piece.len() {
-        if out.len() - at < ANSWER {
-            if !write_out(out, at) {
-                return Turn {
-                    len: kept,
-                    more: false,
-                };
-            }
-            at = 0;
-        }
-        let progress = feed(program, kept, line, piece, next, out, at);
-        kept = progress.len;
-        next = progress.next;
-        at = progress.at;
-    }
-    Turn {
-        len: kept,
-        more: write_out(out, at),
-    }
-}
-
-// The input ended: what is left of it is a line, if there is anything.
-fn finish(program: Program, len: usize, line: &[u8], out: &mut [u8])
-    requires { ⌜ (len ≤ length (now line)) × (length (now out) ≡ outSize) ⌝ }
-{
-    if len < 1 {
-        return;
-    }
-    let at = perform_front(program, line, len, out, 0);
-    write_out(out, at);
-}
-
-// Reads a piece of the input and answers its lines. More is to come unless the input ended, or reading or writing failed.
-fn take_turn(
-    program: Program,
-    len: usize,
-    line: &mut [u8],
-    piece: &mut [u8],
-    out: &mut [u8],
-) -> Turn
-    requires { ⌜ (length (now line) ≡ lineSize) × (len ≤ lineSize) × (length (now out) ≡ outSize) ⌝ }
-    ensures { λ r. ⌜ r .len ≤ lineSize ⌝ }
-{
-    let got = libc::read(STDIN_FILENO, piece);
-    if got < 0 {
-        return Turn { len, more: false };
-    }
-    if got == 0 {
-        finish(program, len, line, out);
-        return Turn { len, more: false };
-    }
-    let n = io::count(got, piece);
-    feed_all(program, len, line, &piece[..n], out)
-}
-
-// Answers the whole standard input, turn by turn, until one is the last. Their number is bounded by one that no input uses up.
+// Answers the lines of standard input until it ends or the output does. Their number is bounded by one that no input uses up.
 pub fn run(program: Program, line: &mut [u8], piece: &mut [u8], out: &mut [u8])
-    requires { ⌜ (length (now line) ≡ lineSize) × (length (now out) ≡ outSize) ⌝ }
-    ensures { λ _. ⌜ (length (now (line .exit)) ≡ lineSize) × (length (now (out .exit)) ≡ outSize) ⌝ }
+    requires { ⌜ (length (now line) ≡ lineSize) × (answerSize ≤ length (now out)) ⌝ }
+    ensures { λ _. ⌜ (length (now (line .exit)) ≡ lineSize) × (answerSize ≤ length (now (out .exit))) ⌝ }
 {
-    let mut len: usize = 0;
+    let mut place = Place { next: 0, end: 0 };
     let mut turns = u64::MAX;
     while turns > 0 {
-        let done = take_turn(program, len, line, piece, out);
-        if !done.more {
+        let taken = next_line(place, line, piece);
+        let len = taken.len;
+        if taken.last && len == 0 {
             return;
         }
-        len = done.len;
+        if !turn(program, line, len, out) {
+            return;
+        }
+        if taken.last {
+            return;
+        }
+        place = taken.place;
         turns -= 1;
     }
 }
