@@ -22,7 +22,7 @@ use Rattle.session.specs.Picture.{GoodIn, shown}
 use Rattle.session.specs.Calls.{Answers}
 use Rattle.session.proofs.Answers.{refuse-answers, quiet-answers}
 use Rattle.fetch.specs.declared.Fetched.{Fetched}
-use Rattle.fetch.specs.Gathers.{countAt, gatheredSize, gatheredIn, isLacking, Gathers, Stands, brought, concluded, Leaves, Fetches}
+use Rattle.fetch.specs.Gathers.{countAt, gatheredSize, gatheredOf, gatheredIn, isLacking, Gathers, Stands, brought, concluded, Leaves, Fetches}
 use Rattle.fetch.proofs.Records.{lacking-few, none-lacks, gathers-stand, front-length, stands-size, stands-counted, stands-on, record-cleared}
 use Rattle.fetch.proofs.Bringing.{brought-fetched, brought-few}
 
@@ -62,11 +62,11 @@ module _ (t p r : List ℕ) (count : ℕ) (out : List ℕ) (stands : Stands r co
   -- a whole frame, or what can never be one
   pub conclude-command :
       (k : Stage) (t′ p′ r′ : List ℕ) (e : Ended) (out′ : List ℕ) → k ≡ stage g → k ≡ Decided → Answers (command (shown t p) (length out) g) t′ p′ e out out′ →
-      r′ ≡ cleared r 0 gatheredSize → Concluded t′ p′ r′ e out′
+      r′ ≡ gatheredOf [] → Concluded t′ p′ r′ e out′
   unfolding concluded
   conclude-command k t′ p′ r′ e out′ is x answers clear =
       subst (λ (k : Stage). Left-by k t′ p′ r′ e out′) (sym (sym is ∙ x))
-      (record { answers = answers; gathered = clear ∙ record-cleared r (stands-size r count stands); lacks = none-lacks })
+      (record { answers = answers; gathered = clear; lacks = none-lacks })
 
 -- where some are lacking the count is below 256
 pub kept-few : (r : List ℕ) (count : ℕ) → Stands r count → (k : Stage) (n : ℕ) → k ≡ stage (take count r) → k ≡ Lacks n → count < countAt

@@ -13,9 +13,11 @@ ghost use mathlib.Core.Path.{_≡_};
 ghost use mathlib.Core.List.{[]};
 ghost use Prim.Native.Nat.{_-_, _≤_, min};
 ghost use lib.ListN.{length, take, drop};
+ghost use Rattle.rules.specs.Command.{command};
 ghost use Rattle.rules.specs.Fetch.{lengthToCome, lackingBy, stage, fetch};
 ghost use Rattle.octets.specs.Parts.{pasted};
 ghost use Rattle.session.specs.Picture.{GoodIn, shown};
+ghost use Rattle.session.specs.Calls.{Answers};
 ghost use Rattle.fetch.specs.Gathers.{gatheredSize, gatheredOf, gatheredIn, Gathers, Stands, brought, concluded, Leaves, Fetches};
 
 // What was gathered of a command: its bytes, 0 behind them, and last their count.
@@ -121,6 +123,22 @@ fn gather(gathered: &mut [u8], held: usize, bytes: &[u8]) -> usize
     taken
 }
 
+// The gathered bytes go to the command call, and are gone.
+fn hand_on(
+    ledger: &mut [u16; Ledger::SIZE],
+    pool: &mut [u8; Pool::SIZE],
+    gathered: &mut [u8],
+    count: usize,
+    out: &mut [u8],
+) -> Ended
+    requires { ⌜ GoodIn (now ledger) (now pool) × Stands (now gathered) count ⌝ }
+    ensures { λ r. ⌜ Answers (command (shown (now (ledger .entry)) (now (pool .entry))) (length (now (out .entry))) (take count (now (gathered .entry)))) (now (ledger .exit)) (now (pool .exit)) r (now (out .entry)) (now (out .exit)) × (now (gathered .exit) ≡ gatheredOf []) ⌝ }
+{
+    let ended = command_in(ledger, pool, &gathered[..count], out);
+    octets::clear(gathered, 0, Gathered::SIZE);
+    ended
+}
+
 // What the gathered bytes come to: they are kept, or dropped with R2, or go to the command call.
 fn conclude(
     ledger: &mut [u16; Ledger::SIZE],
@@ -141,11 +159,7 @@ fn conclude(
             octets::clear(gathered, 0, Gathered::SIZE);
             Ended::Refused(Refusal::CommandSize)
         }
-        Stage::Decided => {
-            let ended = command_in(ledger, pool, &gathered[..count], out);
-            octets::clear(gathered, 0, Gathered::SIZE);
-            ended
-        }
+        Stage::Decided => hand_on(ledger, pool, gathered, count, out),
     }
 }
 

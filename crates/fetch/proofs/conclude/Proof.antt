@@ -41,22 +41,6 @@ clear-requires c κs =
     let s : tie.Start = search in
     let z = stands-size _ _ (s .pre .1) in (omega arith, omega (arith, z))
 
-reshare-2 : tie.Need-slice-reshare-prefix-command-in
-reshare-2 c =
-    let s : tie.Start = search in
-    let z = stands-size _ _ (s .pre .1) in
-    let f = s .pre .1 .fits in omega (arith, z, f)
-
-aggregate-2 : tie.Need-slice-aggregate-command-in
-aggregate-2 c =
-    let s : tie.Start = search in
-    sym (front-length _ _ (s .pre .1))
-
-clear-requires-2 : tie.Need-clear-requires-2
-clear-requires-2 c κs =
-    let s : tie.Start = search in
-    let z = stands-size _ _ (s .pre .1) in (omega arith, omega (arith, z))
-
 returns : tie.Need-returns
 returns c =
     let t : tie.After-stage-of = search in
@@ -71,17 +55,13 @@ returns-2 c =
     let s : tie.Start = search in
     conclude-long _ _ _ _ _ (s .pre .1) _ _ (s .pre .0) (t .stage-of .ensures) (e .enum-told2 .given .1) (k .clear .ensures)
 
-abbrev stage-at : tie.After-command-in → tie.After-stage-of
-stage-at c = c .before .before .before .before .before .before .before
-
 returns-3 : tie.Need-returns-3
 returns-3 c =
-    let k : tie.After-clear2 = search in
-    let m : tie.After-command-in = search in
+    let m : tie.After-hand-on = search in
     let e : tie.After-enum-told3 = search in
-    let t = stage-at m in
-    let s : tie.Start = t .before .before .before .before in
-    conclude-command _ _ _ _ _ (s .pre .1) _ _ _ _ _ _ (t .stage-of .ensures) (e .enum-told3 .given .1) (m .command-in .ensures) (k .clear2 .ensures)
+    let t : tie.After-stage-of = search in
+    let s : tie.Start = search in
+    conclude-command _ _ _ _ _ (s .pre .1) _ _ _ _ _ _ (t .stage-of .ensures) (e .enum-told3 .given .1) (m .hand-on .ensures .0) (m .hand-on .ensures .1)
 
 pub conclude-spec : {M : Type 1} → statement M
 conclude-spec =
@@ -96,10 +76,7 @@ conclude-spec =
     (λ c. search needs)
     clear-requires
     (λ c. search needs)
-    reshare-2
-    aggregate-2
     (λ c κs. search needs)
-    clear-requires-2
     (λ c. search needs)
     returns
     (λ c. search needs)
