@@ -23,11 +23,11 @@ enum { MIXED = 1000, FRAME_CAP = 256, SPACE = 2048, BATCH = 8, ALIGNED = 64, GRA
 typedef struct {
     const char *name;
     size_t size;
-    uint32_t (*run)(void *record, const call *c, uint8_t *out);
+    uint64_t (*run)(void *record, const call *c, uint8_t *out);
 } side;
 
-static const side reference_side = {"reference", sizeof(reference_session), reference_run};
-static const side pomerassol_side = {"pomerassol", sizeof(pomerassol_session), pomerassol_run};
+static const side reference_side = {"reference", sizeof(reference_record), reference_run};
+static const side pomerassol_side = {"pomerassol", sizeof(pomerassol_record), pomerassol_run};
 
 static uint8_t data[GRANT];
 static uint8_t out[SPACE];
@@ -147,6 +147,25 @@ static void list_details(uint32_t n)
     add((call){DETAILS, 0, c.bytes, c.n, 0});
 }
 
+/* Adds the fetches that bring a command in bursts of n bytes. */
+static void add_bursts(call c, size_t n)
+{
+    for (size_t at = 0; at < c.n; at += n)
+        add((call){FETCH, 0, c.bytes + at, c.n - at < n ? c.n - at : n, 255});
+}
+
+/* MORE TIME in bursts of n bytes. */
+static void list_fetch(uint32_t n)
+{
+    add_bursts(write_command(frames[0], 0x02, 0, 0x82, 0, NULL, 0), n);
+}
+
+/* MORE TIME with an unexpected object 05 of n bytes behind it, in one burst. */
+static void list_fetch_padded(uint32_t n)
+{
+    add_bursts(write_command(frames[0], 0x02, 0, 0x82, 0x05, data, n), FRAME_CAP);
+}
+
 /* OPEN CHANNEL of n bytes. */
 static void list_open(uint32_t n)
 {
@@ -254,6 +273,9 @@ static const line lines[] = {
     {"MORE TIME", 0, 1, GRANT, 0, 0, 0, list_more_time, 0},
     {"details of MORE TIME, 11 bytes", 0, 0, 0, 0, 0, 0, list_details, 0},
     {"details of MORE TIME, 256 bytes", 0, 0, 0, 0, 0, 0, list_details, 241},
+    {"fetch of MORE TIME, one burst", 0, 1, GRANT, 0, 0, 0, list_fetch, 11},
+    {"fetch of MORE TIME, 11 bursts of a byte", 0, 1, GRANT, 0, 0, 0, list_fetch, 1},
+    {"fetch of 256 bytes, one burst", 0, 1, GRANT, 0, 0, 0, list_fetch_padded, 241},
     {"OPEN of 32, none open", 0, 0, 0, 0, 0, 0, list_open, 32},
     {"OPEN of 32, six open", 0, 6, 32, 0, 0, 0, list_open, 32},
     {"OPEN of 1500 and CLOSE, the pair", 0, 0, 0, 0, 0, 0, list_open_and_close, GRANT},
@@ -301,7 +323,7 @@ static void send_all(const side *who, void *record, uint32_t n)
     must(who, record, send_call(frame, 1, n));
 }
 
-/* Makes the record that a line begins with; event 09 is listed. */
+/* Makes the record that a line begins with; event 09 is listed, nothing is gathered. */
 static void prepare(const side *who, void *record, const line *l)
 {
     static const uint8_t profile[13] = {0, 0, 8, 0, 1, 0x0C, 0, 0, 0, 0, 0, 0x1F, 0xE2};
@@ -309,6 +331,7 @@ static void prepare(const side *who, void *record, const line *l)
     uint8_t frame[FRAME_CAP];
     uint32_t parts = l->datagrams == 0 ? 1 : l->datagrams;
     must(who, record, (call){START, 0, profile, sizeof profile, 0});
+    must(who, record, (call){FETCH_START, 0, data, 0, 0});
     must(who, record, write_command(frame, 0x05, 0, 0x82, 0x99, &event, 1));
     for (uint32_t i = 0; i < l->open; i++)
         must(who, record, l->datagrams == 0 ? open_call(frame, l->size) : open_datagrams_call(frame, l->size));
@@ -369,16 +392,16 @@ static int64_t held(const reference_session *s)
 /* The bytes that a line's calls store and hand out; what a CLOSE discards does not move. */
 static uint64_t count_moved(const line *l)
 {
-    reference_session *s = new_record(&reference_side);
+    reference_record *r = new_record(&reference_side);
     uint64_t moved = 0;
-    prepare(&reference_side, s, l);
+    prepare(&reference_side, r, l);
     for (uint32_t i = 0; i < listed; i++) {
-        int64_t before = held(s);
-        reference_run(s, &list[i], out);
+        int64_t before = held(&r->session);
+        reference_run(r, &list[i], out);
         if (list[i].kind != COMMAND || list[i].bytes[5] != 0x41)
-            moved += (uint64_t)llabs(held(s) - before);
+            moved += (uint64_t)llabs(held(&r->session) - before);
     }
-    free(s);
+    free(r);
     return moved;
 }
 

@@ -5,7 +5,7 @@
 #include "../include/pomerassol.h"
 #include "reference.h"
 
-typedef enum { NOTHING, START, COMMAND, ARRIVAL, TAKE, DROP, DETAILS } call_kind;
+typedef enum { NOTHING, START, FETCH_START, COMMAND, ARRIVAL, TAKE, DROP, FETCH, DETAILS } call_kind;
 
 /* What is lent to a call: the bytes in, and the size of the buffer for the answer. */
 typedef struct {
@@ -16,14 +16,24 @@ typedef struct {
     size_t size;
 } call;
 
-/* Runs one call on a record of the named side. */
+/* The record of the named side, a session and what is gathered beside it, and how one call is run on it: the bytes left of
+ * a burst are in the upper half of what is returned. */
 #define RUN(side)                                                                   \
-    static uint32_t side##_run(void *record, const call *c, uint8_t *out)           \
+    typedef struct {                                                                \
+        side##_session session;                                                     \
+        side##_gathered gathered;                                                   \
+    } side##_record;                                                                \
+                                                                                    \
+    static uint64_t side##_run(void *record, const call *c, uint8_t *out)           \
     {                                                                               \
-        side##_session *s = record;                                                 \
+        side##_record *r = record;                                                  \
+        side##_session *s = &r->session;                                            \
         switch (c->kind) {                                                          \
         case START:                                                                 \
             side##_start(s, c->bytes, c->n);                                        \
+            return 0;                                                               \
+        case FETCH_START:                                                           \
+            side##_fetch_start(&r->gathered);                                       \
             return 0;                                                               \
         case COMMAND:                                                               \
             return side##_command(s, c->bytes, c->n, out, c->size);                 \
@@ -33,6 +43,8 @@ typedef struct {
             return side##_take(s, c->channel, out, c->size);                        \
         case DROP:                                                                  \
             return side##_drop(s, c->channel, out, c->size);                        \
+        case FETCH:                                                                 \
+            return side##_fetch(s, &r->gathered, c->bytes, c->n, out, c->size);     \
         case DETAILS:                                                               \
             return side##_details(c->bytes, c->n);                                  \
         default:                                                                    \

@@ -1,4 +1,5 @@
 /* Drives reference and pomerassol over one random history and compares every answer: drive [SEED [CALLS]] */
+#define _DEFAULT_SOURCE
 #include "calls.h"
 
 #include <inttypes.h>
@@ -6,17 +7,18 @@
 #include <stdio.h>
 #include <stdlib.h>
 #include <string.h>
+#include <sys/mman.h>
 
 enum { LARGEST = 65535, GUARD = 64, SPACE = GUARD + LARGEST + 1 + GUARD, NOISE = 1 << 18 };
 enum { REFUSED = REFERENCE_REFUSED, COMMAND_CAP = 256, FRAME_CAP = 300, DATA_CAP = 241, CELLS = 256, CELL = 32 };
-enum { DATAGRAMS = REFERENCE_DATAGRAMS, R2 = 2, R6 = 6, R11 = 11, R12 = 12, REFUSALS = 13 };
+enum { DATAGRAMS = REFERENCE_DATAGRAMS, R1 = 1, R2 = 2, R6 = 6, R11 = 11, R12 = 12, REFUSALS = 13 };
 
 /* ---- The two sides ---- */
 
 /* A record of each side, with the same history behind it. */
 typedef struct {
-    reference_session reference;
-    pomerassol_session pomerassol;
+    reference_record reference;
+    pomerassol_record pomerassol;
 } records;
 
 static records run, copies;
@@ -24,6 +26,7 @@ static uint8_t reference_space[SPACE], pomerassol_space[SPACE], lent[LARGEST + 1
 static uint8_t noise[NOISE];
 static uint64_t seed, calls, made, made_on_copies;
 static bool on_copies;
+static reference_gathered gathered_before; /* what was gathered before the call at hand */
 
 /* ---- Random numbers ---- */
 
@@ -89,7 +92,7 @@ static const char *const known[ROWS] = {
 };
 
 static uint64_t answers[ROWS][COLUMNS];
-static uint64_t refusals[6][REFUSALS];
+static uint64_t refusals[DETAILS][REFUSALS]; /* by the kind of call */
 
 /* Things that a history should come by. */
 typedef enum {
@@ -148,6 +151,32 @@ typedef enum {
     LONG_TAG_REFUSED,
     LONGEST_COMMAND,
     LONGEST_RESPONSE,
+    FETCH_ANEW,
+    MORE_OF_NONE,
+    MORE_AT_255,
+    AT_ONCE,
+    BY_LATER_BURST,
+    BY_SINGLE_BYTE,
+    BY_LAST_BYTE,
+    BYTES_LEFT,
+    FRAME_LEFT,
+    ACROSS_START,
+    ACROSS_COMMAND,
+    ACROSS_RADIO,
+    FETCHED_255,
+    FETCHED_256,
+    WRONG_FIRST,
+    WRONG_SECOND,
+    WRONG_THIRD,
+    TOO_LONG_LEFT,
+    TOO_LONG_AT_END,
+    TOO_LONG_LATER,
+    UNTAKEN_NONE,
+    UNTAKEN_GATHERED,
+    UNTAKEN_UNFINISHED,
+    UNTAKEN_WHOLE,
+    LEFT_CAPPED,
+    DIVIDED,
     PLACES
 } place;
 
@@ -207,6 +236,32 @@ static const char *const place_names[PLACES] = {
     [LONG_TAG_REFUSED] = "command with a tag of three bytes, 32",
     [LONGEST_COMMAND] = "command of 256 bytes",
     [LONGEST_RESPONSE] = "response of 255 bytes",
+    [FETCH_ANEW] = "start of the fetch: something gathered",
+    [MORE_OF_NONE] = "fetch: more to come of no bytes",
+    [MORE_AT_255] = "fetch: more to come, 255 gathered",
+    [AT_ONCE] = "fetch: completed in one burst",
+    [BY_LATER_BURST] = "fetch: completed by a later burst",
+    [BY_SINGLE_BYTE] = "fetch: completed by a burst of a byte",
+    [BY_LAST_BYTE] = "fetch: completed by a burst's last byte",
+    [BYTES_LEFT] = "fetch: bytes left",
+    [FRAME_LEFT] = "fetch: a whole frame left",
+    [ACROSS_START] = "fetch: completed across a start",
+    [ACROSS_COMMAND] = "fetch: completed across a command",
+    [ACROSS_RADIO] = "fetch: completed across a radio's call",
+    [FETCHED_255] = "fetch: 255 bytes",
+    [FETCHED_256] = "fetch: 256 bytes",
+    [WRONG_FIRST] = "fetch: wrong first byte",
+    [WRONG_SECOND] = "fetch: wrong second byte",
+    [WRONG_THIRD] = "fetch: wrong third byte",
+    [TOO_LONG_LEFT] = "fetch: R2 with bytes left",
+    [TOO_LONG_AT_END] = "fetch: R2 at a burst's last byte",
+    [TOO_LONG_LATER] = "fetch: R2 by a later burst",
+    [UNTAKEN_NONE] = "fetch: R1 of no bytes",
+    [UNTAKEN_GATHERED] = "fetch: R1, something gathered",
+    [UNTAKEN_UNFINISHED] = "fetch: R1, nothing to complete",
+    [UNTAKEN_WHOLE] = "fetch: R1, something to complete",
+    [LEFT_CAPPED] = "fetch: FFFFFFFF left",
+    [DIVIDED] = "fetch: the same bytes divided otherwise",
 };
 
 static uint64_t places[PLACES];
@@ -219,7 +274,9 @@ static void count(place p, bool reached)
 
 /* ---- The first difference ---- */
 
-static const char *const kind_names[] = {"nothing", "start", "command", "arrival", "take", "drop"};
+static const char *const kind_names[] = {
+    "nothing", "start", "start of the fetch", "command", "arrival", "take", "drop", "fetch",
+};
 
 /* Prints bytes in hexadecimal, the first thousand of them. */
 static void print_bytes(const uint8_t *bytes, size_t n)
@@ -230,9 +287,12 @@ static void print_bytes(const uint8_t *bytes, size_t n)
 }
 
 /* Prints what one side returned and wrote. */
-static void print_answer(const char *who, uint32_t returned, const uint8_t *out, size_t size)
+static void print_answer(const char *who, uint64_t number, const uint8_t *out, size_t size)
 {
+    uint32_t returned = POMERASSOL_ENDED(number), left = POMERASSOL_LEFT(number);
     printf("%s returned %06" PRIX32, who, returned);
+    if (left != 0)
+        printf(", %" PRIu32 " left", left);
     if (returned >= REFUSED) {
         printf(", R%" PRIu32 "\n", returned - REFUSED);
         return;
@@ -242,12 +302,16 @@ static void print_answer(const char *who, uint32_t returned, const uint8_t *out,
 }
 
 /* Reports the first difference and ends. */
-static void differ(const char *what, const call *c, uint32_t from_reference, uint32_t from_pomerassol)
+static void differ(const char *what, const call *c, uint64_t from_reference, uint64_t from_pomerassol)
 {
     printf("DIFFERENCE: %s\nseed %" PRIu64 ", call %" PRIu64 "%s\n", what, seed, made,
            on_copies ? ", in the comparison of copies after it" : "");
     printf("%s, channel %u, buffer of %zu, %zu bytes in: ", kind_names[c->kind], c->channel, c->size, c->n);
     print_bytes(c->bytes, c->n);
+    if (c->kind == FETCH) {
+        printf("gathered before: ");
+        print_bytes(gathered_before.bytes, gathered_before.count);
+    }
     print_answer("reference", from_reference, reference_space + GUARD, c->size);
     print_answer("pomerassol", from_pomerassol, pomerassol_space + GUARD, c->size);
     exit(1);
@@ -262,13 +326,14 @@ static bool is_refusal(uint32_t number)
 }
 
 /* Holds one side to its own answer: a number that can be, and nothing touched but what it reports. */
-static bool honest(const call *c, uint32_t returned, const uint8_t *space, const uint8_t *before)
+static bool honest(const call *c, uint64_t number, const uint8_t *space, const uint8_t *before)
 {
+    uint32_t returned = POMERASSOL_ENDED(number);
     size_t written = returned < REFUSED ? returned : 0;
     size_t all = GUARD + c->size + GUARD;
     if (written > c->size || (returned >= REFUSED && !is_refusal(returned - REFUSED)))
         return false;
-    if (memcmp(space, before, GUARD) != 0)
+    if (POMERASSOL_LEFT(number) > c->n || memcmp(space, before, GUARD) != 0)
         return false;
     return memcmp(space + GUARD + written, before + GUARD + written, all - GUARD - written) == 0;
 }
@@ -286,30 +351,47 @@ static void compare_details(const call *c, uint32_t returned)
         differ("R2 of the details at hand", c, returned, b);
 }
 
-/* Makes the call on both records and compares numbers, buffers and what was lent. */
-static uint32_t perform(records *r, const call *c)
+/* Compares what the library keeps: the unpromised cells, and the gathered bytes with 0 in each place behind them. */
+static void compare_kept(const records *r, const call *c, uint64_t number)
+{
+    const reference_gathered *g = &r->reference.gathered;
+    pomerassol_gathered asked = {.count = (uint8_t)g->count};
+    memcpy(asked.bytes, g->bytes, g->count);
+    if (r->pomerassol.session.ledger[POMERASSOL_FREE_CELLS] != CELLS - r->reference.session.promised)
+        differ("the kept number of unpromised cells", c, number, number);
+    if (memcmp(&r->pomerassol.gathered, &asked, sizeof asked) != 0)
+        differ("the gathered bytes", c, number, number);
+}
+
+/* The bytes of a call as they are lent: a copy, or themselves where they are too many and cannot be written. */
+static const uint8_t *lend(const call *c)
+{
+    return c->n <= sizeof lent ? memcpy(lent, c->bytes, c->n) : c->bytes;
+}
+
+/* Makes the call on both records and compares numbers, buffers, what was lent and what is kept. */
+static uint64_t perform(records *r, const call *c)
 {
     const uint8_t *before = random_bytes();
     size_t all = GUARD + c->size + GUARD;
     call with_copy = *c;
     memcpy(reference_space, before, all);
     memcpy(pomerassol_space, before, all);
-    memcpy(lent, c->bytes, c->n);
-    with_copy.bytes = lent;
-    uint32_t a = reference_run(&r->reference, &with_copy, reference_space + GUARD);
-    uint32_t b = pomerassol_run(&r->pomerassol, &with_copy, pomerassol_space + GUARD);
+    with_copy.bytes = lend(c);
+    gathered_before = r->reference.gathered;
+    uint64_t a = reference_run(&r->reference, &with_copy, reference_space + GUARD);
+    uint64_t b = pomerassol_run(&r->pomerassol, &with_copy, pomerassol_space + GUARD);
     if (a != b)
         differ("the returned numbers", c, a, b);
     if (memcmp(reference_space, pomerassol_space, all) != 0)
         differ("the buffers", c, a, b);
-    if (memcmp(lent, c->bytes, c->n) != 0)
+    if (with_copy.bytes == lent && memcmp(lent, c->bytes, c->n) != 0)
         differ("bytes lent to be read were changed", c, a, b);
     if (!honest(c, a, reference_space, before))
         differ("both touch bytes that they do not report", c, a, b);
     if (c->kind == COMMAND)
-        compare_details(c, a);
-    if (r->pomerassol.ledger[POMERASSOL_FREE_CELLS] != CELLS - r->reference.promised)
-        differ("the kept number of unpromised cells", c, a, b);
+        compare_details(c, POMERASSOL_ENDED(a));
+    compare_kept(r, c, a);
     return a;
 }
 
@@ -327,17 +409,17 @@ static void ask_copies(uint8_t type, uint8_t qualifier, uint8_t destination, con
 }
 
 /* Makes an arrival, a take or a drop on the copies. */
-static uint32_t call_copies(call_kind kind, uint8_t channel, size_t n, size_t size)
+static void call_copies(call_kind kind, uint8_t channel, size_t n, size_t size)
 {
     call c = {kind, channel, noise, n, size};
     made_on_copies++;
-    return perform(&copies, &c);
+    perform(&copies, &c);
 }
 
 /* Takes all that is ready, each datagram apart, and once more. */
 static void take_from_copies(uint8_t channel)
 {
-    for (uint32_t left = copies.reference.channel[channel - 1].send.datagrams + 1; left > 0; left--)
+    for (uint32_t left = copies.reference.session.channel[channel - 1].send.datagrams + 1; left > 0; left--)
         call_copies(TAKE, channel, 0, 1500);
 }
 
@@ -345,7 +427,7 @@ static void take_from_copies(uint8_t channel)
 static void receive_from_copies(uint8_t channel)
 {
     static const uint8_t request[3] = {0xB7, 1, 0xFF};
-    for (uint32_t left = copies.reference.channel[channel - 1].receive.datagrams + 7; left > 0; left--)
+    for (uint32_t left = copies.reference.session.channel[channel - 1].receive.datagrams + 7; left > 0; left--)
         ask_copies(0x42, 0, 0x20 + channel, request, 3);
 }
 
@@ -353,7 +435,7 @@ static void receive_from_copies(uint8_t channel)
 static void compare_channel(uint8_t channel)
 {
     static const uint8_t no_data[2] = {0xB6, 0};
-    const reference_channel *c = &copies.reference.channel[channel - 1];
+    const reference_channel *c = &copies.reference.session.channel[channel - 1];
     uint8_t identity = 0x20 + channel;
     ask_copies(0x43, 0, identity, no_data, 2);
     take_from_copies(channel);
@@ -389,7 +471,7 @@ static void compare_state(void)
 /* A channel of the running session; numbers 1 to 7. */
 static const reference_channel *at(uint8_t channel)
 {
-    return &run.reference.channel[channel - 1];
+    return &run.reference.session.channel[channel - 1];
 }
 
 /* Whether a number names an open channel. */
@@ -509,7 +591,7 @@ static uint32_t about(uint32_t middle)
 /* A size for OPEN: edges, small, about what is unpromised, or any. */
 static uint32_t open_size(void)
 {
-    uint32_t unpromised = CELLS - run.reference.promised;
+    uint32_t unpromised = CELLS - run.reference.session.promised;
     switch (below(8)) {
     case 0:
         return edge();
@@ -868,15 +950,21 @@ static uint32_t planned_size(void)
     return n;
 }
 
+/* Plans an object 05 that brings all objects to a size. */
+static void pad_to(uint32_t size)
+{
+    uint32_t n = planned_size();
+    if (n + 2 > size)
+        return;
+    uint32_t rest = size - n - 2;
+    add(0x05, 20, random_bytes(), rest < 0x80 ? rest : rest - 1)->long_tag = false;
+}
+
 /* Plans an object 05 that brings all objects to an edge of the lengths. */
 static void pad(void)
 {
     static const uint8_t edges[] = {126, 127, 128, 129, 252, 253, 254, 255};
-    uint32_t edge_at = edges[below(sizeof edges)], n = planned_size();
-    if (n + 2 > edge_at)
-        return;
-    uint32_t rest = edge_at - n - 2;
-    add(0x05, 20, random_bytes(), rest < 0x80 ? rest : rest - 1)->long_tag = false;
+    pad_to(edges[below(sizeof edges)]);
 }
 
 /* Disturbs what is planned, in one of many ways. */
@@ -985,6 +1073,7 @@ static void damage(void)
 /* Random bytes as a command, seldom with a frame that is right. */
 static void write_random(void)
 {
+    planned = 0;
     frame_size = chance(70) ? below(FRAME_CAP + 1) : 255 + below(4);
     memcpy(frame, random_bytes(), frame_size);
     if (frame_size < 2 || chance(40))
@@ -1011,6 +1100,196 @@ static void write_command(planner *planned_by)
     write_frame();
     if (chance(rough ? 12 : 1))
         damage();
+}
+
+/* ---- Bytes on the line ---- */
+
+enum { LINE_CAP = 1024 };
+
+static uint8_t line[LINE_CAP]; /* bytes of the card that no burst has brought yet */
+static size_t on_line;
+static bool by_bytes; /* whether most bursts are of a single byte */
+
+/* Puts the written command behind what is on the line, if it fits. */
+static void put_on_line(void)
+{
+    if (on_line + frame_size > LINE_CAP)
+        return;
+    memcpy(line + on_line, frame, frame_size);
+    on_line += frame_size;
+}
+
+/* Takes the first n bytes off the line. */
+static void take_off_line(size_t n)
+{
+    on_line -= n;
+    memmove(line, line + n, on_line);
+}
+
+/* How many of these bytes are taken, behind those gathered, until a fetch ends; 0 where more is to come. */
+static uint32_t taken_of(const reference_gathered *gathered, const uint8_t *bytes, size_t n)
+{
+    static reference_session aside;
+    static uint8_t unread[255];
+    reference_gathered copy = *gathered;
+    uint64_t number = reference_fetch(&aside, &copy, bytes, n, unread, sizeof unread);
+    return POMERASSOL_ENDED(number) == 0 ? 0 : (uint32_t)n - POMERASSOL_LEFT(number);
+}
+
+/* The bytes on the line up to the end of the command at hand, or all where it does not end there. */
+static uint32_t to_end(void)
+{
+    uint32_t taken = taken_of(&run.reference.gathered, line, on_line);
+    return taken != 0 ? taken : (uint32_t)on_line;
+}
+
+/* A size for a burst: none, few bytes, to the end of the command at hand, about that, any, or all. */
+static uint32_t any_burst_size(void)
+{
+    switch (below(10)) {
+    case 0:
+        return 0;
+    case 1:
+        return 1;
+    case 2:
+        return below(5);
+    case 3:
+    case 4:
+        return to_end();
+    case 5:
+    case 6:
+        return about(to_end());
+    case 7:
+        return below((uint32_t)on_line + 1);
+    default:
+        return (uint32_t)on_line;
+    }
+}
+
+/* The size of the next burst, at most what is on the line. */
+static size_t burst_size(void)
+{
+    size_t size = by_bytes && chance(90) ? 1 : any_burst_size();
+    return size < on_line ? size : on_line;
+}
+
+/* A head that is wrong at its first, second or third byte, or calls for 257 or 258 bytes, and some bytes behind it. */
+static void write_wrong_head(void)
+{
+    memcpy(frame, random_bytes(), 8);
+    memcpy(frame, "\xD0\x81", 2);
+    frame_size = 3 + below(6);
+    switch (below(5)) {
+    case 0:
+        frame[0] ^= (uint8_t)(1u << below(8));
+        break;
+    case 1:
+        frame[1] = (uint8_t)(chance(30) ? 0x80 : 0x82 + below(0x7E));
+        break;
+    case 2:
+        frame[2] = (uint8_t)(chance(30) ? 0x7F : below(0x80));
+        break;
+    default:
+        frame[2] = (uint8_t)(0xFE + below(2));
+    }
+}
+
+/* A command of 255 or 256 bytes. */
+static void write_longest(void)
+{
+    planner *planned_by = chance(50) ? plan_more_time : plan_open;
+    planned_by();
+    pad_to(252 + below(2));
+    write_frame();
+}
+
+/* ---- The same bytes, divided otherwise ---- */
+
+/* What comes of bytes on the line: each answer and refusal in turn, and what the library has then. */
+typedef struct {
+    size_t n;
+    uint8_t answers[LINE_CAP * (4 + 255)]; /* each takes a byte of the line at least */
+    pomerassol_record record;
+} outcome;
+
+/* Adds to an outcome what a burst ended with on the library's side: the number, and the bytes written. */
+static void add_answer(outcome *o, uint32_t returned)
+{
+    size_t written = returned < REFUSED ? returned : 0;
+    memcpy(o->answers + o->n, &returned, sizeof returned);
+    memcpy(o->answers + o->n + sizeof returned, pomerassol_space + GUARD, written);
+    o->n += sizeof returned + written;
+}
+
+/* Makes a burst on the copies; returns how many bytes it took. */
+static size_t burst_copies(outcome *o, const uint8_t *bytes, size_t n, size_t size)
+{
+    call c = {FETCH, 0, bytes, n, size};
+    uint64_t number = perform(&copies, &c);
+    uint32_t returned = POMERASSOL_ENDED(number);
+    made_on_copies++;
+    if (returned != 0 && returned != REFUSED + R1)
+        add_answer(o, returned);
+    return n - POMERASSOL_LEFT(number);
+}
+
+/* Plays what is on the line on copies, in one piece or divided at random; what is left is handed in again. */
+static void play_line(outcome *o, bool divided)
+{
+    copies = run;
+    o->n = 0;
+    for (size_t from = 0; from < on_line;) {
+        uint32_t rest = (uint32_t)(on_line - from);
+        uint32_t part = below(chance(50) || rest < 4 ? rest + 1 : 4);
+        from += burst_copies(o, line + from, divided ? part : rest, divided && chance(5) ? 254 : 255);
+    }
+    o->record = copies.pomerassol;
+}
+
+/* Compares what comes of the bytes on the line in one piece with what comes of them in another division. */
+static void compare_divisions(void)
+{
+    static outcome whole, parts;
+    call c = {FETCH, 0, line, on_line, 255};
+    on_copies = true;
+    play_line(&whole, false);
+    play_line(&parts, true);
+    gathered_before = run.reference.gathered;
+    if (whole.n != parts.n || memcmp(whole.answers, parts.answers, whole.n) != 0)
+        differ("the answers to bytes in one piece and divided", &c, 0, 0);
+    if (memcmp(&whole.record.session, &parts.record.session, sizeof(pomerassol_session)) != 0)
+        differ("the session behind bytes in one piece and divided", &c, 0, 0);
+    if (memcmp(&whole.record.gathered, &parts.record.gathered, sizeof(pomerassol_gathered)) != 0)
+        differ("the gathered bytes of one piece and divided", &c, 0, 0);
+    count(DIVIDED, whole.n != 0);
+    on_copies = false;
+}
+
+/* Makes a burst of n bytes on the copies, with R1 and without. */
+static void burst_long(const uint8_t *bytes, size_t n)
+{
+    for (size_t size = 254; size <= 255; size++) {
+        call c = {FETCH, 0, bytes, n, size};
+        count(LEFT_CAPPED, POMERASSOL_LEFT(perform(&copies, &c)) == 0xFFFFFFFF);
+        made_on_copies++;
+    }
+}
+
+/* Compares bursts of about FFFFFFFF bytes of 0 on copies. */
+static void compare_long_bursts(void)
+{
+    const size_t least = 0xFFFFFFFE, most = least + 3;
+    uint8_t *zeros = mmap(NULL, most, PROT_READ, MAP_PRIVATE | MAP_ANONYMOUS | MAP_NORESERVE, -1, 0);
+    if (zeros == MAP_FAILED) {
+        fprintf(stderr, "drive: no place for a burst of 4 GB\n");
+        exit(2);
+    }
+    copies = run;
+    on_copies = true;
+    for (size_t n = least; n <= most; n++)
+        burst_long(zeros, n);
+    on_copies = false;
+    munmap(zeros, most);
 }
 
 /* ---- Counting an answer ---- */
@@ -1069,6 +1348,19 @@ static void count_start(const call *c)
 
 static bool in_part[8]; /* whether the first datagram held of a channel was read in part */
 
+/* Follows which first datagrams were read in part, over a command that came either way. */
+static void follow_reads(void)
+{
+    for (uint8_t channel = 1; channel <= 7; channel++) {
+        const reference_queue *before = &before_command[channel].receive, *after = &at(channel)->receive;
+        bool stays = is_datagram(channel) && before_command[channel].link != REFERENCE_UNOPENED;
+        if (!stays || after->datagrams < before->datagrams)
+            in_part[channel] = false;
+        else if (after->held < before->held)
+            in_part[channel] = true;
+    }
+}
+
 /* Counts what an arrival on an established datagram channel came by. */
 static void count_datagram(const call *c, uint32_t returned)
 {
@@ -1089,7 +1381,7 @@ static void count_arrival(const call *c, uint32_t returned)
     if (returned >= REFUSED)
         return;
     count(EVENT_TOLD, returned != 0);
-    bool listed = (run.reference.listed & 1) != 0;
+    bool listed = (run.reference.session.listed & 1) != 0;
     count(EVENT_UNLISTED, c->n != 0 && !listed);
     count(EVENT_SILENT, c->n != 0 && listed && returned == 0);
     count(NO_BYTE_CAME, c->n == 0);
@@ -1155,11 +1447,10 @@ static void count_opened(const uint8_t *out)
     uint32_t asked = size_asked();
     uint32_t grant = at(channel)->grant;
     count(SEVEN_OPEN, count_channels(is_open) == 7);
-    count(ALL_PROMISED, run.reference.promised == CELLS);
+    count(ALL_PROMISED, run.reference.session.promised == CELLS);
     count(GRANT_FROM_CELLS, grant < asked && grant != 1500);
     count(DATAGRAMS_OPENED, is_datagram(channel));
     count(OTHER_KIND, at(channel)->kind != before_command[channel].kind);
-    in_part[channel] = false;
     for (uint8_t above = channel + 1; above <= 7; above++)
         if (is_open(above)) {
             count(NUMBER_USED_AGAIN, true);
@@ -1178,7 +1469,6 @@ static void count_closed(const reference_channel *before)
 static void count_read(uint8_t channel, uint8_t result)
 {
     bool to_end = at(channel)->receive.datagrams < before_command[channel].receive.datagrams;
-    in_part[channel] = !to_end;
     count(READ_IN_PART, !to_end);
     count(READ_TO_END, to_end);
     count(READ_SHORT, to_end && result == 0x02 && at(channel)->receive.held != 0);
@@ -1269,16 +1559,23 @@ static bool has_long_tag(void)
     return false;
 }
 
-/* Counts a command's answer; one that the paper does not know ends the run. */
+/* Counts the answer to a command that came either way; one that the paper does not know ends the run. */
+static void count_answer(const call *c, uint32_t returned)
+{
+    const uint8_t *out = reference_space + GUARD;
+    int row = row_of(out), column = column_of(out);
+    if (returned < 12 || column < 0 || known[row][column] != 'x')
+        differ("both give an answer that the paper does not know", c, returned, returned);
+    answers[row][column]++;
+}
+
+/* Counts what a command came by. */
 static void count_command(const call *c, uint32_t returned)
 {
     const uint8_t *out = reference_space + GUARD;
     if (returned >= REFUSED)
         return;
-    int row = row_of(out), column = column_of(out);
-    if (returned < 12 || column < 0 || known[row][column] != 'x')
-        differ("both give an answer that the paper does not know", c, returned, returned);
-    answers[row][column]++;
+    count_answer(c, returned);
     count(LONG_TAG_DONE, has_long_tag() && out[11] <= 0x07);
     count(LONG_TAG_REFUSED, has_long_tag() && out[11] == 0x32);
     count(LONGEST_COMMAND, c->n == COMMAND_CAP);
@@ -1286,15 +1583,100 @@ static void count_command(const call *c, uint32_t returned)
     count_places(out);
 }
 
-/* Makes a call of the history, and counts its answer. */
-static void make(const call *c)
+static bool between[DETAILS]; /* which kinds of calls were made since something is gathered */
+
+/* Follows which calls are made between bursts. */
+static void follow_between(call_kind kind)
 {
+    between[kind] = true;
+    if (run.reference.gathered.count == 0)
+        memset(between, 0, sizeof between);
+}
+
+/* Counts what a burst came by that was not taken. */
+static void count_untaken(const call *c)
+{
+    bool whole = taken_of(&gathered_before, c->bytes, c->n) != 0;
+    count(UNTAKEN_NONE, c->n == 0);
+    count(UNTAKEN_GATHERED, gathered_before.count != 0);
+    count(UNTAKEN_UNFINISHED, c->n != 0 && !whole);
+    count(UNTAKEN_WHOLE, whole);
+}
+
+/* Counts what a burst came by that called for too much. */
+static void count_too_long(uint32_t left)
+{
+    count(TOO_LONG_LEFT, left != 0);
+    count(TOO_LONG_AT_END, left == 0);
+    count(TOO_LONG_LATER, gathered_before.count != 0);
+}
+
+/* A byte of the command at hand: gathered before, or of the burst. */
+static uint8_t byte_at(const call *c, uint32_t i)
+{
+    uint32_t before = gathered_before.count;
+    return i < before ? gathered_before.bytes[i] : c->bytes[i - before];
+}
+
+/* Counts a head of n bytes that can never be right by the last of them; false where the n bytes are a whole frame. */
+static bool count_wrong_head(const call *c, uint32_t n)
+{
+    bool second = n == 2 && byte_at(c, 1) >= 0x80, third = n == 3 && byte_at(c, 1) == 0x81;
+    count(WRONG_FIRST, n == 1);
+    count(WRONG_SECOND, second);
+    count(WRONG_THIRD, third);
+    return n == 1 || second || third;
+}
+
+/* Counts what a burst came by that completed a frame of n bytes; a head that is wrong or too long takes three at most. */
+static void count_completed(const call *c, uint32_t n, uint32_t left)
+{
+    static const reference_gathered none;
+    count(AT_ONCE, gathered_before.count == 0);
+    count(BY_LATER_BURST, gathered_before.count != 0);
+    count(BY_SINGLE_BYTE, c->n == 1);
+    count(BY_LAST_BYTE, left == 0);
+    count(BYTES_LEFT, left != 0);
+    count(FRAME_LEFT, left != 0 && taken_of(&none, c->bytes + c->n - left, left) > 3);
+    count(ACROSS_START, between[START]);
+    count(ACROSS_COMMAND, between[COMMAND]);
+    count(ACROSS_RADIO, between[ARRIVAL] || between[TAKE] || between[DROP]);
+    count(FETCHED_255, n == COMMAND_CAP - 1);
+    count(FETCHED_256, n == COMMAND_CAP);
+}
+
+/* Counts what a fetch came by. */
+static void count_fetch(const call *c, uint64_t number)
+{
+    uint32_t returned = POMERASSOL_ENDED(number), left = POMERASSOL_LEFT(number);
+    uint32_t n = gathered_before.count + (uint32_t)c->n - left;
+    if (returned == REFUSED + R1) {
+        count_untaken(c);
+    } else if (returned == REFUSED + R2) {
+        count_too_long(left);
+    } else if (returned == 0) {
+        count(MORE_OF_NONE, c->n == 0);
+        count(MORE_AT_255, n == COMMAND_CAP - 1);
+    } else {
+        count_answer(c, returned);
+        if (!count_wrong_head(c, n))
+            count_completed(c, n, left);
+    }
+}
+
+/* Makes a call of the history, and counts its answer. */
+static uint64_t make(const call *c)
+{
+    bool from_card = c->kind == COMMAND || c->kind == FETCH;
     made++;
-    if (c->kind == COMMAND)
+    if (from_card)
         keep_channels();
-    uint32_t returned = perform(&run, c);
+    uint64_t number = perform(&run, c);
+    uint32_t returned = POMERASSOL_ENDED(number);
     if (returned >= REFUSED)
         refusals[c->kind][returned - REFUSED]++;
+    if (from_card)
+        follow_reads();
     if (c->kind == START)
         count_start(c);
     if (c->kind == COMMAND)
@@ -1305,6 +1687,10 @@ static void make(const call *c)
         count_take(c, returned);
     if (c->kind == DROP)
         count_drop(c, returned);
+    if (c->kind == FETCH)
+        count_fetch(c, number);
+    follow_between(c->kind);
+    return number;
 }
 
 /* ---- Histories ---- */
@@ -1338,19 +1724,32 @@ static void make_start(void)
     make(&c);
 }
 
-/* A command that a planner makes. */
-static void make_command(planner *planned_by)
+/* A start of the fetch, in memory that holds anything; what is on the line stays or is lost. */
+static void make_fetch_start(void)
 {
-    write_command(planned_by);
-    call c = {COMMAND, 0, frame, frame_size, buffer_size(255)};
+    count(FETCH_ANEW, run.reference.gathered.count != 0);
+    memcpy(&run.reference.gathered, random_bytes(), sizeof run.reference.gathered);
+    memcpy(&run.pomerassol.gathered, random_bytes(), sizeof run.pomerassol.gathered);
+    if (chance(50))
+        take_off_line(on_line);
+    call c = {FETCH_START, 0, noise, 0, below(64)};
     make(&c);
 }
 
-/* A command of random bytes. */
-static void make_random(void)
+/* A burst off the line. What is left is handed in again or dropped; all that is on the line too, mostly at wrong heads. */
+static void make_burst(void)
 {
-    planned = 0;
-    write_random();
+    call c = {FETCH, 0, line, burst_size(), buffer_size(255)};
+    uint64_t number = make(&c);
+    bool no_details = POMERASSOL_ENDED(number) == 12 && row_of(reference_space + GUARD) == ZERO_DETAILS;
+    take_off_line(chance(10) ? c.n : c.n - POMERASSOL_LEFT(number));
+    if (chance(no_details ? 25 : 2))
+        take_off_line(on_line);
+}
+
+/* The written command, by the command call. */
+static void make_command(void)
+{
     call c = {COMMAND, 0, frame, frame_size, buffer_size(255)};
     make(&c);
 }
@@ -1407,15 +1806,48 @@ static uint32_t pick_kind(const uint8_t *weights)
     return kind;
 }
 
+/* Writes a command of a kind: planned, or random bytes. */
+static void write_kind(uint32_t kind)
+{
+    if (kind < PLANNERS)
+        write_command(planners[kind]);
+    else
+        write_random();
+}
+
+/* Writes what is put on the line in place of a command of a kind: mostly that one. */
+static void write_for_line(uint32_t kind)
+{
+    if (chance(10))
+        write_wrong_head();
+    else if (chance(5))
+        write_longest();
+    else
+        write_kind(kind);
+}
+
+/* A command of a kind: by the command call, or on the line, off which a burst comes. */
+static void make_kind(uint32_t kind)
+{
+    if (chance(70)) {
+        write_kind(kind);
+        make_command();
+        return;
+    }
+    write_for_line(kind);
+    put_on_line();
+    if (chance(4))
+        compare_divisions();
+    make_burst();
+}
+
 /* One call in a mood. */
 static void step(uint32_t mood)
 {
     uint32_t kind = pick_kind(moods[mood]);
     rough = mood == MOODS - 1;
-    if (kind < PLANNERS)
-        make_command(planners[kind]);
-    else if (kind == PLANNERS)
-        make_random();
+    if (kind <= PLANNERS)
+        make_kind(kind);
     else if (kind == PLANNERS + 1)
         make_arrival();
     else if (kind == PLANNERS + 2)
@@ -1429,17 +1861,23 @@ static void history(void)
 {
     uint32_t mood = 1, rest = 20;
     make_start();
+    make_fetch_start();
     while (made < calls) {
         if (rest-- == 0) {
             mood = below(MOODS);
             rest = 10 + below(120);
             focus = channel_with(chance(60) ? is_datagram : is_open);
+            by_bytes = chance(15);
         }
         if (below(400) == 0) {
             compare_state();
             make_start();
             mood = 1;
             rest = 20;
+        } else if (below(400) == 0) {
+            make_fetch_start();
+        } else if (chance(on_line == 0 ? 2 : 30)) {
+            make_burst();
         } else {
             step(mood);
         }
@@ -1447,6 +1885,7 @@ static void history(void)
             compare_state();
     }
     compare_state();
+    compare_long_bursts();
 }
 
 /* ---- The counts ---- */
@@ -1471,12 +1910,15 @@ static void print_answers(void)
 /* Prints how often each refusal came. */
 static void print_refusals(void)
 {
-    static const char *const given[6] = {"", "", ".xx..........", ".x.xxxx....x.", "...xxx......x", ".x.xxx......."};
+    static const char *const given[] = {
+        [COMMAND] = ".xx..........", [ARRIVAL] = ".x.xxxx....x.", [TAKE] = "...xxx......x",
+        [DROP] = ".x.xxx.......", [FETCH] = ".xx..........",
+    };
     printf("\n%-14s", "refusals");
     for (uint32_t j = 1; j < REFUSALS; j++)
         if (is_refusal(j))
             printf("%*sR%" PRIu32, j < 10 ? 6 : 5, "", j);
-    for (int i = COMMAND; i <= DROP; i++) {
+    for (int i = COMMAND; i <= FETCH; i++) {
         printf("\n%-14s", kind_names[i]);
         for (uint32_t j = 1; j < REFUSALS; j++)
             if (given[i][j] == 'x')

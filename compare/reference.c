@@ -1,17 +1,19 @@
-/* The modem of "Data channels: the rules", section by section, with the datagram channels of request M-104. */
+/* The modem of "Data channels: the rules", section by section, with the datagram channels of request M-104 and the fetch
+ * of M-109. */
 #include "reference.h"
 
 #include <stdbool.h>
 #include <string.h>
 
 /* A planted fault: 1 the count left by its low byte, 2 arrivals cut to the room, 3 the highest unused number,
- * 4 RECEIVE DATA past the end of a datagram, 5 a take of two datagrams. */
+ * 4 RECEIVE DATA past the end of a datagram, 5 a take of two datagrams, 6 event 09 at every arrival, 7 the number of a long
+ * tag by its low byte, 8 a byte lost between bursts, 9 the bytes left of a burst off by one. */
 #ifndef FAULT
 #define FAULT 0
 #endif
 
 enum { CELLS = 256, CELL = 32, GRANT_CAP = 1500, DATA_CAP = 237 };
-enum { COMMAND_CAP = 256, RESPONSE_SPACE = 255, EVENT_SPACE = 16 };
+enum { COMMAND_CAP = REFERENCE_COMMAND, RESPONSE_SPACE = 255, EVENT_SPACE = 16 };
 enum { EVENT_ARRIVAL = 0x09, EVENT_DROP = 0x0A };
 enum { BEARER_02 = 0x02, BEARER_03 = 0x03, UDP = 0x01, TCP = 0x02, IMMEDIATELY = 0x01 };
 enum { CARD = 0x81, TERMINAL = 0x82, FIRST_CHANNEL = 0x21, LAST_CHANNEL = 0x27 };
@@ -899,4 +901,70 @@ uint32_t reference_details(const uint8_t *command, size_t n)
     if (first.number != 0x01 || first.length != 3)
         return 0;
     return (uint32_t)(first.value[0] << 16 | first.value[1] << 8 | first.value[2]);
+}
+
+/* ---- Bytes as they come off the line ---- */
+
+/* What gathered bytes may still be. */
+typedef enum { UNFINISHED, WHOLE, NEVER_RIGHT, TOO_LONG } standing;
+
+/* Where the gathered bytes of a frame of `all` bytes stand. */
+static standing stands_of(const reference_gathered *g, uint32_t all)
+{
+    if (all > COMMAND_CAP)
+        return TOO_LONG;
+    return g->count == all ? WHOLE : UNFINISHED;
+}
+
+/* Where the gathered bytes stand, at least one of them, by the outer head. */
+static standing stands(const reference_gathered *g)
+{
+    if (g->bytes[0] != 0xD0)
+        return NEVER_RIGHT;
+    if (g->count == 1)
+        return UNFINISHED;
+    if (g->bytes[1] < 0x80)
+        return stands_of(g, 2u + g->bytes[1]);
+    if (g->bytes[1] != 0x81)
+        return NEVER_RIGHT;
+    if (g->count == 2)
+        return UNFINISHED;
+    if (g->bytes[2] < 0x80)
+        return NEVER_RIGHT;
+    return stands_of(g, 3u + g->bytes[2]);
+}
+
+/* The two halves of what a fetch returns. */
+static uint64_t with_left(size_t left, uint32_t ended)
+{
+    return (uint64_t)(left < 0xFFFFFFFF ? left : 0xFFFFFFFF) << 32 | ended;
+}
+
+/* Nothing is gathered. */
+void reference_fetch_start(reference_gathered *g)
+{
+    g->count = 0;
+}
+
+/* Gives up the gathered bytes: R2, or what the command call answers to them. */
+static uint32_t give_up(reference_session *s, reference_gathered *g, standing found, uint8_t *out, size_t size)
+{
+    uint32_t n = g->count;
+    g->count = 0;
+    return found == TOO_LONG ? R2 : reference_command(s, g->bytes, n, out, size);
+}
+
+/* A burst of the card's bytes: taken one by one until those gathered are answered or refused, or all are taken. */
+uint64_t reference_fetch(reference_session *s, reference_gathered *g, const uint8_t *bytes, size_t n,
+                         uint8_t *out, size_t size)
+{
+    if (size < RESPONSE_SPACE)
+        return with_left(n, R1);
+    for (size_t i = FAULT == 8 && g->count != 0 ? 1 : 0; i < n; i++) {
+        g->bytes[g->count++] = bytes[i];
+        standing found = stands(g);
+        if (found != UNFINISHED)
+            return with_left(n - i - (FAULT == 9 ? 0 : 1), give_up(s, g, found, out, size));
+    }
+    return with_left(0, 0);
 }

@@ -1,5 +1,5 @@
-/* The modem of "Data channels: the rules" with datagram channels (request M-104), written a second time straight from
- * the paper. */
+/* The modem of "Data channels: the rules" with datagram channels (request M-104) and the fetch (M-109), written a second
+ * time straight from the paper. */
 #ifndef REFERENCE_H
 #define REFERENCE_H
 
@@ -11,6 +11,7 @@ enum {
     REFERENCE_PROFILE = 13,       /* profile bytes that are looked at */
     REFERENCE_RING = 2048,        /* bytes of a queue: a power of two above the largest grant */
     REFERENCE_DATAGRAMS = 16,     /* datagrams held each way at most */
+    REFERENCE_COMMAND = 256,      /* bytes of the longest command */
     REFERENCE_REFUSED = 0x1000000 /* a refusal returns this plus its number */
 };
 
@@ -53,6 +54,12 @@ typedef struct {
     reference_channel channel[REFERENCE_CHANNELS];
 } reference_session;
 
+/* What was gathered of a command so far, in the order it came; the bytes behind the count mean nothing. */
+typedef struct {
+    uint32_t count;
+    uint8_t bytes[REFERENCE_COMMAND];
+} reference_gathered;
+
 /* Each call returns the count of bytes written to `out`, or REFERENCE_REFUSED plus the refusal. */
 void reference_start(reference_session *s, const uint8_t *profile, size_t n);
 uint32_t reference_command(reference_session *s, const uint8_t *command, size_t n, uint8_t *out, size_t size);
@@ -62,5 +69,11 @@ uint32_t reference_drop(reference_session *s, uint8_t channel, uint8_t *out, siz
 
 /* What command is at hand: number, type and qualifier in one number, or REFERENCE_REFUSED plus 2. */
 uint32_t reference_details(const uint8_t *command, size_t n);
+
+/* A burst off the line: the bytes left in the upper half, FFFFFFFF for that many and more, and in the lower half what the
+ * other calls return, 0 where more is to come. */
+void reference_fetch_start(reference_gathered *g);
+uint64_t reference_fetch(reference_session *s, reference_gathered *g, const uint8_t *bytes, size_t n,
+                         uint8_t *out, size_t size);
 
 #endif

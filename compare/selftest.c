@@ -8,6 +8,7 @@
 enum { SPACE = 2048, TAKE_CAP = 1500 };
 
 static reference_session session;
+static reference_gathered gathered;
 static unsigned steps, wrong;
 static const char *part;
 
@@ -599,7 +600,6 @@ static void datagrams_kept(void)
     says("A00171", "R11");
 }
 
-/* Runs every part and counts what is wrong. */
 /* M-100: event 09 where the receive way was empty, on a channel of either kind. */
 static void available(const char *opening)
 {
@@ -657,6 +657,211 @@ static void long_tags(void)
     says("D01E 8103014001 82028182 350103 39020020 04020101 7F0004 020202 04020303", "810301400182028281830101 38028200 350103 39020020");
 }
 
+/* Holds the count of bytes left to that of the paper. */
+static void hold_left(const char *in, uint64_t number, uint32_t asked)
+{
+    uint32_t left = (uint32_t)(number >> 32);
+    steps++;
+    if (left == asked)
+        return;
+    wrong++;
+    printf("%s: %.60s\n  left: %u, in the paper %u\n", part, in, (unsigned)left, (unsigned)asked);
+}
+
+/* Holds what is gathered to the bytes that the paper asks for. */
+static void hold_gathered(const char *in, const char *bytes)
+{
+    uint8_t asked[SPACE];
+    size_t n = unhex(bytes, asked);
+    steps++;
+    if (gathered.count == n && memcmp(gathered.bytes, asked, n) == 0)
+        return;
+    wrong++;
+    printf("%s: %.60s\n  gathered: %u bytes, in the paper %s\n", part, in, (unsigned)gathered.count, bytes);
+}
+
+/* One burst with a buffer of the given size: how many of its bytes are left, its line, and what is gathered then. */
+static void burst_in(size_t size, const char *in, uint32_t left, const char *line, const char *bytes)
+{
+    uint8_t burst[SPACE], out[SPACE];
+    size_t n = unhex(in, burst);
+    memset(out, 0x5A, SPACE);
+    uint64_t number = reference_fetch(&session, &gathered, burst, n, out, size);
+    hold(in, (uint32_t)number, out, line);
+    hold_left(in, number, left);
+    hold_gathered(in, bytes);
+}
+
+/* A burst that ends in an answer or in R2, so that nothing is gathered then. */
+static void ends(const char *in, uint32_t left, const char *line)
+{
+    burst_in(255, in, left, line, "");
+}
+
+/* A burst that is taken whole, more being to come: what is gathered then. */
+static void more(const char *in, const char *bytes)
+{
+    burst_in(255, in, 0, "--", bytes);
+}
+
+/* Begins a part over a session and nothing gathered, in memory that holds anything. */
+static void start_fetch(const char *name)
+{
+    start(name, FULL);
+    memset(&gathered, 0xD0, sizeof gathered);
+    reference_fetch_start(&gathered);
+    hold_gathered("a start", "");
+}
+
+#define MORE_TIME "D009810301020082028182"
+#define TIME_GIVEN "810301020082028281830100"
+#define NO_FRAME "810300000082028281830132"
+#define NO_OBJECT "810300000082028281830136"
+
+/* M-109: a command in one burst, in single bytes, over no bytes, and the state behind it. */
+static void fetch_divided(void)
+{
+    start_fetch("fetch, divided");
+    ends(MORE_TIME, 0, TIME_GIVEN);
+    more("", "");
+    more("D0", "D0");
+    more("", "D0");
+    more("09", "D009");
+    more("8103010200", "D0098103010200");
+    more("820281", "D0098103010200820281");
+    more("", "D0098103010200820281");
+    ends("82", 0, TIME_GIVEN);
+    more("D01581030140018202818235", "D01581030140018202818235");
+    ends("0103390205DC3C03021F90", 0, OPENED_1500);
+    more("D00C8103014300820281213601", "D00C8103014300820281213601");
+    ends("41", 0, "810301430082028281830100 3701FF");
+    more("D00B81030143018202812136", "D00B81030143018202812136");
+    says("A10105DC", "--");
+    ends("00", 0, "810301430182028281830100 3701FF");
+    says("A10105DC", "41");
+    more("D0", "D0");
+    ends("00", 0, NO_OBJECT);
+    ends("D000", 0, NO_OBJECT);
+    ends("D00181", 0, NO_FRAME);
+}
+
+/* M-109: bytes behind a command are left, and counted; the next byte begins a new one. */
+static void fetch_left(void)
+{
+    start_fetch("fetch, left");
+    ends(MORE_TIME "D0", 1, TIME_GIVEN);
+    ends(MORE_TIME MORE_TIME "D00981", 14, TIME_GIVEN);
+    ends(MORE_TIME "D00981", 3, TIME_GIVEN);
+    more("D00981", "D00981");
+    ends("0301020082028182 D1D2D3", 3, TIME_GIVEN);
+    ends("D1D2D3", 2, NO_FRAME);
+    ends("D000D000D000", 4, NO_OBJECT);
+    ends(counted(one, MORE_TIME, 0, 300, ""), 300, TIME_GIVEN);
+    more("D0098103010200820281", "D0098103010200820281");
+    ends("82" LIST_09, 14, TIME_GIVEN);
+    ends(LIST_09, 0, LISTED);
+}
+
+/* M-109: a head that can never be right is answered at the byte that shows it. */
+static void fetch_wrong_heads(void)
+{
+    start_fetch("fetch, wrong heads");
+    ends("00", 0, NO_FRAME);
+    ends("CF" MORE_TIME, 11, NO_FRAME);
+    ends("D1" MORE_TIME, 11, NO_FRAME);
+    ends("81FF", 1, NO_FRAME);
+    ends("D080", 0, NO_FRAME);
+    ends("D082FF", 1, NO_FRAME);
+    ends("D0FFD0", 1, NO_FRAME);
+    more("D0", "D0");
+    ends("83" MORE_TIME, 11, NO_FRAME);
+    ends("D08100", 0, NO_FRAME);
+    ends("D0817F", 0, NO_FRAME);
+    ends("D0810981", 1, NO_FRAME);
+    more("D0", "D0");
+    more("81", "D081");
+    ends("7F" MORE_TIME, 11, NO_FRAME);
+    ends(MORE_TIME, 0, TIME_GIVEN);
+}
+
+/* M-109: a length in either form, up to 256 bytes, and R2 at the third byte of 257 and 258. */
+static void fetch_lengths(void)
+{
+    start_fetch("fetch, lengths");
+    ends(counted(one, "D07F 810301020082028182 0574", 0, 116, "D0"), 1, "810301020082028281830101");
+    ends(counted(one, "D08180 810301020082028182 0575", 0, 117, "D0"), 1, "810301020082028281830101");
+    ends(counted(one, "D081FC 810301020082028182 0581F0", 0, 240, ""), 0, "810301020082028281830101");
+    ends(counted(one, "D081FD 810301020082028182 0581F1", 0, 241, "D0"), 1, "810301020082028281830101");
+    counted(one, "D081FD 810301020082028182 0581F1", 0, 240, "");
+    more(one, one);
+    ends("FF", 0, "810301020082028281830101");
+    says(LIST_09, LISTED);
+    says(OPEN_1500, OPENED_1500);
+    ends(counted(one, "D081FE", 0, 254, ""), 254, "R2");
+    ends("D081FF", 0, "R2");
+    more("D0", "D0");
+    more("81", "D081");
+    ends("FE" MORE_TIME, 11, "R2");
+    ends(MORE_TIME, 0, TIME_GIVEN);
+    more("D081", "D081");
+    ends("FF", 0, "R2");
+    says("D009810301440082028182", "810301440082028281830100 38028100");
+    says("A00141", "D60E1901098202828138028100370101");
+}
+
+/* M-109: R1 at any burst, which is not taken; what was gathered stays. */
+static void fetch_refused(void)
+{
+    start_fetch("fetch, R1");
+    burst_in(254, "", 0, "R1", "");
+    burst_in(254, MORE_TIME, 11, "R1", "");
+    burst_in(0, "D1", 1, "R1", "");
+    more("D0", "D0");
+    burst_in(254, "", 0, "R1", "D0");
+    burst_in(254, "0981", 2, "R1", "D0");
+    burst_in(0, "098103010200820281 82D0D0", 12, "R1", "D0");
+    burst_in(254, "80", 1, "R1", "D0");
+    burst_in(254, "81FE", 2, "R1", "D0");
+    more("0981030102008202", "D0098103010200 8202");
+    burst_in(254, "8182", 2, "R1", "D0098103010200 8202");
+    burst_in(1500, "8182", 0, TIME_GIVEN, "");
+}
+
+/* M-109: FFFFFFFF left are that many and more; of these bursts no byte is looked at but the first, which is no D0. */
+static void fetch_left_capped(void)
+{
+    uint8_t byte = 0x00, out[SPACE];
+    start_fetch("fetch, capped");
+    hold_left("FFFFFFFE, R1", reference_fetch(&session, &gathered, &byte, 0xFFFFFFFE, out, 254), 0xFFFFFFFE);
+    hold_left("FFFFFFFF, R1", reference_fetch(&session, &gathered, &byte, 0xFFFFFFFF, out, 254), 0xFFFFFFFF);
+    hold_left("100000000, R1", reference_fetch(&session, &gathered, &byte, 0x100000000, out, 254), 0xFFFFFFFF);
+    hold_left("FFFFFFFF", reference_fetch(&session, &gathered, &byte, 0xFFFFFFFF, out, 255), 0xFFFFFFFE);
+    hold_left("100000000", reference_fetch(&session, &gathered, &byte, 0x100000000, out, 255), 0xFFFFFFFF);
+    hold_left("100000001", reference_fetch(&session, &gathered, &byte, 0x100000001, out, 255), 0xFFFFFFFF);
+}
+
+/* M-109: other calls between bursts, a start of the session among them, and a start of the fetch. */
+static void fetch_between(void)
+{
+    start_fetch("fetch, between");
+    more("D015810301400182028182350103", "D015810301400182028182350103");
+    says(OPEN_1500, OPENED_1500);
+    says("A00141", "--");
+    says("A201", "--");
+    ends("390205DC3C03021F90", 0, "81030140018202828183010038028200350103390205DC");
+    more("D0098103014400", "D0098103014400");
+    start("fetch over a new start", FULL);
+    hold_gathered("a start of the session", "D0098103014400");
+    ends("82028182", 0, "81030144008202828183010038020000");
+    says(OPEN_1500, OPENED_1500);
+    more("D0098103014400", "D0098103014400");
+    reference_fetch_start(&gathered);
+    hold_gathered("a start", "");
+    ends("82028182", 3, NO_FRAME);
+    ends("D009810301440082028182", 0, "810301440082028281830100 38028100");
+}
+
+/* Runs every part and counts what is wrong. */
 int main(void)
 {
     listing();
@@ -680,6 +885,13 @@ int main(void)
     available(OPEN_DATAGRAMS);
     available("D010810301400182028182 350103 39020040");
     long_tags();
+    fetch_divided();
+    fetch_left();
+    fetch_wrong_heads();
+    fetch_lengths();
+    fetch_refused();
+    fetch_left_capped();
+    fetch_between();
     printf("selftest: %u answers held to the paper, %u wrong\n", steps, wrong);
     return wrong != 0;
 }
