@@ -9,9 +9,10 @@ use rules::Refusal;
 use rules::Stage;
 use session::Ended;
 use session::Ledger;
+use session::least;
 ghost use mathlib.Core.Path.{_≡_};
 ghost use mathlib.Core.List.{[]};
-ghost use Prim.Native.Nat.{_-_, _≤_, min};
+ghost use Prim.Native.Nat.{_-_, _≤_};
 ghost use lib.ListN.{length, take, drop};
 ghost use Rattle.rules.specs.Command.{command};
 ghost use Rattle.rules.specs.Fetch.{lengthToCome, lackingBy, stage, fetch};
@@ -91,16 +92,6 @@ fn stage_of(s: &[u8]) -> Stage
     }
 }
 
-// The lesser of two counts.
-fn lesser(a: usize, b: usize) -> usize
-    ensures { λ r. ⌜ r ≡ min a b ⌝ }
-{
-    if a < b {
-        return a;
-    }
-    b
-}
-
 // Gathers bytes of a burst behind the `held` ones, as many at a time as are surely lacking, until what they are can be told; tells how many were taken.
 fn gather(gathered: &mut [u8], held: usize, bytes: &[u8]) -> usize
     requires { ⌜ (length (now gathered) ≡ gatheredSize) × (held ≤ 256) ⌝ }
@@ -112,7 +103,7 @@ fn gather(gathered: &mut [u8], held: usize, bytes: &[u8]) -> usize
         let count = held + taken;
         match stage_of(&gathered[..count]) {
             Stage::Lacks(n) => {
-                let end = taken + lesser(n, bytes.len() - taken);
+                let end = taken + least(n, bytes.len() - taken);
                 octets::put_part(gathered, count, bytes, taken, end);
                 taken = end;
             }

@@ -38,7 +38,7 @@ stage s =
     lengthToCome (drop 1 s) ⇒ Lacks 1 else
     stageBy (length s) (lengthAt (drop 1 s))
 
--- no byte; D0; D0 81; three of MORE TIME, and its last byte but one and its last; 256 bytes called for, and 257; each wrong head
+-- no byte; D0; D0 81; three bytes of MORE TIME; a command of four bytes without its last, and whole; 256 bytes called for, and 257; each wrong head
 pub stage-of :
     map stage
     ([] ∷

@@ -47,40 +47,40 @@ stage-of-requires c κs =
 
 add-end : tie.Need-add-end Inv-loop μ-loop
 add-end c =
-    let e : tie.After-lesser Inv-loop μ-loop = search in
-    let k = e .lesser .ensures in omega (arith, k)
+    let e : tie.After-least Inv-loop μ-loop = search in
+    let k = e .least .ensures in omega (arith, k)
 
 put-part-requires : tie.Need-put-part-requires Inv-loop μ-loop
 put-part-requires c κs =
-    let e : tie.After-lesser Inv-loop μ-loop = search in
+    let e : tie.After-least Inv-loop μ-loop = search in
     let n : tie.After-n Inv-loop μ-loop = search in
     let t : tie.After-stage-of Inv-loop μ-loop = search in
     let l : tie.At-loop Inv-loop μ-loop = search in
     let s : tie.Start Inv-loop μ-loop = search in
-    let k = e .lesser .ensures in
+    let k = e .least .ensures in
     let w = l .loop .inv .within in
     let z = l .loop .inv .size in
     let f = bring-fits _ _ _ (s .pre .0) _ _ (l .loop .inv) _ (sym (t .stage-of .ensures) ∙ n .n .given .1) .0 in (omega arith, omega (arith, k, w), omega (arith, k, z, f))
 
 loop-less : tie.Need-loop-less Inv-loop μ-loop
 loop-less c =
-    let e : tie.After-lesser Inv-loop μ-loop = search in
+    let e : tie.After-least Inv-loop μ-loop = search in
     let n : tie.After-n Inv-loop μ-loop = search in
     let t : tie.After-stage-of Inv-loop μ-loop = search in
     let l : tie.At-loop Inv-loop μ-loop = search in
     let s : tie.Start Inv-loop μ-loop = search in
-    let k = e .lesser .ensures in
+    let k = e .least .ensures in
     let f = bring-fits _ _ _ (s .pre .0) _ _ (l .loop .inv) _ (sym (t .stage-of .ensures) ∙ n .n .given .1) .1 in omega (arith, k, f)
 
 loop-again : tie.Need-loop-again Inv-loop μ-loop
 loop-again c =
     let p : tie.After-put-part Inv-loop μ-loop = search in
-    let e : tie.After-lesser Inv-loop μ-loop = search in
+    let e : tie.After-least Inv-loop μ-loop = search in
     let n : tie.After-n Inv-loop μ-loop = search in
     let t : tie.After-stage-of Inv-loop μ-loop = search in
     let l : tie.At-loop Inv-loop μ-loop = search in
     let s : tie.Start Inv-loop μ-loop = search in
-    let k = e .lesser .ensures in
+    let k = e .least .ensures in
     bring-more _ _ _ (s .pre .0) _ _ (l .loop .inv) _ _ _ (sym (t .stage-of .ensures) ∙ n .n .given .1) (omega (arith, k)) (p .put-part .ensures)
 
 returns : tie.Need-returns Inv-loop μ-loop
