@@ -79,10 +79,10 @@ pub burst-follows :
 burst-follows s g buffer bytes t r o left good h =
     let f = fetch (view s) buffer (gatheredIn g) bytes in
     let k = h .leaves in
-    let seen : o ≡ f .answer .outcome = h .seen ∙ answer-seen _ _ _ _ _ _ (k .answers) in
+    let seen : o ≡ f .answer .outcome = h .told ∙ answer-seen _ _ _ _ _ _ (k .answers) in
     let w = lacking-few (f .gathered) (k .lacks) in
     let x : Left (f .answer) buffer t (f .answer .outcome) =
-    record { before = h .before; after = h .after; ended = h .ended; size = h .size; answers = k .answers; seen = sym seen ∙ h .seen } in
+    record { before = h .before; after = h .after; ended = h .ended; size = h .size; answers = k .answers; seen = sym seen ∙ h .told } in
     record {
       runs = subst (λ (y : Outcome). Runs s (burstSeen buffer (gatheredIn g) bytes left y) t) (sym seen)
           (subst (λ (n : ℕ). Runs s (burstSeen buffer (gatheredIn g) bytes n (f .answer .outcome)) t) (sym (h .count)) (fetch-runs s buffer (gatheredIn g) bytes good t x));
@@ -100,4 +100,4 @@ pub fetch-in-burst :
     fetch-in-reads.Post κs a r (atExit (endedOf 5 fetch-in-kinds.ps fetch-in-kinds.r) κs a v) →
     Burst (fetch (view (both (now (a .0)) (now (a .1 .0)))) (length (now (a .1 .1 .1 .1 .0))) (gatheredIn (now (a .1 .1 .0))) (now (a .1 .1 .1 .0)))
     (length (now (a .1 .1 .1 .1 .0))) (both (v .0) (v .1 .0)) (v .1 .1 .0) (outcomeOf (r .ended) (v .1 .1 .1 .1 .0)) (r .left)
-fetch-in-burst κs a r v h = record { before = now (a .1 .1 .1 .1 .0); after = v .1 .1 .1 .1 .0; ended = r .ended; size = refl; leaves = h .leaves; seen = refl; count = h .left }
+fetch-in-burst κs a r v h = record { before = now (a .1 .1 .1 .1 .0); after = v .1 .1 .1 .1 .0; ended = r .ended; size = refl; leaves = h .leaves; told = refl; count = h .left }

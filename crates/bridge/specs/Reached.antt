@@ -58,7 +58,7 @@ pub record Burst (f : Fetched) (buffer : ℕ) (t : Session) (r : List ℕ) (o : 
   pub ended : Ended
   pub size : length before ≡ buffer
   pub leaves : Leaves f (t .ledger) (t .pool) r ended before after
-  pub seen : o ≡ outcomeOf ended after
+  pub told : o ≡ outcomeOf ended after
   pub count : left ≡ length (f .left)
 
 -- a burst over the record s and the gathered record g: the record t follows by what is seen of it, what is gathered is what was seen, and the record of that may be lent to the next burst

@@ -90,7 +90,7 @@ burst-tied s g bytes t r n before after pre h =
         ended = endedOf (f .answer .outcome);
         size = refl;
         leaves = h .leaves;
-        seen = ap (λ (e : Ended). outcomeOf e after) (ap endedIn (h .told) ∙ back .0);
+        told = ap (λ (e : Ended). outcomeOf e after) (ap endedIn (h .told) ∙ back .0);
         count = refl;
       },
     )
