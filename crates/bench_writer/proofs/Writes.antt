@@ -8,22 +8,20 @@ use native.Mathlib.Omega.{arith}
 use native.Mathlib.Nat.{add-zero}
 use lib.ListN.{length, drop, length-append, take, take-append-drop}
 use borrow.Author.Tests.{lt-ltb, le-ltb, not-true, not-false}
-use Rattle.octets.specs.Parts.{pasted}
+use Rattle.octets.specs.Parts.{pasted, overlaid}
 use Rattle.rules.specs.declared.Refusal.{Refusal}
 use Rattle.rules.specs.declared.Refusal.the-variants.{ShortBuffer, UnfitRecord}
 use Rattle.rules.specs.Checks.{_⇒_else_}
 use Rattle.rules.specs.Frames.{Object, lengthBytes, objectBytes, written, frame}
 use Rattle.rules.specs.Reading.{Body, kindOf, detailsOf, addressed}
 use Rattle.rules.specs.Written.{flagged, pairBytes, detailsBytes, bearerBytes}
-use Rattle.rules.specs.Command.{Outcome, wrote, refused}
+use Rattle.rules.specs.Command.{Outcome, wrote, refused, endedOf, writtenBy}
 use Rattle.rules.specs.Bench.{bodyProper, transportObjects, bodyObjects, commandObjects, benchWrite}
-use Rattle.session.specs.declared.Ended.the-variants as ended
-use Rattle.session.specs.Calls.{endedOf, writtenBy, overlaid}
-use Rattle.octets.proofs.Pastes.{paste-after, length-pasted}
+use Rattle.rules.specs.declared.Ended.the-variants as ended
+use Rattle.octets.proofs.Pastes.{paste-after, length-pasted, front-over}
 use Rattle.objects.proofs.Writing.{short-length}
 use Rattle.rules.proofs.Laws.{stop, skip}
 use Rattle.rules.proofs.Sizes.{length-bytes}
-use Rattle.session.proofs.Answers.{front-over}
 use Rattle.bench_writer.specs.declared.Level.{Level}
 use Rattle.bench_writer.specs.declared.Asking.the-variants.{Open}
 use Rattle.bench_writer.specs.declared.Record.{Record}

@@ -2,8 +2,8 @@
 use objects;
 use octets;
 use rules::DeviceIdentity;
+use rules::Ended;
 use rules::Refusal;
-use session::Ended;
 ghost use mathlib.Core.Path.{_≡_};
 ghost use mathlib.Core.Bool.{true};
 ghost use mathlib.Core.List.{List, _∷_, _++_};
@@ -12,7 +12,8 @@ ghost use lib.ListN.{length};
 ghost use Rattle.rules.specs.Frames.{lengthBytes, written};
 ghost use Rattle.rules.specs.Reading.{kindOf, addressed};
 ghost use Rattle.rules.specs.Bench.{bearerProper, bodyProper, transportObjects, bodyObjects, benchWrite};
-ghost use Rattle.session.specs.Calls.{endedOf, writtenBy, overlaid};
+ghost use Rattle.rules.specs.Command.{endedOf, writtenBy};
+ghost use Rattle.octets.specs.Parts.{overlaid};
 ghost use Rattle.bench_writer.specs.Records.{levelOf, bodyOf, commandOf};
 ghost use Rattle.bench_writer.specs.Wrote.{valueCap, bodyCap, Wrote, frontBytes};
 

@@ -7,7 +7,7 @@ use lib.ListN.{length, drop}
 use lib.Seq.{take-append-seam}
 use Rattle.rules.specs.declared.ChannelNumber.{ChannelNumber}
 use Rattle.rules.specs.State.{State, start}
-use Rattle.rules.specs.Command.{Outcome, wrote, refused, Answer}
+use Rattle.rules.specs.Command.{Outcome, wrote, refused, Answer, endedOf, writtenBy}
 use Rattle.rules.specs.Run.{Call, starting, commanding, arriving, takingOut, droppingLink, step, after}
 use Rattle.rules.specs.History.{Exchange, history, callsOf, seenFrom}
 use Rattle.rules.specs.Pool.{unpromised}
@@ -15,11 +15,12 @@ use Rattle.rules.specs.Demands.{Follows, freeBy}
 use Rattle.rules.proofs.Histories.{follows}
 use Rattle.rules.proofs.Openings.{free-told}
 use Rattle.rules.proofs.Soundness.{start-sound, step-sound}
+use Rattle.octets.specs.Parts.{overlaid}
 use Rattle.session.specs.declared.Session.{Session}
-use Rattle.session.specs.declared.Ended.{Ended}
+use Rattle.rules.specs.declared.Ended.{Ended}
 use Rattle.session.specs.Book.{freeIn}
 use Rattle.session.specs.Picture.{Good, view}
-use Rattle.session.specs.Calls.{Answers, endedOf, writtenBy, overlaid}
+use Rattle.session.specs.Calls.{Answers}
 use Rattle.session.proofs.Facts.{unpromised-kept}
 use Rattle.session.proofs.Views.{shows-back}
 use Rattle.text.specs.Prints.{outcomeOf}

@@ -16,7 +16,7 @@ use Rattle.rules.specs.Run.{starting, commanding, arriving, takingOut, dropping
 use Rattle.rules.proofs.Soundness.{start-sound}
 use Rattle.text.specs.Prints.{outcomeOf}
 use Rattle.session.specs.declared.Session.{Session}
-use Rattle.session.specs.declared.Ended.{Ended}
+use Rattle.rules.specs.declared.Ended.{Ended}
 use Rattle.session.specs.Picture.{Shows}
 use Rattle.session.specs.Calls.{Answers}
 use Rattle.session.proofs.Views.{shows-good}

@@ -10,7 +10,7 @@ use Rattle.rules.specs.Radio.{arrival, taking, dropping}
 use Rattle.rules.specs.Run.{Call, starting, commanding, arriving, takingOut, droppingLink}
 use Rattle.rules.specs.History.{Exchange}
 use Rattle.session.specs.declared.Session.{Session}
-use Rattle.session.specs.declared.Ended.{Ended}
+use Rattle.rules.specs.declared.Ended.{Ended}
 use Rattle.session.specs.Picture.{Good, Shows, view}
 use Rattle.session.specs.Calls.{Answers}
 use Rattle.text.specs.Prints.{outcomeOf}

@@ -16,8 +16,8 @@ use Rattle.rules.specs.Fetch.{stage, fetch}
 use Rattle.rules.proofs.Laws.{stop}
 use Rattle.octets.specs.Parts.{pasted, cleared}
 use Rattle.octets.proofs.Pastes.{take-pasted}
-use Rattle.session.specs.declared.Ended.{Ended}
-use Rattle.session.specs.declared.Ended.the-variants.{Wrote, Refused}
+use Rattle.rules.specs.declared.Ended.{Ended}
+use Rattle.rules.specs.declared.Ended.the-variants.{Wrote, Refused}
 use Rattle.session.specs.Picture.{GoodIn, shown}
 use Rattle.session.specs.Calls.{Answers}
 use Rattle.session.proofs.Answers.{refuse-answers, quiet-answers}

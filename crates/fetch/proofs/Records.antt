@@ -13,9 +13,9 @@ use Rattle.rules.specs.declared.Stage.the-variants.{Lacks, Overlong, Decided}
 use Rattle.rules.specs.Checks.{_⇒_else_, isEmpty}
 use Rattle.rules.specs.Fetch.{stage, Means}
 use Rattle.rules.proofs.Stages.{stage-means, lacks-within}
-use Rattle.octets.specs.Parts.{pasted, cleared}
-use Rattle.session.specs.Picture.{pad}
-use Rattle.session.proofs.Regions.{length-pad, way-put}
+use Rattle.octets.specs.Parts.{pasted, cleared, pad}
+use Rattle.octets.proofs.Pastes.{length-pad}
+use Rattle.session.proofs.Regions.{way-put}
 use Rattle.session.proofs.Starts.{over-all}
 use Rattle.fetch.specs.Gathers.{countAt, gatheredSize, gatheredOf, gatheredIn, isLacking, Gathers, Stands}
 

@@ -12,8 +12,8 @@ use Rattle.rules.specs.State.{State}
 use Rattle.rules.specs.Command.{answered, refusal, command}
 use Rattle.rules.specs.Fetch as rules
 use Rattle.rules.specs.Fetch.{stage}
-use Rattle.session.specs.declared.Ended.{Ended}
-use Rattle.session.specs.Picture.{pad}
+use Rattle.octets.specs.Parts.{pad}
+use Rattle.rules.specs.declared.Ended.{Ended}
 use Rattle.session.specs.Calls.{Answers}
 use Rattle.fetch.specs.declared.Fetched.{Fetched}
 

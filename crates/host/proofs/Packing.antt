@@ -13,7 +13,7 @@ use Rattle.rules.specs.declared.Way.the-variants.{Send}
 use Rattle.rules.specs.Words.{numberOf, refusalOf}
 use Rattle.rules.specs.Pool.{grantCap}
 use Rattle.rules.specs.State.{State, chan, held, atOnce}
-use Rattle.rules.specs.Command.{Answer, Outcome, wrote, refused}
+use Rattle.rules.specs.Command.{Answer, Outcome, wrote, refused, endedOf}
 use Rattle.rules.specs.Fetch as rules
 use Rattle.rules.specs.Fetch.{fetch}
 use Rattle.rules.specs.Radio.{taking}
@@ -25,9 +25,9 @@ use Rattle.rules.proofs.Cases.{taking-cases}
 use Rattle.rules.proofs.Fetch.{fetch-within}
 use Rattle.rules.proofs.Sizes.{written-within}
 use Rattle.rules.proofs.Soundness.{chan-sound}
-use Rattle.session.specs.declared.Ended.{Ended}
-use Rattle.session.specs.declared.Ended.the-variants.{Wrote, Refused}
-use Rattle.session.specs.Calls.{endedOf, Answers}
+use Rattle.rules.specs.declared.Ended.{Ended}
+use Rattle.rules.specs.declared.Ended.the-variants.{Wrote, Refused}
+use Rattle.session.specs.Calls.{Answers}
 use Rattle.fetch.specs.declared.Fetched.{Fetched}
 use Rattle.fetch.specs.Gathers.{Fetches}
 use Rattle.host.specs.Packed.{packed, unpacked, leftCap, packedBurst, endedIn, leftIn, Fits, Packs, PacksBurst}

@@ -8,13 +8,12 @@ use lib.ListN.{length}
 use denote.Ref.{now}
 use Rattle.outcomes.specs.Claims.{Claims}
 use Rattle.outcomes.proofs.Claims.{from-claim, from-last}
-use Rattle.rules.specs.Command.{wrote}
+use Rattle.rules.specs.Command.{wrote, endedOf}
 use Rattle.rules.specs.Fetch.{fetch}
 use Rattle.rules.specs.Run.{Call, starting, commanding, arriving, takingOut, droppingLink, step}
 use Rattle.session.specs.declared.Session.{Session}
-use Rattle.session.specs.declared.Ended.{Ended}
+use Rattle.rules.specs.declared.Ended.{Ended}
 use Rattle.session.specs.Picture.{Good, view}
-use Rattle.session.specs.Calls.{endedOf}
 use Rattle.text.specs.Prints.{outcomeOf}
 use Rattle.bridge.specs.Reached.{Left, Called, Burst}
 use Rattle.bridge.proofs.Contracts.{left-by}

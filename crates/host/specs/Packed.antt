@@ -7,14 +7,14 @@ use lib.Dec.{ltb}
 use Rattle.rules.specs.Checks.{_⇒_else_}
 use Rattle.rules.specs.Words.{numberOf, refusalOf}
 use Rattle.rules.specs.Pool.{grantCap}
-use Rattle.rules.specs.Command.{Answer}
+use Rattle.rules.specs.Command.{Answer, endedOf}
 use Rattle.rules.specs.Fetch as rules
 use Rattle.fetch.specs.declared.Fetched.{Fetched}
 use Rattle.fetch.specs.Gathers.{Leaves}
-use Rattle.session.specs.declared.Ended.{Ended}
-use Rattle.session.specs.declared.Ended.the-variants.{Wrote, Refused}
+use Rattle.rules.specs.declared.Ended.{Ended}
+use Rattle.rules.specs.declared.Ended.the-variants.{Wrote, Refused}
 use Rattle.session.specs.declared.Session.{Session}
-use Rattle.session.specs.Calls.{endedOf, Answers}
+use Rattle.session.specs.Calls.{Answers}
 
 -- the count of bytes written, or 1000000 (hexadecimal) plus the refusal's number
 unfoldable pub packed : Ended → ℕ

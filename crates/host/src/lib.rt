@@ -11,7 +11,7 @@ use radio::arrival_in;
 use radio::dropping_in;
 use radio::taking_in;
 use rules::ChannelNumber;
-use session::Ended;
+use rules::Ended;
 use session::Ledger;
 use session::Session;
 use session::start_ledger;

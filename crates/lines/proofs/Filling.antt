@@ -12,10 +12,9 @@ use Rattle.rules.specs.Checks.{_⇒_else_}
 use Rattle.rules.specs.Input.{Reader, Fed, feeds}
 use Rattle.rules.proofs.Laws.{stop, skip, branch}
 use Rattle.rules.proofs.Input.{fed-pieces}
-use Rattle.octets.specs.Parts.{pasted, cleared}
-use Rattle.octets.proofs.Pastes.{paste-after, length-pasted}
-use Rattle.session.specs.Picture.{shown, pad}
-use Rattle.session.proofs.Regions.{length-pad}
+use Rattle.octets.specs.Parts.{pasted, cleared, pad}
+use Rattle.octets.proofs.Pastes.{paste-after, length-pasted, length-pad}
+use Rattle.session.specs.Picture.{shown}
 use Rattle.text.specs.Sizes.{keptCap, lineCap}
 use Rattle.text.specs.Gathers.{piece}
 use Rattle.text.proofs.Gathering.{piece-front, piece-some, piece-few}

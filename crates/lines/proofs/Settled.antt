@@ -5,8 +5,8 @@ use mathlib.Core.Path.{_≡_, sym, ap, _∙_}
 use mathlib.Core.List.{List}
 use lib.ListN.{length, take}
 use Rattle.rules.specs.Input.{Reader, Fed, feeds}
-use Rattle.octets.specs.Parts.{pasted}
-use Rattle.session.specs.Picture.{shown, ledgerOf, poolOf, pad}
+use Rattle.octets.specs.Parts.{pasted, pad}
+use Rattle.session.specs.Picture.{shown, ledgerOf, poolOf}
 use Rattle.text.specs.Sizes.{keptCap}
 use Rattle.outcomes.specs.Determined.{Determined}
 use Rattle.lines.specs.declared.Progress.{Progress}

@@ -14,7 +14,7 @@ use borrow.Author.Tests.{leb-true}
 use Rattle.rules.specs.declared.ChannelNumber.{ChannelNumber}
 use Rattle.rules.specs.declared.Refusal.the-variants.{Unreadable as R9}
 use Rattle.rules.specs.State.{State, start}
-use Rattle.rules.specs.Command.{Outcome, wrote, refused}
+use Rattle.rules.specs.Command.{Outcome, wrote, refused, endedOf, writtenBy}
 use Rattle.rules.specs.Run.{Call, starting, commanding, arriving, takingOut, droppingLink, step}
 use Rattle.rules.specs.Reading.{pairIn}
 use Rattle.rules.specs.Lines.{printed, frameOf, callIn, callOf, perform, lineStep}
@@ -22,11 +22,11 @@ use Rattle.rules.specs.Input.{Fed, lineBytes, between, begins, goes}
 use Rattle.rules.proofs.Laws.{branch, both-right}
 use Rattle.rules.proofs.Soundness.{start-sound, step-sound}
 use Rattle.rules.specs.Pool.{poolSize}
-use Rattle.octets.specs.Parts.{part, pasted, cleared}
-use Rattle.session.specs.declared.Ended.{Ended}
-use Rattle.session.specs.declared.Ended.the-variants.{Wrote, Refused}
+use Rattle.octets.specs.Parts.{part, pasted, cleared, overlaid}
+use Rattle.rules.specs.declared.Ended.{Ended}
+use Rattle.rules.specs.declared.Ended.the-variants.{Wrote, Refused}
 use Rattle.session.specs.Picture.{Shows, GoodIn, shown, ledgerOf}
-use Rattle.session.specs.Calls.{endedOf, writtenBy, overlaid, Answers}
+use Rattle.session.specs.Calls.{Answers}
 use Rattle.session.proofs.Facts.{bounds}
 use Rattle.session.proofs.Starts.{empty-pool, over-all}
 use Rattle.session.proofs.Views.{shows-back, shows-good}

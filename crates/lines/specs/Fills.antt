@@ -6,7 +6,7 @@ use lib.ListN.{length, take, drop}
 use lib.Dec.{ltb}
 use Rattle.rules.specs.Checks.{_⇒_else_}
 use Rattle.rules.specs.Input.{Reader, feeds}
-use Rattle.session.specs.Picture.{pad}
+use Rattle.octets.specs.Parts.{pad}
 use Rattle.text.specs.Sizes.{keptCap, lineCap}
 use Rattle.text.specs.Gathers.{piece}
 use Rattle.lines.specs.declared.Progress.{Progress}

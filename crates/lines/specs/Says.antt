@@ -10,7 +10,7 @@ use Rattle.rules.specs.Command.{Answer, refusal}
 use Rattle.rules.specs.Run.{Call, step}
 use Rattle.rules.specs.Input.{Fed}
 use Rattle.octets.specs.Parts.{pasted}
-use Rattle.session.specs.declared.Ended.{Ended}
+use Rattle.rules.specs.declared.Ended.{Ended}
 use Rattle.session.specs.Picture.{GoodIn, shown}
 use Rattle.text.specs.Prints.{countOf, outcomeOf}
 

@@ -22,8 +22,8 @@ use Rattle.rules.specs.Command.{Answer, answered, meantBy}
 use Rattle.rules.proofs.Laws.{skip, both-left, both-right}
 use Rattle.rules.proofs.Readings.{details-told}
 use Rattle.octets.specs.Parts.{part}
-use Rattle.session.specs.declared.Ended.{Ended}
-use Rattle.session.specs.declared.Ended.the-variants.{Wrote}
+use Rattle.rules.specs.declared.Ended.{Ended}
+use Rattle.rules.specs.declared.Ended.the-variants.{Wrote}
 use Rattle.session.specs.Picture.{GoodIn, shown}
 use Rattle.session.specs.Calls.{Answers}
 use Rattle.session.specs.Changed.{Numbered}

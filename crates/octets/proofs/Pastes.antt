@@ -4,9 +4,10 @@ use Prim.Native.Nat.{ℕ, _+_, _-_, _≤_}
 use mathlib.Core.Path.{_≡_, refl, sym, ap, _∙_}
 use mathlib.Core.List.{List, _++_, append-assoc}
 use native.Mathlib.Omega.{arith}
+use native.Mathlib.Nat.{zero-add}
 use lib.ListN.{length, take, drop, replicate, length-append, length-take, length-drop, length-replicate}
 use lib.Seq.{take-at, drop-at, drop-drop, take-take, take-append-le, length-take-le}
-use Rattle.octets.specs.Parts.{part, pasted, cleared, moved, cutOut, spread}
+use Rattle.octets.specs.Parts.{part, pasted, cleared, moved, cutOut, spread, overlaid, pad}
 
 module _ (d : List ℕ) (at : ℕ) (s : List ℕ) (h : at + length s ≤ length d) where
   front : length (take at d ++ s) ≡ at + length s
@@ -134,3 +135,13 @@ spread-parts x y z w at n end p q r =
     ap (λ (s : List ℕ). pasted (x ++ (y ++ (z ++ w))) at (replicate n 0 ++ s)) (part-parts x y (z ++ w) at end p r)
     ∙ ap (λ (d : List ℕ). pasted (x ++ d) at (replicate n 0 ++ y)) (sym (append-assoc y z w))
     ∙ paste-parts x (y ++ z) (replicate n 0 ++ y) w at p (omega arith) ∙ ap (λ (d : List ℕ). x ++ d) (append-assoc (replicate n 0) y w)
+
+-- a paste at the front of a buffer lies over it
+pub front-over : (d s : List ℕ) → pasted d 0 s ≡ overlaid s d
+unfolding pasted overlaid
+front-over d s = ap (λ (k : ℕ). s ++ drop k d) (zero-add (length s))
+
+-- a list with zeros behind it has the bytes told
+pub length-pad : (n : ℕ) (l : List ℕ) → length l ≤ n → length (pad n l) ≡ n
+unfolding pad
+length-pad n l h = let z = length-replicate {A = ℕ} (n - length l) 0 in simp length-append (omega arith)

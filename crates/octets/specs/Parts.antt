@@ -25,3 +25,11 @@ cutOut d at k end = pasted d at (part (at + k) end d ++ replicate k 0)
 -- k zeros stand at `at`, the bytes up to end moved up behind them
 unfoldable pub spread : List ℕ → ℕ → ℕ → ℕ → List ℕ
 spread d at k end = pasted d at (replicate k 0 ++ part at end d)
+
+-- a lent buffer with s at its front; the bytes behind it are as they were
+unfoldable pub overlaid : List ℕ → List ℕ → List ℕ
+overlaid s d = s ++ drop (length s) d
+
+-- a list and zeros behind it, n bytes in all
+unfoldable pub pad : ℕ → List ℕ → List ℕ
+pad n l = l ++ replicate (n - length l) 0

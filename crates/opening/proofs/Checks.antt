@@ -26,7 +26,7 @@ use Rattle.rules.proofs.Grants.{Granted, grant-law}
 use Rattle.rules.proofs.Soundness.{opened-place, with-sound, fresh-sound, fresh-cells}
 use Rattle.rules.proofs.Sizes.{bearer-short}
 use Rattle.profile.proofs.Bits.{front-bearer, front-channels}
-use Rattle.session.specs.declared.Ended.the-variants.{Wrote}
+use Rattle.rules.specs.declared.Ended.the-variants.{Wrote}
 use Rattle.session.specs.Book.{freeIn}
 use Rattle.session.specs.Picture.{GoodIn, shown}
 use Rattle.session.specs.Calls.{Answers}

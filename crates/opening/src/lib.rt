@@ -23,7 +23,7 @@ ghost use Rattle.rules.specs.Checks.{_⇒_else_};
 ghost use Rattle.rules.specs.Table.{bearerFits};
 ghost use Rattle.rules.specs.Reading.{bearerIn};
 ghost use Rattle.rules.specs.Own.{bit1, opening, served, carriedBy};
-ghost use Rattle.session.specs.declared.Ended.the-variants.{Wrote};
+ghost use Rattle.rules.specs.declared.Ended.the-variants.{Wrote};
 ghost use Rattle.session.specs.Book.{ledgerSize};
 ghost use Rattle.session.specs.Picture.{GoodIn, shown};
 ghost use Rattle.session.specs.Calls.{Answers};

@@ -17,7 +17,7 @@ use Rattle.rules.specs.Sound.{Sound}
 use Rattle.rules.specs.State.{State}
 use Rattle.rules.specs.Own.{error, done, nothing, plain, listed, listing}
 use Rattle.rules.proofs.Laws.{stop, skip}
-use Rattle.session.specs.declared.Ended.the-variants.{Wrote}
+use Rattle.rules.specs.declared.Ended.the-variants.{Wrote}
 use Rattle.profile.proofs.Bits.{front-event}
 use Rattle.session.specs.Book.{withList}
 use Rattle.session.specs.Picture.{Shows, GoodIn, shown}

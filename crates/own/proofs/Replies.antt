@@ -18,12 +18,13 @@ use Rattle.rules.specs.Own.{Reply, Result, Further, reply, error, problem, done
 use Rattle.rules.specs.Written.{resultBytes, resultObjects, responseObjects, responseBytes, furtherObjects}
 use Rattle.rules.proofs.Laws.{stop, skip, not-not}
 use Rattle.rules.proofs.Soundness.{once-due, chan-sound, closed-sound, removed-sound, with-sound, same-sound, closed-cells}
+use Rattle.rules.specs.Command.{endedOf, writtenBy}
 use Rattle.octets.specs.Parts.{part}
 use Rattle.session.specs.declared.Channel.{Channel}
-use Rattle.session.specs.declared.Ended.the-variants.{Wrote}
+use Rattle.rules.specs.declared.Ended.the-variants.{Wrote}
 use Rattle.session.specs.Book.{entryIn}
 use Rattle.session.specs.Picture.{Shows, GoodIn, shown, entry, startIn}
-use Rattle.session.specs.Calls.{endedOf, writtenBy, Answers}
+use Rattle.session.specs.Calls.{Answers}
 use Rattle.session.specs.Changed.{Numbered, Changed}
 use Rattle.session.proofs.Facts.{place, entry-is, held-read}
 use Rattle.session.proofs.Views.{shows-good}

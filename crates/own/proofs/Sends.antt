@@ -22,7 +22,7 @@ use Rattle.rules.proofs.Soundness.{chan-sound, sent-sound, readied-sound, same-
 use Rattle.rules.proofs.Told.{whole-held}
 use Rattle.rules.specs.Sound.{SoundChan}
 use Rattle.session.specs.declared.Channel.{Channel}
-use Rattle.session.specs.declared.Ended.the-variants.{Wrote}
+use Rattle.rules.specs.declared.Ended.the-variants.{Wrote}
 use Rattle.session.specs.Book.{entryIn}
 use Rattle.session.specs.Picture.{linkOf, shown, entry}
 use Rattle.session.specs.Calls.{Answers}

@@ -5,8 +5,8 @@ use mathlib.Core.Path.{_≡_, refl, sym, ap, _∙_}
 use mathlib.Core.List.{List}
 use Rattle.outcomes.specs.Determined.{Determined}
 use Rattle.rules.specs.Command.{Answer}
-use Rattle.session.specs.declared.Ended.{Ended}
-use Rattle.session.specs.declared.Ended.the-variants.{Wrote, Refused}
+use Rattle.rules.specs.declared.Ended.{Ended}
+use Rattle.rules.specs.declared.Ended.the-variants.{Wrote, Refused}
 use Rattle.session.specs.Calls.{Answers}
 use Rattle.session.proofs.Alike.{ended-alike, lent-alike, pool-told, ledger-told}
 use Rattle.own.proofs.plain.Kinds as plain-kinds

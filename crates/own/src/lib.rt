@@ -32,7 +32,7 @@ ghost use Rattle.rules.specs.Profile.{profileSize, allowsEvent};
 ghost use Rattle.rules.specs.declared.Way.the-variants.{Send};
 ghost use Rattle.rules.specs.State.{isDropped, crowded};
 ghost use Rattle.rules.specs.Own.{plain, listing, closing, receiving, sending};
-ghost use Rattle.session.specs.declared.Ended.the-variants.{Wrote};
+ghost use Rattle.rules.specs.declared.Ended.the-variants.{Wrote};
 ghost use Rattle.session.specs.Picture.{GoodIn, linkOf, shown};
 ghost use Rattle.session.specs.Calls.{Answers};
 ghost use Rattle.session.specs.Book.{entryIn};

@@ -25,16 +25,17 @@ use Rattle.rules.specs.Run.{Call, arriving, takingOut, droppingLink, step}
 use Rattle.rules.specs.Sound.{Sound}
 use Rattle.rules.proofs.Laws.{branch, stop, skip, empty-length}
 use Rattle.rules.proofs.Soundness.{step-sound}
-use Rattle.octets.specs.Parts.{part, pasted}
+use Rattle.octets.specs.Parts.{part, pasted, overlaid}
+use Rattle.octets.proofs.Pastes.{front-over}
 use Rattle.session.specs.declared.Channel.{Channel}
-use Rattle.session.specs.declared.Ended.the-variants.{Wrote, Refused}
+use Rattle.rules.specs.declared.Ended.the-variants.{Wrote, Refused}
 use Rattle.session.specs.Book.{availableAt, statusAt, entryIn, withEntry, listed}
 use Rattle.session.specs.Picture.{entry, linkOf, carriesOf, startIn, shown}
-use Rattle.session.specs.Calls.{overlaid, Answers}
+use Rattle.session.specs.Calls.{Answers}
 use Rattle.session.specs.Changed.{chanIn, Changed, heldIn, Marks}
 use Rattle.session.proofs.Views.{link-back, carries-back}
 use Rattle.session.proofs.Facts.{bounds, removing, mark-law, held-read}
-use Rattle.session.proofs.Answers.{refuse-answers, wrote-answers, quiet-answers, front-over}
+use Rattle.session.proofs.Answers.{refuse-answers, wrote-answers, quiet-answers}
 use Rattle.radio.specs.Permits.{Usable, arrivalTold, dropTold}
 use Rattle.radio.proofs.Permits.{passing}
 

@@ -18,7 +18,7 @@ use Rattle.rules.specs.Command.{Answer, refusal}
 use Rattle.rules.specs.Radio.{numbered, arrival, taking, dropping}
 use Rattle.rules.proofs.Laws.{branch, stop, skip, not-not, both-left, both-right}
 use Rattle.session.specs.declared.Channel.{Channel}
-use Rattle.session.specs.declared.Ended.the-variants.{Refused}
+use Rattle.rules.specs.declared.Ended.the-variants.{Refused}
 use Rattle.session.specs.Book.{entryIn}
 use Rattle.session.specs.Picture.{linkNumber, entry, shown, GoodIn}
 use Rattle.session.specs.Calls.{Answers}

@@ -2,13 +2,13 @@
 use octets;
 use pool::Pool;
 use rules::ChannelNumber;
+use rules::Ended;
 use rules::Refusal;
 use rules::Way;
 use session::Answered;
 use session::Channel;
 use session::DROPPED;
 use session::ESTABLISHED;
-use session::Ended;
 use session::Ledger;
 use session::STREAM;
 use session::Session;
@@ -28,9 +28,10 @@ ghost use lib.ListN.{length};
 ghost use lib.Dec.{ltb};
 ghost use Rattle.rules.specs.State.{isStream};
 ghost use Rattle.rules.specs.Radio.{arrival, taking, dropping};
+ghost use Rattle.octets.specs.Parts.{overlaid};
 ghost use Rattle.session.specs.Book.{ledgerSize};
 ghost use Rattle.session.specs.Picture.{Good, GoodIn, carriesOf, shown, view};
-ghost use Rattle.session.specs.Calls.{overlaid, Answers};
+ghost use Rattle.session.specs.Calls.{Answers};
 ghost use Rattle.radio.specs.Permits.{permitIn, Usable, arrivalTold, dropTold};
 
 // The least buffer that an arrival or a drop is lent.

@@ -17,9 +17,8 @@ use Rattle.rules.specs.Own.{Further, error, problem, done, opened, received, se
 use Rattle.rules.specs.Written.{detailsBytes, bearerBytes, pairBytes, statusBytes, statusObject, furtherObjects, resultBytes, resultObjects, responseObjects, responseBytes}
 use Rattle.rules.proofs.Sizes.{length-bytes}
 use Rattle.octets.specs.Parts.{part, pasted}
-use Rattle.octets.proofs.Pastes.{paste-after, length-pasted}
+use Rattle.octets.proofs.Pastes.{paste-after, length-pasted, front-over}
 use Rattle.objects.proofs.Writing.{short-length}
-use Rattle.session.proofs.Answers.{front-over}
 use Rattle.responses.specs.Stands.{response, Stands}
 
 -- the head of a response, and that of one with a cause

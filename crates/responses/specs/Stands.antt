@@ -8,9 +8,9 @@ use Rattle.rules.specs.declared.Details.{Details}
 use Rattle.rules.specs.Checks.{_⇒_else_}
 use Rattle.rules.specs.Own.{Status, Result}
 use Rattle.rules.specs.Written.{responseBytes}
+use Rattle.octets.specs.Parts.{overlaid}
 use Rattle.session.specs.Book.{entryAt}
 use Rattle.session.specs.Picture.{linkOf}
-use Rattle.session.specs.Calls.{overlaid}
 
 -- the bytes of a response
 abbrev pub response : Details → Result → List ℕ

@@ -1,9 +1,11 @@
 -- The command call: R1, R2, the reading, and the response.
 use Prim.Native.Nat.{ℕ}
 use mathlib.Core.Bool.{_||_}
-use mathlib.Core.List.{List}
+use mathlib.Core.List.{List, []}
 use lib.ListN.{length}
 use lib.Dec.{ltb}
+use Rattle.rules.specs.declared.Ended.{Ended}
+use Rattle.rules.specs.declared.Ended.the-variants.{Wrote, Refused}
 use Rattle.rules.specs.declared.Refusal.{Refusal}
 use Rattle.rules.specs.declared.Refusal.the-variants.{ShortBuffer, CommandSize}
 use Rattle.rules.specs.Checks.{_⇒_else_, isEmpty}
@@ -16,6 +18,16 @@ use Rattle.rules.specs.Written.{Response, responseBytes}
 pub data Outcome : Type 0 where
   wrote : List ℕ → Outcome
   refused : Refusal → Outcome
+
+-- how a call ended, as the code tells it: the count of bytes written, or the refusal
+unfoldable pub endedOf : Outcome → Ended
+endedOf (wrote s) = Wrote (length s)
+endedOf (refused r) = Refused r
+
+-- the bytes that a call wrote; a refusal writes none
+unfoldable pub writtenBy : Outcome → List ℕ
+writtenBy (wrote s) = s
+writtenBy (refused r) = []
 
 -- the state after a call, and how the call ended
 pub record Answer : Type 0 where

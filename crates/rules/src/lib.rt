@@ -45,6 +45,12 @@ impl Refusal {
     }
 }
 
+// How a call ended: with so many bytes written, or refused.
+pub enum Ended {
+    Wrote(usize),
+    Refused(Refusal),
+}
+
 // The link of an open channel.
 pub enum Link {
     NotYet,

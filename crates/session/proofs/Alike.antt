@@ -6,7 +6,7 @@ use Prim.Native.Nat.{ℕ}
 use Rattle.rules.specs.State.{State}
 use Rattle.rules.specs.Command.{Answer}
 use Rattle.session.specs.declared.Session.{Session}
-use Rattle.session.specs.declared.Ended.{Ended}
+use Rattle.rules.specs.declared.Ended.{Ended}
 use Rattle.session.specs.declared.Answered.{Answered}
 use Rattle.session.specs.Picture.{Shows}
 use Rattle.session.specs.Calls.{Answers}

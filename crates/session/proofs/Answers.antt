@@ -1,18 +1,17 @@
 -- What a call hands back, by how it ends.
 -- Assumes nothing.
-use Prim.Native.Nat.{ℕ, _+_}
+use Prim.Native.Nat.{ℕ}
 use mathlib.Core.Path.{_≡_, refl, sym, ap, subst, _∙_}
-use mathlib.Core.List.{List, [], _++_}
-use native.Mathlib.Nat.{zero-add}
-use lib.ListN.{length, drop}
+use mathlib.Core.List.{List, []}
+use lib.ListN.{length}
 use Rattle.rules.specs.declared.Refusal.{Refusal}
 use Rattle.rules.specs.State.{State}
-use Rattle.rules.specs.Command.{Answer, answered, refusal}
+use Rattle.rules.specs.Command.{Answer, answered, refusal, endedOf, writtenBy}
 use Rattle.rules.specs.Sound.{Sound}
-use Rattle.octets.specs.Parts.{pasted}
-use Rattle.session.specs.declared.Ended.the-variants.{Wrote, Refused}
+use Rattle.octets.specs.Parts.{overlaid}
+use Rattle.rules.specs.declared.Ended.the-variants.{Wrote, Refused}
 use Rattle.session.specs.Picture.{shown, Shows, GoodIn}
-use Rattle.session.specs.Calls.{endedOf, writtenBy, overlaid, Answers}
+use Rattle.session.specs.Calls.{Answers}
 use Rattle.session.proofs.Views.{shows-good}
 
 -- a refusal leaves the session and the lent bytes
@@ -39,8 +38,3 @@ pub quiet-answers :
     (x : Answer) (b : State) (s t p out : List ℕ) → Sound (x .state) → x ≡ answered b s → s ≡ [] → Shows b t p →
     Answers x t p (Wrote 0) out out
 quiet-answers x b s t p out h e n w = wrote-answers x b [] t p out out h (e ∙ ap (answered b) n) w (nothing-lent out)
-
--- a paste at the front of a buffer lies over it
-pub front-over : (d s : List ℕ) → pasted d 0 s ≡ overlaid s d
-unfolding pasted overlaid
-front-over d s = ap (λ (k : ℕ). s ++ drop k d) (zero-add (length s))

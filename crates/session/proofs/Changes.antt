@@ -15,9 +15,9 @@ use Rattle.rules.specs.Pool.{poolSize, cells}
 use Rattle.rules.specs.Sound.{SoundChan, Sound}
 use Rattle.rules.proofs.Laws.{by-way}
 use Rattle.rules.proofs.Soundness.{once-due, chan-sound, removed-sound}
-use Rattle.octets.specs.Parts.{part, pasted, cutOut, spread}
+use Rattle.octets.specs.Parts.{part, pasted, cutOut, spread, pad}
 use Rattle.octets.proofs.Pastes.{cut-parts, spread-parts}
-use Rattle.session.specs.Picture.{space, pad, region, poolOf, offset}
+use Rattle.session.specs.Picture.{space, region, poolOf, offset}
 use Rattle.session.proofs.Regions.{Fits, held-space, length-region, front, rest, used, used-fits, used-parts, pool-split, pool-with, pool-same, way-put, way-cut, way-part, before, behind, ways, way-before, same-queue}
 
 abbrev zeros : ℕ → List ℕ

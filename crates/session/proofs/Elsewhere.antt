@@ -12,8 +12,9 @@ use Rattle.rules.specs.declared.Way.the-variants.{Receive, Send}
 use Rattle.rules.specs.State.{State, Chan, closed, chan, queue, held}
 use Rattle.rules.specs.Pool.{cellSize, poolSize, cells, promisedTo, promised, unpromised}
 use Rattle.rules.specs.Sound.{Each, SoundChan, Sound}
+use Rattle.octets.specs.Parts.{pad}
 use Rattle.session.specs.Book.{numbersOf, places, listedNumber}
-use Rattle.session.specs.Picture.{space, pad, region, regions, poolOf, linkNumber, carriesNumber, entry, chanNumbers, entriesOf, headsOf, ledgerOf, offset, shown, GoodIn}
+use Rattle.session.specs.Picture.{space, region, regions, poolOf, linkNumber, carriesNumber, entry, chanNumbers, entriesOf, headsOf, ledgerOf, offset, shown, GoodIn}
 use Rattle.session.specs.Cells.{HeldAt, SameLengths}
 use Rattle.session.proofs.Regions.{Fits, length-way, length-region}
 use Rattle.session.proofs.Owners.{first-start}

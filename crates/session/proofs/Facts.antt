@@ -26,7 +26,7 @@ use Rattle.rules.proofs.Laws.{by-way, stop, skip, each-take}
 use Rattle.rules.proofs.Datagrams.{Some, first}
 use Rattle.rules.proofs.Soundness.{once-due, chan-sound}
 use Rattle.octets.specs.Parts.{part, pasted, cutOut, spread}
-use Rattle.octets.proofs.Pastes.{length-pasted}
+use Rattle.octets.proofs.Pastes.{length-pasted, length-pad}
 use Rattle.session.specs.declared.Channel.{Channel}
 use Rattle.session.specs.Book.{freeAt, freeIn, ledgerSize, entryAt, numbersOf, entryIn, withEntry, lengthsAt, lengthsFrom, lengthsIn, places, withLength, lessLength, withList}
 use Rattle.session.specs.Picture.{space, regions, poolOf, linkNumber, linkOf, carriesNumber, entry, chanNumbers, ledgerOf, baseIn, offset, startIn, shown, Shows, GoodIn}
@@ -34,7 +34,7 @@ use Rattle.session.specs.Changed.{Numbered, chanIn, Changed, heldIn, due
 use Rattle.session.proofs.Places.{places-size, places-last}
 use Rattle.session.proofs.Ways.{paste-parts, way-read, way-get, way-more, way-first, way-less, wayFront, wayRest, way-parts, way-size, other-lengths}
 use Rattle.session.proofs.Ledgers.{closed-numbers, ledger-size, entry-read, free-read, base-read, list-written, before, behind, before-size, ledger-with, ledger-same, ledger-parts}
-use Rattle.session.proofs.Regions.{length-regions, length-pad, front, used, used-parts, used-fits, length-region, held-space, same-queue}
+use Rattle.session.proofs.Regions.{length-regions, front, used, used-parts, used-fits, length-region, held-space, same-queue}
 use Rattle.session.proofs.Views.{number-back, few-lengths}
 use Rattle.session.proofs.Changes.{appended-fits, appended-grant, appended-pool, counted-pool, removed-pool, removed-grant, counted-grant, held-part, closed-pool, opened-pool, marked-pool, due-held}
 

@@ -13,9 +13,9 @@ use Rattle.rules.specs.declared.Way.the-variants.{Receive, Send}
 use Rattle.rules.specs.State.{State, Chan, Queue, closed, chan, withChan, queue, withQueue, held}
 use Rattle.rules.specs.Pool.{cellSize, poolSize, cells, promisedTo, promised}
 use Rattle.rules.specs.Sound.{Each, SoundChan, Sound}
-use Rattle.octets.specs.Parts.{part, pasted, cutOut}
-use Rattle.octets.proofs.Pastes.{paste-parts, cut-parts}
-use Rattle.session.specs.Picture.{space, pad, region, regions, poolOf, offset}
+use Rattle.octets.specs.Parts.{part, pasted, cutOut, pad}
+use Rattle.octets.proofs.Pastes.{paste-parts, cut-parts, length-pad}
+use Rattle.session.specs.Picture.{space, region, regions, poolOf, offset}
 
 abbrev zeros : ℕ → List ℕ
 zeros n = replicate n 0
@@ -24,10 +24,6 @@ zeros n = replicate n 0
 pub held-space : (g n : ℕ) → n ≤ g → n ≤ space g
 unfolding space cells
 held-space g n h = omega arith
-
-pub length-pad : (n : ℕ) (l : List ℕ) → length l ≤ n → length (pad n l) ≡ n
-unfolding pad
-length-pad n l h = let z = length-replicate {A = ℕ} (n - length l) 0 in simp length-append (omega arith)
 
 -- a way: what is held, padded to its space, between two other parts
 module _ (x l w : List ℕ) (at n : ℕ) (e : length x ≡ at) where

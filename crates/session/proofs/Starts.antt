@@ -14,11 +14,11 @@ use Rattle.rules.specs.Profile.{profileSize, kept}
 use Rattle.rules.specs.Pool.{cellCount, poolSize, cells, promisedTo, promised, unpromised}
 use Rattle.rules.proofs.Soundness.{start-sound}
 use Rattle.rules.specs.State.{start, closed, queue}
-use Rattle.octets.specs.Parts.{part, pasted}
+use Rattle.octets.specs.Parts.{part, pasted, pad}
 use Rattle.octets.proofs.Copies.{length-part}
 use Rattle.session.specs.Book.{freeAt, ledgerSize, places}
 use Rattle.session.proofs.Ledgers.{set-behind}
-use Rattle.session.specs.Picture.{space, pad, region, regions, poolOf, entry, chanNumbers, entriesOf, headsOf, ledgerOf}
+use Rattle.session.specs.Picture.{space, region, regions, poolOf, entry, chanNumbers, entriesOf, headsOf, ledgerOf}
 
 zeros-drop : (a n : ℕ) → a ≤ n → drop a (replicate {A = ℕ} n 0) ≡ replicate (n - a) 0
 zeros-drop zero n h = ap (λ (k : ℕ). replicate k 0) (let e : n ≡ n - 0 = omega arith in e)

@@ -17,8 +17,9 @@ use Rattle.rules.specs.State.{State, Chan, queue, held, placesUsed, start}
 use Rattle.rules.specs.Pool.{poolSize}
 use Rattle.rules.specs.Sound.{Each, SoundChan, Sound}
 use Rattle.rules.proofs.Soundness.{start-sound}
+use Rattle.octets.specs.Parts.{pad}
 use Rattle.session.specs.Book.{entrySize, lengthsFrom, places}
-use Rattle.session.specs.Picture.{space, pad, region, regions, poolOf, linkNumber, linkOf, carriesNumber, carriesOf, entry, chanNumbers, entriesOf, ledgerOf, picture, chanFrom, chansFrom, shown, view, Shows, GoodIn, Good}
+use Rattle.session.specs.Picture.{space, region, regions, poolOf, linkNumber, linkOf, carriesNumber, carriesOf, entry, chanNumbers, entriesOf, ledgerOf, picture, chanFrom, chansFrom, shown, view, Shows, GoodIn, Good}
 use Rattle.session.proofs.Places.{places-size, places-read}
 use Rattle.session.proofs.Ledgers.{numbers-size, entries-behind, profile-before, available-read, status-read}
 use Rattle.session.proofs.Regions.{length-way, length-region}

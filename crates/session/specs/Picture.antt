@@ -2,7 +2,7 @@
 use Prim.Native.Nat.{ℕ, zero, suc, _+_, _-_, _*_}
 use mathlib.Core.Path.{_≡_}
 use mathlib.Core.List.{List, [], _∷_, _++_}
-use lib.ListN.{length, take, drop, getD, replicate}
+use lib.ListN.{length, take, drop, getD}
 use Rattle.rules.specs.declared.Carries.{Carries}
 use Rattle.rules.specs.declared.Carries.the-variants.{Stream, Datagrams}
 use Rattle.rules.specs.declared.ChannelNumber.{ChannelNumber}
@@ -15,6 +15,7 @@ use Rattle.rules.specs.Profile.{profileSize}
 use Rattle.rules.specs.State.{State, Chan, held}
 use Rattle.rules.specs.Pool.{cellSize, poolSize, cells, unpromised}
 use Rattle.rules.specs.Sound.{Sound}
+use Rattle.octets.specs.Parts.{pad}
 use Rattle.session.specs.declared.Channel.{Channel}
 use Rattle.session.specs.declared.Session.{Session}
 use Rattle.session.specs.Book.{availableAt, statusAt, channelsAt, entrySize, entryAt, entryFrom, numbersOf, lengthsIn-entry, lengthsFrom, places, listed, listedNumber}
@@ -22,10 +23,6 @@ use Rattle.session.specs.Book.{availableAt, statusAt, channelsAt, entryS
 -- the bytes of the cells that a grant promises each way
 unfoldable pub space : ℕ → ℕ
 space g = cellSize * cells g
-
--- a list and zeros behind it, n bytes in all
-unfoldable pub pad : ℕ → List ℕ → List ℕ
-pad n l = l ++ replicate (n - length l) 0
 
 -- a channel's cells: those for receive, then those for send; what is held stands at the front of its part
 unfoldable pub region : Chan → List ℕ

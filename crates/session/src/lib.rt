@@ -3,9 +3,9 @@ use octets;
 use pool::Pool;
 use rules::Carries;
 use rules::ChannelNumber;
+use rules::Ended;
 use rules::Events;
 use rules::Link;
-use rules::Refusal;
 use rules::Way;
 ghost use mathlib.Core.Path.{_≡_};
 ghost use Prim.Native.Nat.{_+_, _-_, _*_, _≤_, min};
@@ -73,12 +73,6 @@ pub struct Channel {
 pub struct Session {
     pub ledger: [u16; Ledger::SIZE],
     pub pool: [u8; Pool::SIZE],
-}
-
-// How a call ended: with so many bytes written, or refused.
-pub enum Ended {
-    Wrote(usize),
-    Refused(Refusal),
 }
 
 // What a call by value hands back.

@@ -7,12 +7,12 @@ use mathlib.Core.Option.{Option, none, some}
 use native.Mathlib.Omega.{arith}
 use lib.ListN.{length, take, drop, length-append, length-take, length-drop}
 use lib.Seq.{take-append-seam}
-use Rattle.rules.specs.Command.{Outcome, wrote, refused}
+use Rattle.rules.specs.Command.{Outcome, wrote, refused, endedOf, writtenBy}
 use Rattle.rules.specs.Lines.{hex, printed}
 use Rattle.rules.proofs.Laws.{branch}
-use Rattle.session.specs.declared.Ended.{Ended}
-use Rattle.session.specs.declared.Ended.the-variants.{Wrote, Refused}
-use Rattle.session.specs.Calls.{endedOf, writtenBy, overlaid}
+use Rattle.octets.specs.Parts.{overlaid}
+use Rattle.rules.specs.declared.Ended.{Ended}
+use Rattle.rules.specs.declared.Ended.the-variants.{Wrote, Refused}
 use Rattle.text.specs.Sizes.{keptCap, shortLine}
 use Rattle.text.specs.declared.Frame.{Frame}
 use Rattle.text.specs.declared.Frame.the-variants.{Bytes}

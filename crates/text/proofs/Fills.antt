@@ -12,8 +12,8 @@ use borrow.Author.Tests.{lt-ltb, le-ltb, not-true, not-false}
 use Rattle.rules.specs.Lines.{isDigit, digitValue, bytesOf, frameOf}
 use Rattle.rules.proofs.Laws.{stop, skip}
 use Rattle.octets.proofs.Copies.{Copied, copied-none, copied-more, copied-all}
-use Rattle.session.specs.Calls.{overlaid}
-use Rattle.session.proofs.Answers.{front-over}
+use Rattle.octets.specs.Parts.{overlaid}
+use Rattle.octets.proofs.Pastes.{front-over}
 use Rattle.text.specs.Sizes.{frameCap, digitCap}
 use Rattle.text.specs.declared.Frame.{Frame}
 use Rattle.text.specs.declared.Frame.the-variants.{Bytes, Unreadable}

@@ -12,8 +12,8 @@ use Rattle.rules.specs.Words.{numberOf}
 use Rattle.rules.specs.Command.{wrote, refused}
 use Rattle.rules.specs.Lines.{digitOf, hex, decimal, printed}
 use Rattle.rules.proofs.Laws.{stop, skip}
-use Rattle.session.specs.declared.Ended.{Ended}
-use Rattle.session.specs.declared.Ended.the-variants.{Wrote, Refused}
+use Rattle.rules.specs.declared.Ended.{Ended}
+use Rattle.rules.specs.declared.Ended.the-variants.{Wrote, Refused}
 use Rattle.text.specs.Sizes.{shortLine}
 use Rattle.text.specs.Prints.{lineOf, countOf, outcomeOf}
 use Rattle.text.proofs.Stores.{store-after}

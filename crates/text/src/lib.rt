@@ -1,16 +1,15 @@
 // Lines of text: gathered from chunks, read as frames and calls, and printed.
 use octets;
 use rules::ChannelNumber;
+use rules::Ended;
 use rules::Refusal;
-use session::Ended;
 ghost use mathlib.Core.Path.{_≡_};
 ghost use mathlib.Core.Bool.{true};
 ghost use Prim.Native.Nat.{_+_, _*_, _≤_, _<_};
 ghost use lib.ListN.{length, getD};
 ghost use Rattle.rules.specs.Command.{wrote, refused};
 ghost use Rattle.rules.specs.Lines.{isDigit, digitValue, digitOf, bytesOf, frameOf, callOf, hex};
-ghost use Rattle.octets.specs.Parts.{pasted};
-ghost use Rattle.session.specs.Calls.{overlaid};
+ghost use Rattle.octets.specs.Parts.{pasted, overlaid};
 ghost use Rattle.text.specs.Sizes.{frameCap, keptCap, shortLine};
 ghost use Rattle.text.specs.Frames.{readable, frameTold, frameBytes};
 ghost use Rattle.text.specs.Calls.{callSpoken};

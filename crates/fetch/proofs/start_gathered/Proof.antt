@@ -1,7 +1,7 @@
 -- `fetch::start_gathered` meets its contract: a record of zeros has nothing gathered.
 -- Assumes nothing.
+use Rattle.octets.specs.Parts.{pad}
 use Rattle.fetch.specs.Gathers.{gatheredOf}
-use Rattle.session.specs.Picture.{pad}
 use Rattle.fetch.proofs.start_gathered.Statement.{statement}
 use Rattle.fetch.proofs.start_gathered.Tie as tie
 
