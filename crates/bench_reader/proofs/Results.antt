@@ -10,7 +10,7 @@ use lib.Dec.{eqb}
 use borrow.Author.Tests.{eq-eqb, ne-eqb, eqb-false}
 use Rattle.rules.specs.declared.Details.{Details}
 use Rattle.rules.specs.Checks.{_⇒_else_, some-of, member, same}
-use Rattle.rules.specs.Table.{table, known}
+use Rattle.rules.specs.Table.{known}
 use Rattle.rules.specs.Written.{detailsBytes}
 use Rattle.rules.specs.Bench.{causeProper, successProper}
 use Rattle.rules.specs.Sound.{Each}
@@ -43,25 +43,6 @@ missing : (n : ℕ) (s : List ℕ) → Each (λ (x : ℕ). n ≡ x → ⊥) s �
 unfolding member some-of
 missing n [] h = refl
 missing n (x ∷ s) h = missing n s (h .1) ∙ ap (λ (b : Bool). b || member n s) (sym (ne-eqb n x (h .0)))
-
--- the seven types
-abbrev seven : List ℕ
-seven = 0x02 ∷ 0x05 ∷ 0x40 ∷ 0x41 ∷ 0x42 ∷ 0x43 ∷ 0x44 ∷ []
-
-module _ (t : ℕ) where
-  pub known-plain : (t ≡ 2) ⊎ (t ≡ 5) → true ≡ known t
-  unfolding known table
-  known-plain k = sure (known t) (λ e. let h = outside t seven e in ⊎-elim (h .0) (h .1 .0) k)
-
-  pub known-channel : 64 ≤ t → t < 69 → true ≡ known t
-  unfolding known table
-  known-channel l h =
-      sure (known t) (λ e.
-      let o = outside t seven e .1 .1 in omega (arith, o .0, o .1 .0, o .1 .1 .0, o .1 .1 .1 .0, o .1 .1 .1 .1 .0))
-
-  pub unknown : ((t ≡ 2) ⊎ (t ≡ 5) → ⊥) → Each (λ (x : ℕ). t ≡ x → ⊥) (0x40 ∷ 0x41 ∷ 0x42 ∷ 0x43 ∷ 0x44 ∷ []) → false ≡ known t
-  unfolding known table
-  unknown k h = missing t seven (λ e. k (inl e), (λ e. k (inr e), h))
 
 -- details of which two are zero
 pub qualifier-left : (d : Details) → d .number ≡ 0 → d .kind ≡ 0 → eqb (d .qualifier) 0 ≡ same (detailsBytes d) (0 ∷ 0 ∷ 0 ∷ [])

@@ -16,9 +16,9 @@ use Rattle.rules.specs.declared.Link.the-variants.{NotYet, Established, Dropped
 use Rattle.rules.specs.Checks.{_⇒_else_, same}
 use Rattle.rules.specs.Frames.{Object, walk, lengthBytes, objectBytes, written}
 use Rattle.rules.specs.Reading.{pairIn}
-use Rattle.rules.specs.Own.{Status, statuses, done}
-use Rattle.rules.specs.Written.{pairBytes, statusBytes, statusObject, statusObjects, furtherObjects}
-use Rattle.rules.specs.Bench.{rising, furtherProper, valueAt, statusIn, statusesIn, furtherIn, told}
+use Rattle.rules.specs.Own.{Status, statuses, reports, done}
+use Rattle.rules.specs.Written.{pairBytes, statusBytes, statusObject, statusObjects, furtherObjects, reportObjects}
+use Rattle.rules.specs.Bench.{rising, furtherProper, valueAt, statusIn, statusesIn, furtherIn, told, reportProper}
 use Rattle.rules.proofs.Laws.{stop, skip, both-left, both-right}
 use Rattle.rules.proofs.Forms.{same-refl, same-true, status-back}
 use Rattle.rules.proofs.Walks.{walk-end}
@@ -112,7 +112,7 @@ written-as = map (λ (st : Status). statusObject (st .number) (st .link))
 -- none, or a list of them
 module _ (d : Details) (x : ℕ) (s : List ℕ) (at : ℕ) {r : Two} (m : Double r s at 0x38 false) where
   pub statuses-missed : r ≡ two.Not → Hears (followed d 0x44 x (drop at s)) s Silence
-  unfolding followed furtherIn furtherProper furtherObjects _⇒_else_ statusObjects statusObject
+  unfolding followed furtherIn furtherProper furtherObjects reportObjects _⇒_else_ statusObjects statusObject
   statuses-missed e = silent _ _ _ _ (λ _ q. only (statusesIn (walk (drop at s) .objects)) q)
     where
       only : (ss : List Status) → drop at s ≡ written (statusObjects ss) → ⊥
@@ -129,7 +129,7 @@ module _ (d : Details) (x : ℕ) (s : List ℕ) (at : ℕ) {r : Two} (m : Double
     pub statuses-none :
         {g : ℕ} {y : Heard} → (g ≡ pairIn (a ∷ b ∷ [])) × (pairBytes g ≡ a ∷ b ∷ []) → g ≡ 0 →
         Hears (checked true [] (drop (next .at) s) (record { details = d; result = resultOf (Done x (Statuses (next .at) 0)) s })) s y → Hears (followed d 0x44 x (drop at s)) s y
-    unfolding followed furtherIn furtherProper furtherObjects _⇒_else_ statusesIn statusObjects valueAt same rising resultOf furtherOf statusesAt pairIn
+    unfolding followed furtherIn furtherProper reportProper furtherObjects reportObjects _⇒_else_ statusesIn statusObjects valueAt same rising resultOf furtherOf statusesAt pairIn
     statuses-none p q =
         let h = pair-there e m in
         let f : a ≡ 0 = omega (arith, p .0) in
@@ -137,7 +137,7 @@ module _ (d : Details) (x : ℕ) (s : List ℕ) (at : ℕ) {r : Two} (m : Double
         hears-as (rw (h .walked) (rw (f, g) (step-on h (named (omega arith)) _ _ _ (λ i. sym f i ∷ sym g i ∷ []))))
 
     statuses-listed : {y : Heard} → same (a ∷ b ∷ []) (0 ∷ 0 ∷ []) ≡ false → Hears (listed d x (drop at s)) s y → Hears (followed d 0x44 x (drop at s)) s y
-    unfolding followed furtherIn furtherProper furtherObjects _⇒_else_ statusesIn statusObjects valueAt listed
+    unfolding followed furtherIn furtherProper reportProper furtherObjects reportObjects _⇒_else_ statusesIn statusObjects valueAt listed
     statuses-listed f = hears-as (rw (pair-there e m .walked) (rw f))
 
     pub statuses-some :
@@ -251,7 +251,7 @@ module _ (d : Details) (x : ℕ) (s : List ℕ) {start at count last : ℕ} (r :
       let n : length ss ≡ count = omega (arith, r .place, r .within) in
       let all : ss ≡ statusesAt count (drop start s) = sym (statuses-back 0 ss (both-left _ _ t)) ∙ (λ i. statusesAt (n i) (sym e i)) in
       record {
-        is = stop _ _ _ t ∙ ap (λ (k : List Status). told (record { details = d; result = done x (statuses k) })) all;
+        is = stop _ _ _ t ∙ ap (λ (k : List Status). told (record { details = d; result = done x (reports (statuses k)) })) all;
         at = omega (arith, r .place, r .within);
       }
 

@@ -7,7 +7,7 @@ use native.Mathlib.Omega.{arith}
 use lib.ListN.{length, drop, length-drop}
 use Rattle.rules.specs.Reading.{bearerIn}
 use Rattle.rules.specs.Own as own
-use Rattle.rules.specs.Own.{Result, error, problem, done, opened, received, sent, statuses, nothing}
+use Rattle.rules.specs.Own.{Result, error, problem, done, opened, received, sent, statuses, reports, nothing}
 use Rattle.rules.specs.Bench.{Told, told, untold}
 use Rattle.octets.specs.Parts.{part}
 use Rattle.octets.proofs.Copies.{length-part}
@@ -34,7 +34,7 @@ further-in nothing n = Plain
 further-in (opened st b g) n = let k = length (b .parameters) + 1 in Opened (st .number) (st .link) (n - 4 - k) k g
 further-in (received v left) n = Received (n - 3 - length v) (length v) left
 further-in (sent room) n = Sent room
-further-in (statuses ss) n = Statuses (n - 4 * length ss) (length ss)
+further-in (reports (statuses ss)) n = Statuses (n - 4 * length ss) (length ss)
 
 further-back : (f : Further) (s : List ℕ) → FurtherAt f s → further-in (furtherOf f s) (length s) ≡ f
 unfolding further-in furtherOf bearerIn

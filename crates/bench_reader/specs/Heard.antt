@@ -6,7 +6,7 @@ use lib.ListN.{length, drop}
 use Rattle.rules.specs.declared.Refusal.the-variants.{NoResponse}
 use Rattle.rules.specs.Reading.{bearerIn}
 use Rattle.rules.specs.Own as own
-use Rattle.rules.specs.Own.{Status, Result, error, problem, done, opened, received, sent, statuses, nothing}
+use Rattle.rules.specs.Own.{Status, Result, error, problem, done, opened, received, sent, statuses, reports, nothing}
 use Rattle.rules.specs.Bench.{Told, told, untold, statusIn}
 use Rattle.octets.specs.Parts.{part}
 use Rattle.bench_reader.specs.declared.Further.{Further}
@@ -27,7 +27,7 @@ furtherOf Plain s = nothing
 furtherOf (Opened n link start len grant) s = opened (record { number = n; link = link }) (bearerIn (part start (start + len) s)) grant
 furtherOf (Received start len left) s = received (part start (start + len) s) left
 furtherOf (Sent room) s = sent room
-furtherOf (Statuses start count) s = statuses (statusesAt count (drop start s))
+furtherOf (Statuses start count) s = reports (statuses (statusesAt count (drop start s)))
 
 unfoldable pub resultOf : Verdict → List ℕ → Result
 resultOf (Error e) s = error e

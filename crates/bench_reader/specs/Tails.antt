@@ -11,7 +11,7 @@ use Rattle.rules.specs.Checks.{_⇒_else_, same}
 use Rattle.rules.specs.Frames.{Object, object, objectAt, walk, objectBytes, written}
 use Rattle.rules.specs.Pool.{grantCap}
 use Rattle.rules.specs.Reading.{pairIn, bearerIn}
-use Rattle.rules.specs.Own.{Status, opened, statuses, done}
+use Rattle.rules.specs.Own.{Status, opened, statuses, reports, done}
 use Rattle.rules.specs.Written.{Response, flagged, unflagged, pairBytes, bearerBytes, statusObject, furtherObjects, resultBytes, resultObjects}
 use Rattle.rules.specs.Bench.{bearerProper, rising, furtherProper, resultProper, valueAt, statusIn, furtherIn, resultIn, Told, told, untold}
 use Rattle.objects.specs.Places.{objectOf}
@@ -117,7 +117,7 @@ borne d x st t =
 unfoldable pub listed : Details → ℕ → List ℕ → Told
 listed d x t =
     let ss = map (λ (o : Object). statusIn (o .value)) (walk t .objects) in
-    checked (rising 0 ss) (map (λ (st : Status). statusObject (st .number) (st .link)) ss) t (record { details = d; result = done x (statuses ss) })
+    checked (rising 0 ss) (map (λ (st : Status). statusObject (st .number) (st .link)) ss) t (record { details = d; result = done x (reports (statuses ss)) })
 
 -- what the reader answers says what the bench reads
 pub record Hears (t : Told) (s : List ℕ) (r : heard.Heard) : Type 0 where

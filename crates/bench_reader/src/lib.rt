@@ -4,6 +4,7 @@ use objects::Found;
 use rules::ChannelNumber;
 use rules::Details;
 use rules::Link;
+use rules::is_known;
 ghost use mathlib.Core.Path.{_≡_};
 ghost use mathlib.Core.Bool.{true};
 ghost use mathlib.Core.List.{[], _∷_};
@@ -11,7 +12,6 @@ ghost use Prim.Native.Nat.{_%_, _≤_};
 ghost use lib.ListN.{length, drop};
 ghost use lib.Dec.{leb};
 ghost use Rattle.rules.specs.Checks.{same};
-ghost use Rattle.rules.specs.Table.{known};
 ghost use Rattle.rules.specs.Reading.{pairIn};
 ghost use Rattle.rules.specs.Written.{pairBytes, detailsBytes};
 ghost use Rattle.rules.specs.Bench.{errorProper, causeProper, successProper, benchRead};
@@ -110,16 +110,6 @@ fn pair_of(s: &[u8], c: Cursor, tag: u8) -> Two
         return Two::Not;
     }
     Two::Bytes(s[at], s[at + 1], next)
-}
-
-// Whether a type is one of the seven.
-fn is_known(kind: u8) -> bool
-    ensures { λ r. ⌜ r ≡ known kind ⌝ }
-{
-    match kind {
-        0x02 | 0x05 | 0x40 | 0x41 | 0x42 | 0x43 | 0x44 => true,
-        _ => false,
-    }
 }
 
 // Whether the details are 00 00 00.

@@ -1,18 +1,17 @@
 -- The checks of a record: from where to where, a bearer, and how many bytes the values take.
 -- Assumes nothing.
-use Prim.Native.Nat.{ℕ, suc, _+_, _≤_, _<_}
-use mathlib.Core.Path.{_≡_, refl, sym, ap, _∙_}
-use mathlib.Core.Logic.{_⊎_, inl, inr, ⊎-elim}
+use Prim.Native.Nat.{ℕ, suc, _+_, _≤_}
+use mathlib.Core.Path.{_≡_, refl, ap, _∙_}
+use mathlib.Core.Logic.{_⊎_, ⊎-elim}
 use mathlib.Core.Bool.{Bool, true, false, _&&_, _||_}
 use mathlib.Core.List.{List, [], _∷_}
 use native.Mathlib.Omega.{arith}
 use lib.ListN.{length, length-append}
 use lib.Dec.{leb, eqb}
-use borrow.Author.Tests.{le-leb, lt-leb, ne-eqb, eqb-true, leb-true}
-use Rattle.rules.specs.declared.DeviceIdentity.{DeviceIdentity}
-use Rattle.rules.specs.Checks.{_⇒_else_, isEmpty, some-of, member}
+use borrow.Author.Tests.{le-leb, ne-eqb, eqb-true, leb-true}
+use Rattle.rules.specs.Checks.{_⇒_else_, isEmpty}
 use Rattle.rules.specs.Frames.{lengthBytes, objectBytes, written}
-use Rattle.rules.specs.Reading.{Bearer, toModem, addressed}
+use Rattle.rules.specs.Reading.{Bearer}
 use Rattle.rules.specs.Written.{flagged, pairBytes}
 use Rattle.rules.specs.Bench.{bearerProper, bodyProper, transportObjects, bodyObjects}
 use Rattle.rules.proofs.Sizes.{length-bytes}
@@ -20,37 +19,10 @@ use Rattle.rules.proofs.Laws.{either, both-right}
 use Rattle.bench_writer.specs.declared.Level.{Level}
 use Rattle.bench_writer.specs.declared.Level.the-variants.{Without, With}
 use Rattle.bench_writer.specs.declared.Asking.{Asking}
-use Rattle.bench_writer.specs.declared.Asking.the-variants.{MoreTime, EventList, Open, Close, Receive, Send, Status, Other}
+use Rattle.bench_writer.specs.declared.Asking.the-variants.{Bare, EventList, Open, Close, Receive, Send}
 use Rattle.bench_writer.specs.Records.{levelOf, bodyOf}
 use Rattle.bench_writer.specs.Wrote.{valueCap, bodyCap}
 use Rattle.bench_writer.proofs.Writes.{behindBearer, opening-form}
-
--- from where to where
-module _ (t : ℕ) (from to : DeviceIdentity) where
-  pub not-card : (from .0 ≡ 0x81 → ⊥) → false ≡ addressed t from to
-  unfolding addressed
-  not-card h = simp (ne-eqb (from .0) 0x81 h)
-
-  module _ (h : from .0 ≡ 0x81) where
-    pub to-modem : (t ≡ 2) ⊎ ((t ≡ 5) ⊎ ((t ≡ 64) ⊎ (t ≡ 68))) → eqb (to .0) 0x82 ≡ addressed t from to
-    unfolding addressed toModem member some-of _⇒_else_
-    to-modem k =
-        ⊎-elim (λ (e : t ≡ 2). simp (e, h))
-        (⊎-elim (λ (e : t ≡ 5). simp (e, h)) (⊎-elim (λ (e : t ≡ 64). simp (e, h)) (λ (e : t ≡ 68). simp (e, h)))) k
-
-    module _ (k : (t ≡ 2) ⊎ ((t ≡ 5) ⊎ ((t ≡ 64) ⊎ (t ≡ 68))) → ⊥) where
-      to-channel : leb 0x21 (to .0) && leb (to .0) 0x27 ≡ addressed t from to
-      unfolding addressed toModem member some-of _⇒_else_
-      to-channel =
-          simp (h, ne-eqb t 2 (λ e. k (inl e)), ne-eqb t 5 (λ e. k (inr (inl e))), ne-eqb t 64 (λ e. k (inr (inr (inl e)))), ne-eqb t 68 (λ e. k (inr (inr (inr e)))))
-
-      pub below-channels : to .0 < 0x21 → leb 0x21 (to .0) ≡ addressed t from to
-      below-channels l =
-          let e = lt-leb 0x21 (to .0) l in
-          e ∙ sym (ap (λ (b : Bool). b && leb (to .0) 0x27) e) ∙ to-channel
-
-      pub from-channels : 0x21 ≤ to .0 → leb (to .0) 0x27 ≡ addressed t from to
-      from-channels l = sym (ap (λ (b : Bool). b && leb (to .0) 0x27) (le-leb 0x21 (to .0) l)) ∙ to-channel
 
 -- a bearer and its parameters
 or-false : (b : Bool) → b ≡ b || false
@@ -117,7 +89,7 @@ value-sized n v e = let l = length-bytes (length v) in omega (arith, value-size 
 -- values that the bench writes take at most so many bytes
 pub body-sized : (a : Asking) (s : List ℕ) → bodyProper (bodyOf a s) ≡ true → length (written (bodyObjects (bodyOf a s))) ≤ bodyCap
 unfolding bodyProper bodyObjects bodyOf written
-body-sized MoreTime s e = omega arith
+body-sized (Bare kind) s e = omega arith
 body-sized EventList s e = value-sized 0x19 s e
 body-sized (Open kind size level) s e =
     let b = bearer-sized kind s e in
@@ -126,5 +98,3 @@ body-sized (Open kind size level) s e =
 body-sized Close s e = omega arith
 body-sized (Receive n) s e = value-sized 0x37 (n ∷ []) (le-leb 1 valueCap (omega arith))
 body-sized Send s e = value-sized 0x36 s e
-body-sized Status s e = omega arith
-body-sized (Other kind) s e = omega arith

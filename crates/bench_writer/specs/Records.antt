@@ -2,11 +2,11 @@
 use Prim.Native.Nat.{ℕ}
 use mathlib.Core.List.{List}
 use mathlib.Core.Option.{Option, none, some}
-use Rattle.rules.specs.Reading.{Transport, Body, Command, moreTime, eventList, openChannel, closeChannel, receiveData, sendData, channelStatus, other}
+use Rattle.rules.specs.Reading.{Transport, Body, Command, bare, eventList, openChannel, closeChannel, receiveData, sendData}
 use Rattle.bench_writer.specs.declared.Level.{Level}
 use Rattle.bench_writer.specs.declared.Level.the-variants.{Without, With}
 use Rattle.bench_writer.specs.declared.Asking.{Asking}
-use Rattle.bench_writer.specs.declared.Asking.the-variants.{MoreTime, EventList, Open, Close, Receive, Send, Status, Other}
+use Rattle.bench_writer.specs.declared.Asking.the-variants.{Bare, EventList, Open, Close, Receive, Send}
 use Rattle.bench_writer.specs.declared.Record.{Record}
 
 -- a transport level, where there is one
@@ -16,14 +16,12 @@ levelOf (With protocol port) = some (record { protocol = protocol; port = port }
 
 -- the values that a type has; the bytes are the event list, the bearer's parameters or the data
 unfoldable pub bodyOf : Asking → List ℕ → Body
-bodyOf MoreTime s = moreTime
+bodyOf (Bare kind) s = bare kind
 bodyOf EventList s = eventList s
 bodyOf (Open kind size level) s = openChannel (record { kind = kind; parameters = s }) size (levelOf level)
 bodyOf Close s = closeChannel
 bodyOf (Receive n) s = receiveData n
 bodyOf Send s = sendData s
-bodyOf Status s = channelStatus
-bodyOf (Other kind) s = other kind
 
 -- the record as a command
 unfoldable pub commandOf : Record → List ℕ → Command

@@ -4,13 +4,17 @@ use octets;
 use rules::DeviceIdentity;
 use rules::Ended;
 use rules::Refusal;
+use rules::is_addressed;
+use rules::lists;
 ghost use mathlib.Core.Path.{_≡_};
 ghost use mathlib.Core.Bool.{true};
 ghost use mathlib.Core.List.{List, _∷_, _++_};
 ghost use Prim.Native.Nat.{ℕ, _+_, _≤_};
 ghost use lib.ListN.{length};
 ghost use Rattle.rules.specs.Frames.{lengthBytes, written};
-ghost use Rattle.rules.specs.Reading.{kindOf, addressed};
+ghost use Rattle.rules.specs.Checks.{member};
+ghost use Rattle.rules.specs.Reading.{kindOf};
+ghost use Rattle.rules.specs.Own.{bareTypes};
 ghost use Rattle.rules.specs.Bench.{bearerProper, bodyProper, transportObjects, bodyObjects, benchWrite};
 ghost use Rattle.rules.specs.Command.{endedOf, writtenBy};
 ghost use Rattle.octets.specs.Parts.{overlaid};
@@ -28,16 +32,14 @@ pub enum Level {
     With(u8, u16),
 }
 
-// What a record asks, with the values that its type has. The event list, the bearer's parameters or the data are lent beside it.
+// What a record asks, with the values that its type has; one without values by its type. The event list, the bearer's parameters or the data are lent beside it.
 pub enum Asking {
-    MoreTime,
+    Bare(u8),
     EventList,
     Open(u8, u16, Level),
     Close,
     Receive(u8),
     Send,
-    Status,
-    Other(u8),
 }
 
 // A record: the command's number, its qualifier, from where it comes and where it goes, and what it asks.
@@ -54,28 +56,21 @@ fn kind_of(asking: Asking) -> u8
     ensures { λ r. ⌜ ((s : List ℕ) → r ≡ kindOf (bodyOf asking s)) ⌝ }
 {
     match asking {
-        Asking::MoreTime => 0x02,
+        Asking::Bare(kind) => kind,
         Asking::EventList => 0x05,
         Asking::Open(_, _, _) => 0x40,
         Asking::Close => 0x41,
         Asking::Receive(_) => 0x42,
         Asking::Send => 0x43,
-        Asking::Status => 0x44,
-        Asking::Other(kind) => kind,
     }
 }
 
-// Whether a command of a type comes from the card, 81, and goes to the modem, 82, or to a channel, 21 to 27.
-fn is_addressed(kind: u8, source: DeviceIdentity, destination: DeviceIdentity) -> bool
-    ensures { λ r. ⌜ r ≡ addressed kind source destination ⌝ }
+// Whether a type without values is one that the bench writes.
+fn is_bare(kind: u8) -> bool
+    ensures { λ r. ⌜ r ≡ member kind bareTypes ⌝ }
 {
-    if source.0 != 0x81 {
-        return false;
-    }
-    match kind {
-        0x02 | 0x05 | 0x40 | 0x44 => destination.0 == 0x82,
-        _ => 0x21 <= destination.0 && destination.0 <= 0x27,
-    }
+    let types = [0x02u8, 0x44];
+    lists(&types, kind)
 }
 
 // Whether a bearer is of type 02 with 6 bytes, or of type 03 with none.
@@ -94,14 +89,12 @@ fn is_proper(asking: Asking, bytes: &[u8]) -> bool
     ensures { λ r. ⌜ r ≡ bodyProper (bodyOf asking (now (bytes .entry))) ⌝ }
 {
     match asking {
-        Asking::MoreTime => true,
+        Asking::Bare(kind) => is_bare(kind),
         Asking::EventList => bytes.len() <= VALUE_CAP,
         Asking::Open(kind, _, _) => fits_bearer(kind, bytes),
         Asking::Close => true,
         Asking::Receive(_) => true,
         Asking::Send => bytes.len() <= VALUE_CAP,
-        Asking::Status => true,
-        Asking::Other(_) => false,
     }
 }
 
@@ -132,14 +125,12 @@ fn body_size(asking: Asking, bytes: &[u8]) -> usize
     ensures { λ r. ⌜ r ≡ length (written (bodyObjects (bodyOf asking (now (bytes .entry))))) ⌝ }
 {
     match asking {
-        Asking::MoreTime => 0,
+        Asking::Bare(_) => 0,
         Asking::EventList => object_size(bytes.len()),
         Asking::Open(_, _, level) => 7 + bytes.len() + level_size(level),
         Asking::Close => 0,
         Asking::Receive(_) => 3,
         Asking::Send => object_size(bytes.len()),
-        Asking::Status => 0,
-        Asking::Other(_) => 0,
     }
 }
 
@@ -215,7 +206,7 @@ fn write_body(out: &mut [u8], at: usize, asking: Asking, bytes: &[u8]) -> usize
     ensures { λ r. ⌜ Wrote (written (bodyObjects (bodyOf asking (now (bytes .entry))))) at r (now (out .entry)) (now (out .exit)) ⌝ }
 {
     match asking {
-        Asking::MoreTime => at,
+        Asking::Bare(_) => at,
         Asking::EventList => write_object(out, at, 0x99, bytes),
         Asking::Open(kind, size, level) => write_opening(out, at, kind, size, level, bytes),
         Asking::Close => at,
@@ -224,8 +215,6 @@ fn write_body(out: &mut [u8], at: usize, asking: Asking, bytes: &[u8]) -> usize
             write_object(out, at, 0xB7, &value)
         }
         Asking::Send => write_object(out, at, 0xB6, bytes),
-        Asking::Status => at,
-        Asking::Other(_) => at,
     }
 }
 

@@ -8,7 +8,7 @@ use lib.Seq.{take-append-seam}
 use Rattle.rules.specs.declared.ChannelNumber.{ChannelNumber}
 use Rattle.rules.specs.State.{State, start}
 use Rattle.rules.specs.Command.{Outcome, wrote, refused, Answer, endedOf, writtenBy}
-use Rattle.rules.specs.Run.{Call, starting, commanding, arriving, takingOut, droppingLink, step, after}
+use Rattle.rules.specs.Run.{Call, starting, commanding, step, after, radio}
 use Rattle.rules.specs.History.{Exchange, history, callsOf, seenFrom}
 use Rattle.rules.specs.Pool.{unpromised}
 use Rattle.rules.specs.Demands.{Follows, freeBy}
@@ -53,10 +53,8 @@ stepped : (s : Session) (c : Call) (t : Session) (o : Outcome) → Good s → Ca
 unfolding step
 stepped s (starting p) t o g h =
     record { good = h .good; shows = shows-back (start p) (t .ledger) (t .pool) (start-sound p) (h .shows); seen = h .seen }
-stepped s (commanding buffer c) t o g h = left-stepped s (commanding buffer c) buffer t o g h
-stepped s (arriving buffer n c) t o g h = left-stepped s (arriving buffer n c) buffer t o g h
-stepped s (takingOut buffer n) t o g h = left-stepped s (takingOut buffer n) buffer t o g h
-stepped s (droppingLink buffer n) t o g h = left-stepped s (droppingLink buffer n) buffer t o g h
+stepped s (commanding terms c) t o g h = left-stepped s (commanding terms c) (terms .buffer) t o g h
+stepped s (radio buffer n act) t o g h = left-stepped s (radio buffer n act) buffer t o g h
 
 -- a list of calls: the record after them is good and shows the run of the definitions, and what was seen is what they say
 pub record Ran (a : State) (es : List Exchange) (t : Session) : Type 0 where

@@ -4,10 +4,10 @@ use mathlib.Core.Path.{_≡_}
 use mathlib.Core.List.{List, [], _∷_}
 use lib.ListN.{length}
 use Rattle.rules.specs.State.{start}
-use Rattle.rules.specs.Command.{Outcome, wrote, Answer, command}
+use Rattle.rules.specs.Command.{Outcome, wrote, Answer, command, Terms}
 use Rattle.rules.specs.Fetch.{Fetched}
-use Rattle.rules.specs.Radio.{arrival, taking, dropping}
-use Rattle.rules.specs.Run.{Call, starting, commanding, arriving, takingOut, droppingLink}
+use Rattle.rules.specs.Radio.{radioCall}
+use Rattle.rules.specs.Run.{Call, starting, commanding, radio}
 use Rattle.rules.specs.History.{Exchange}
 use Rattle.session.specs.declared.Session.{Session}
 use Rattle.rules.specs.declared.Ended.{Ended}
@@ -35,10 +35,8 @@ pub record Started (p : List ℕ) (t : Session) (o : Outcome) : Type 0 where
 -- the record t follows from the record s by the contract of a call, which ended so
 abbrev pub Called : Session → Call → Session → Outcome → Type 0
 Called s (starting p) t o = Started p t o
-Called s (commanding buffer c) t o = Left (command (view s) buffer c) buffer t o
-Called s (arriving buffer n c) t o = Left (arrival (view s) buffer n c) buffer t o
-Called s (takingOut buffer n) t o = Left (taking (view s) buffer n) buffer t o
-Called s (droppingLink buffer n) t o = Left (dropping (view s) buffer n) buffer t o
+Called s (commanding terms c) t o = Left (command (view s) terms c) (terms .buffer) t o
+Called s (radio buffer n act) t o = Left (radioCall (view s) buffer n act) buffer t o
 
 -- the record t follows from s by these calls, which ended so
 abbrev pub Runs : Session → List Exchange → Session → Type 0
@@ -62,7 +60,7 @@ pub record Burst (f : Fetched) (buffer : ℕ) (t : Session) (r : List ℕ) (o : 
   pub count : left ≡ length (f .left)
 
 -- a burst over the record s and the gathered record g: the record t follows by what is seen of it, what is gathered is what was seen, and the record of that may be lent to the next burst
-pub record BurstFollows (s : Session) (g : List ℕ) (buffer : ℕ) (bytes : List ℕ) (t : Session) (r : List ℕ) (o : Outcome) (left : ℕ) : Type 0 where
-  pub runs : Runs s (burstSeen buffer (gatheredIn g) bytes left o) t
+pub record BurstFollows (s : Session) (g : List ℕ) (terms : Terms) (bytes : List ℕ) (t : Session) (r : List ℕ) (o : Outcome) (left : ℕ) : Type 0 where
+  pub runs : Runs s (burstSeen terms (gatheredIn g) bytes left o) t
   pub gathered : gatheredIn r ≡ gatheredBy (gatheredIn g) bytes o
   pub gathers : Gathers r

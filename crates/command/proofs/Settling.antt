@@ -1,31 +1,31 @@
--- The end of a reading: the devices, the size and the protocol of OPEN CHANNEL, and what is asked.
+-- The end of a reading: the devices, the places of the values, and what is asked.
 -- Assumes nothing.
 use Prim.Native.Nat.{ℕ, _+_, _-_, _*_, _≤_, _<_}
 use mathlib.Core.Path.{_≡_, refl, sym, ap, subst, _∙_}
 use mathlib.Core.Bool.{Bool, true, false, not}
 use mathlib.Core.List.{List}
-use mathlib.Core.Option.{none, some}
+use mathlib.Core.Option.{Option, none, some}
 use native.Mathlib.Omega.{arith}
 use lib.ListN.{length, getD}
 use lib.Dec.{eqb}
-use borrow.Author.Tests.{eqb-true, eqb-false, eq-eqb, ne-eqb, not-true, not-false}
+use borrow.Author.Tests.{eqb-true, eqb-false, ne-eqb, not-true, not-false}
 use Rattle.rules.specs.declared.Details.{Details}
 use Rattle.rules.specs.Checks.{_⇒_else_, some-of, member}
 use Rattle.rules.specs.Frames.{Object, walk}
 use Rattle.rules.specs.Table.{rowOf, present, valueOf, lengthFits}
-use Rattle.rules.specs.Reading.{Body, eventList, openChannel, receiveData, sendData, transportIn, pairIn, bearerIn, bodyIn, commandIn, addressed, readObjects, wrong}
-use Rattle.rules.specs.Own.{protocolOf}
-use Rattle.rules.proofs.Laws.{branch, stop, skip}
-use Rattle.rules.proofs.Readings.{value-fits, body-cases}
+use Rattle.rules.specs.Reading.{Transport, bare, eventList, openChannel, receiveData, sendData, transportIn, pairIn, bearerIn, bodyIn, commandIn, addressed, readObjects, wrong}
+use Rattle.rules.specs.Own.{bareTypes, protocolOf}
+use Rattle.rules.proofs.Laws.{branch, stop, skip, each-member}
+use Rattle.rules.proofs.Readings.{value-fits}
 use Rattle.octets.specs.Parts.{part}
 use Rattle.objects.specs.Places.{placeOf}
 use Rattle.command.specs.declared.Handler.{Handler}
-use Rattle.command.specs.declared.Handler.the-variants.{MoreTime, EventList, Open, Close, Receive, Send, Status}
+use Rattle.command.specs.declared.Handler.the-variants.{Bare, EventList, Open, Close, Receive, Send}
 use Rattle.command.specs.declared.Plan.{Plan}
 use Rattle.command.specs.declared.Request.{Request}
 use Rattle.command.specs.declared.Sorted.{Sorted}
-use Rattle.command.specs.Plans.{handlerKind, ownNumber, needed, besidesBy, timesBy}
-use Rattle.command.specs.Requests.{theDetails, theObjects, theCommand, sizeOf, protocolIn, sizeBy, protocolBy, BodyIs, StandsAt, AskedFor, Typed, Fitted, addressedBy}
+use Rattle.command.specs.Plans.{handles, ownNumber, furtherNumber, needed, besidesBy, timesBy}
+use Rattle.command.specs.Requests.{theDetails, theObjects, theCommand, sizeAt, protocolAt, BodyIs, placeOrNone, StandsAt, AskedFor, Typed, Fitted}
 use Rattle.command.proofs.Counting.{Alike, alike}
 use Rattle.command.proofs.Known.{known-misaddressed, known-asked, fit, needed-there, needed-value, needed-fits}
 use Rattle.command.proofs.Lengths.{part-first, part-at}
@@ -42,21 +42,8 @@ module _ {at n : ℕ} {s : List ℕ} (w : StandsAt at s n) {k : ℕ} (l : length
   byte-at : (i : ℕ) → i + 1 ≤ k → getD (valueOf n (walk s .objects)) i 0 ≡ getD s (at + i) 0
   byte-at i h = ap (λ (v : List ℕ). getD v i 0) (w .value) ∙ part-at s at (length (valueOf n (walk s .objects))) i (omega arith)
 
--- what the values of a type ask for: no size and TCP, but for OPEN CHANNEL
+-- the values of a type, by its number
 module _ (d : Details) (os : List Object) where
-  module _ (h : d .kind ≡ 0x40 → ⊥) where
-    no-size : 0 ≡ sizeOf (bodyIn d os)
-    unfolding sizeOf
-    no-size =
-        body-cases (λ (b : Body). 0 ≡ sizeOf b) d os (λ _. refl) (λ _. refl) (λ e. absurd (h e)) (λ _. refl) (λ _. refl) (λ _. refl) (λ _. refl) (λ _. refl)
-
-    no-protocol : 0x02 ≡ protocolIn (bodyIn d os)
-    unfolding protocolIn
-    no-protocol =
-        body-cases (λ (b : Body). 0x02 ≡ protocolIn b) d os (λ _. refl) (λ _. refl) (λ e. absurd (h e)) (λ _. refl) (λ _. refl) (λ _. refl) (λ _. refl)
-        (λ _. refl)
-
-  -- the values of a type, by its number
   body-at : (k : ℕ) → d .kind ≡ k → bodyIn d os ≡ bodyIn (record { number = d .number; kind = k; qualifier = d .qualifier }) os
   body-at k e = λ i. bodyIn (record { number = d .number; kind = e i; qualifier = d .qualifier }) os
 
@@ -87,14 +74,11 @@ module _ {s : List ℕ} {d : Details} {plan : Plan} {v : Sorted} (z : Fitted s d
 
   by-bytes :
       addressed (theDetails s .kind) (theCommand s .source) (theCommand s .destination) ≡
-      addressedBy (plan .modem) (getD s (v .devices) 0) (getD s (v .devices + 1) 0)
-  unfolding addressed
-  by-bytes =
-      (λ i. addressed (theDetails s .kind) (source-is i) (destination-is i))
-      ∙ ap (λ (m : Bool). addressedBy m (getD s (v .devices) 0) (getD s (v .devices + 1) 0)) (sym (z .begun .planned .modem-is))
+      addressed (d .kind) (record { 0 = getD s (v .devices) 0 }) (record { 0 = getD s (v .devices + 1) 0 })
+  by-bytes = λ i. addressed (z .begun .details i .kind) (source-is i) (destination-is i)
 
   pub settle-wrong :
-      {b : Bool} → b ≡ addressedBy (plan .modem) (getD s (v .devices) 0) (getD s (v .devices + 1) 0) → not b ≡ true →
+      {b : Bool} → b ≡ addressed (d .kind) (record { 0 = getD s (v .devices) 0 }) (record { 0 = getD s (v .devices + 1) 0 }) → not b ≡ true →
       (p : List ℕ) → Typed p s → readObjects p s ≡ wrong d 0x32
   settle-wrong {b} e f = known-misaddressed z (by-bytes ∙ sym e ∙ not-true b f)
 
@@ -110,18 +94,20 @@ module _ {s : List ℕ} {d : Details} {plan : Plan} {v : Sorted} (z : Fitted s d
   pub own-within : v .own ≤ length s
   own-within = omega (arith, z .begun .sorted .own .within)
 
+  -- the further object, which a row of its own may have
+  needs-further : member (plan .row .further) (needed (plan .row)) ≡ true
+  needs-further = further-needed (plan .row .own) (plan .row .further)
+
   -- an OPEN CHANNEL has its size in two bytes, and its transport level in three where one stands
-  module _ (o : plan .row .opening ≡ true) where
-    open-body : theCommand s .body ≡ bodyIn (record { number = theDetails s .number; kind = 0x40; qualifier = theDetails s .qualifier }) counts
-    unfolding commandIn
-    open-body = body-at (theDetails s) counts 0x40 (eqb-true (theDetails s .kind) 0x40 (sym (z .begun .planned .opening-is) ∙ o))
+  module _ (h : plan .handler ≡ Open) where
+    o : plan .row .opening ≡ true
+    o = z .begun .planned .opening-is ∙ subst (λ (k : Handler). handles k (theDetails s .kind) ≡ true) h (z .begun .planned .kind-is)
 
     further-is : plan .row .further ≡ 0x39
-    further-is = z .begun .planned .size-is o
+    further-is = z .begun .planned .further-is ∙ ap furtherNumber h
 
     size-needed : member 0x39 (needed (plan .row)) ≡ true
-    size-needed =
-        subst (λ (n : ℕ). member n (needed (plan .row)) ≡ true) further-is (further-needed (plan .row .own) (plan .row .further))
+    size-needed = subst (λ (n : ℕ). member n (needed (plan .row)) ≡ true) further-is needs-further
 
     size-stands : StandsAt (v .further) s 0x39
     size-stands = subst (λ (n : ℕ). StandsAt (v .further) s n) further-is (z .begun .sorted .further)
@@ -130,15 +116,15 @@ module _ {s : List ℕ} {d : Details} {plan : Plan} {v : Sorted} (z : Fitted s d
     unfolding lengthFits _⇒_else_
     size-two = eqb-true (length (valueOf 0x39 all)) 2 (needed-fits z 0x39 size-needed)
 
-    pub size-within : v .further + 2 ≤ length s
+    size-within : v .further + 2 ≤ length s
     size-within = stands-within size-stands size-two
 
-    size-is : 256 * getD s (v .further) 0 + getD s (v .further + 1) 0 ≡ sizeOf (theCommand s .body)
-    unfolding bodyIn sizeOf pairIn _⇒_else_
+    size-is : pairIn (valueOf 0x39 counts) ≡ sizeAt s (v .further)
+    unfolding pairIn sizeAt
     size-is =
         let high = ap (λ (l : List ℕ). getD l 0 0) (needed-value z 0x39 size-needed) ∙ byte-first size-stands size-two (omega arith) in
         let low = ap (λ (l : List ℕ). getD l 1 0) (needed-value z 0x39 size-needed) ∙ byte-at size-stands size-two 1 (omega arith) in
-        sym (ap sizeOf open-body ∙ (λ i. 256 * high i + low i))
+        λ i. 256 * high i + low i
 
     transport-alike : Alike 0x3C counts all
     unfolding timesBy besidesBy member some-of
@@ -148,55 +134,39 @@ module _ {s : List ℕ} {d : Details} {plan : Plan} {v : Sorted} (z : Fitted s d
         branch (λ (k : ℕ). 1 ≤ k) _ _ _ (λ _. omega arith) (λ _. subst (λ (k : ℕ). 1 ≤ k) (sym (skip _ _ _ refl ∙ stop _ _ _ refl ∙ stop _ _ _ o)) (omega arith)) in
         alike (rowOf (theDetails s)) 0x3C all (omega arith)
 
-    protocol-body : protocolIn (theCommand s .body) ≡ protocolOf (present 0x3C counts ⇒ some (transportIn (valueOf 0x3C counts)) else none)
-    unfolding bodyIn protocolIn _⇒_else_
-    protocol-body = ap protocolIn open-body
-
     transport-there : not (present 0x3C counts) ≡ eqb (v .transport) 0
     transport-there = ap not (transport-alike .there) ∙ sym (z .begun .sorted .transport .there)
 
-    tcp-is : v .transport ≡ 0 → 0x02 ≡ protocolIn (theCommand s .body)
-    unfolding protocolOf
-    tcp-is c =
-        sym (protocol-body ∙ ap protocolOf (skip _ _ _ (not-true (present 0x3C counts) (transport-there ∙ eq-eqb (v .transport) 0 c))))
+    abbrev level : Option Transport
+    level = present 0x3C counts ⇒ some (transportIn (valueOf 0x3C counts)) else none
 
-    module _ (c : v .transport ≡ 0 → ⊥) where
+    tcp-is : eqb (v .transport) 0 ≡ true → protocolOf level ≡ 0x02
+    unfolding protocolOf
+    tcp-is c = ap protocolOf (skip _ _ _ (not-true (present 0x3C counts) (transport-there ∙ c)))
+
+    module _ (c : eqb (v .transport) 0 ≡ false) where
       there : present 0x3C counts ≡ true
-      there = not-false (present 0x3C counts) (transport-there ∙ ne-eqb (v .transport) 0 c)
+      there = not-false (present 0x3C counts) (transport-there ∙ c)
 
       three : length (valueOf 0x3C all) ≡ 3
       unfolding lengthFits _⇒_else_
       three = eqb-true (length (valueOf 0x3C all)) 3 (ap (lengthFits 0x3C) (sym (transport-alike .value)) ∙ value-fits 0x3C counts there (fit z))
 
-      pub transport-within : v .transport < length s
-      transport-within = let w = stands-within (z .begun .sorted .transport) three in omega arith
-
-      told-is : getD s (v .transport) 0 ≡ protocolIn (theCommand s .body)
+      told-is : protocolOf level ≡ getD s (v .transport) 0
       unfolding protocolOf transportIn
       told-is =
-          sym
-          (protocol-body ∙ ap protocolOf (stop _ _ _ there) ∙ ap (λ (l : List ℕ). getD l 0 0) (transport-alike .value)
-          ∙ byte-first (z .begun .sorted .transport) three (omega arith))
+          ap protocolOf (stop _ _ _ there) ∙ ap (λ (l : List ℕ). getD l 0 0) (transport-alike .value)
+          ∙ byte-first (z .begun .sorted .transport) three (omega arith)
 
-  closed : plan .row .opening ≡ false → theDetails s .kind ≡ 0x40 → ⊥
-  closed o = eqb-false (theDetails s .kind) 0x40 (sym (z .begun .planned .opening-is) ∙ o)
+    protocol-is : protocolOf level ≡ protocolAt s (v .transport)
+    unfolding protocolAt
+    protocol-is = branch (λ (n : ℕ). protocolOf level ≡ n) (eqb (v .transport) 0) _ _ tcp-is told-is
 
-  size-by : sizeBy s (plan .row .opening) (v .further) ≡ sizeOf (theCommand s .body)
-  unfolding sizeBy commandIn
-  size-by =
-      branch (λ (n : ℕ). n ≡ sizeOf (theCommand s .body)) (not (plan .row .opening)) _ _ (λ o. no-size (theDetails s) counts (closed (not-true _ o)))
-      (λ o. size-is (not-false _ o))
+    transport-within : 0 < v .transport → v .transport < length s
+    transport-within c = let w = stands-within (z .begun .sorted .transport) (three (ne-eqb (v .transport) 0 (omega arith))) in omega arith
 
-  protocol-by : protocolBy s (plan .row .opening) (v .transport) ≡ protocolIn (theCommand s .body)
-  unfolding protocolBy commandIn
-  protocol-by =
-      branch (λ (n : ℕ). n ≡ protocolIn (theCommand s .body)) (not (plan .row .opening)) _ _
-      (λ o. no-protocol (theDetails s) counts (closed (not-true _ o))) (λ o.
-      branch (λ (n : ℕ). n ≡ protocolIn (theCommand s .body)) (eqb (v .transport) 0) _ _ (λ c. tcp-is (not-false _ o) (eqb-true _ _ c))
-      (λ c. told-is (not-false _ o) (eqb-false _ _ c)))
-
-  -- what is asked, with a size and a protocol
-  module _ (size protocol : ℕ) (es : size ≡ sizeBy s (plan .row .opening) (v .further)) (ep : protocol ≡ protocolBy s (plan .row .opening) (v .transport)) where
+  -- what is asked
+  module _ where
     abbrev asks : Handler → Request
     asks h =
         record {
@@ -206,8 +176,8 @@ module _ {s : List ℕ} {d : Details} {plan : Plan} {v : Sorted} (z : Fitted s d
           ignored = v .ignored;
           start = v .own;
           len = getD s (v .own - 1) 0;
-          size = size;
-          protocol = protocol;
+          further = v .further;
+          transport = v .transport;
         }
 
     abbrev ownValue : List ℕ
@@ -230,29 +200,43 @@ module _ {s : List ℕ} {d : Details} {plan : Plan} {v : Sorted} (z : Fitted s d
       own-fits : lengthFits (ownNumber h) ownValue ≡ true
       own-fits = subst (λ (n : ℕ). lengthFits n ownValue ≡ true) number-is (ap (lengthFits (plan .row .own)) (sym own-part) ∙ needed-fits z (plan .row .own) needs-own)
 
-      body-is : theCommand s .body ≡ bodyIn (record { number = theDetails s .number; kind = handlerKind h; qualifier = theDetails s .qualifier }) counts
+      handled : handles h (theDetails s .kind) ≡ true
+      handled = subst (λ (k : Handler). handles k (theDetails s .kind) ≡ true) eh (z .begun .planned .kind-is)
+
+      body-is : (k : ℕ) → theDetails s .kind ≡ k → theCommand s .body ≡ bodyIn (record { number = theDetails s .number; kind = k; qualifier = theDetails s .qualifier }) counts
       unfolding commandIn
-      body-is = body-at (theDetails s) counts (handlerKind h) (z .begun .planned .kind-is ∙ ap handlerKind eh)
+      body-is k e = body-at (theDetails s) counts k e
 
     -- the values that are asked with, type by type
     asked-body : (h : Handler) → plan .handler ≡ h → BodyIs h (asks h) s (theCommand s .body)
-    unfolding bodyIn sizeOf protocolIn lengthFits _⇒_else_
-    asked-body MoreTime e = body-is MoreTime e
-    asked-body EventList e = body-is EventList e ∙ ap eventList (own-value EventList e)
+    unfolding bodyIn lengthFits _⇒_else_
+    asked-body Bare e =
+        each-member (λ (k : ℕ). theDetails s .kind ≡ k → theCommand s .body ≡ bare k) (theDetails s .kind) bareTypes
+        (body-is Bare e 0x02, (body-is Bare e 0x44, tt)) (handled Bare e) refl
+        ∙ ap (λ (x : Details). bare (x .kind)) (z .begun .details)
+    asked-body EventList e = body-is EventList e 0x05 (eqb-true _ _ (handled EventList e)) ∙ ap eventList (own-value EventList e)
     asked-body Open e =
-        let b = body-is Open e in
-        let level = present 0x3C counts ⇒ some (transportIn (valueOf 0x3C counts)) else none in
-        let asked : pairIn (valueOf 0x39 counts) ≡ size = sym (es ∙ size-by ∙ ap sizeOf b) in
-        (level, b ∙ (λ i. openChannel (bearerIn (own-value Open e i)) (asked i) level), sym (ep ∙ protocol-by ∙ ap protocolIn b), own-fits Open e)
-    asked-body Close e = body-is Close e
+        record {
+          level = level e;
+          is = body-is Open e 0x40 (eqb-true _ _ (handled Open e)) ∙ (λ i. openChannel (bearerIn (own-value Open e i)) (size-is e i) (level e));
+          protocol = protocol-is e;
+          bearer = own-fits Open e;
+          size-within = size-within e;
+          protocol-within = transport-within e;
+        }
+    asked-body Close e = body-is Close e 0x41 (eqb-true _ _ (handled Close e))
     asked-body Receive e =
         let one = own-size ∙ ap length own-part ∙ eqb-true (length ownValue) 1 (own-fits Receive e) in
-        (body-is Receive e ∙ ap (λ (l : List ℕ). receiveData (getD l 0 0)) (own-value Receive e) ∙ ap receiveData (part-first s (v .own) (getD s (v .own - 1) 0) (omega arith)), one)
-    asked-body Send e = body-is Send e ∙ ap sendData (own-value Send e)
-    asked-body Status e = body-is Status e
+        (body-is Receive e 0x42 (eqb-true _ _ (handled Receive e)) ∙ ap (λ (l : List ℕ). receiveData (getD l 0 0)) (own-value Receive e) ∙ ap receiveData (part-first s (v .own) (getD s (v .own - 1) 0) (omega arith)), one)
+    asked-body Send e = body-is Send e 0x43 (eqb-true _ _ (handled Send e)) ∙ ap sendData (own-value Send e)
+
+    transport-placed : v .transport ≡ placeOrNone 0x3C s
+    transport-placed =
+        let w = z .begun .sorted .transport in
+        branch (λ (k : ℕ). v .transport ≡ k) (present 0x3C all) _ _ (λ e. w .place e) (λ e. eqb-true (v .transport) 0 (w .there ∙ ap not e))
 
     pub settle-asked :
-        {b : Bool} → b ≡ addressedBy (plan .modem) (getD s (v .devices) 0) (getD s (v .devices + 1) 0) → not b ≡ false →
+        {b : Bool} → b ≡ addressed (d .kind) (record { 0 = getD s (v .devices) 0 }) (record { 0 = getD s (v .devices + 1) 0 }) → not b ≡ false →
         (p : List ℕ) → Typed p s → AskedFor (asks (plan .handler)) p s
     settle-asked {b} e f p ty =
         let right = by-bytes ∙ sym e ∙ not-false b f in
@@ -261,13 +245,13 @@ module _ {s : List ℕ} {d : Details} {plan : Plan} {v : Sorted} (z : Fitted s d
         record {
           is = known-asked z right p ty;
           details = z .begun .details;
-          kind = ap (λ (x : Details). x .kind) (sym (z .begun .details)) ∙ z .begun .planned .kind-is;
+          kind = subst (λ (x : Details). handles (plan .handler) (x .kind) ≡ true) (z .begun .details) (z .begun .planned .kind-is);
           destination = destination-is;
           devices = right;
           body = asked-body (plan .handler) refl;
           within = omega (arith, own .within, own-size);
           own-place = subst (λ (n : ℕ). v .own ≡ placeOf n s) number (own .place (needed-there z (plan .row .own) needs-own));
           own-length = subst (λ (n : ℕ). getD s (v .own - 1) 0 ≡ length (valueOf n all)) number own-size;
-          size = es ∙ size-by;
-          protocol = ep ∙ protocol-by;
+          further-place = subst (λ (n : ℕ). v .further ≡ placeOf n s) (z .begun .planned .further-is) (z .begun .sorted .further .place (needed-there z (plan .row .further) needs-further));
+          transport-place = transport-placed;
         }

@@ -13,12 +13,11 @@ use Rattle.rules.specs.Checks.{_⇒_else_, every, some-of, member}
 use Rattle.rules.specs.Profile.{profileSize, bit, allowsType}
 use Rattle.rules.specs.Table as rules
 use Rattle.rules.specs.Table.{table, rowAmong, rowOf, times, known}
-use Rattle.rules.specs.Reading.{toModem}
 use Rattle.rules.proofs.Laws.{branch, stop, skip, both-left, both-right, or-right, either-left}
 use Rattle.profile.specs.declared.Place.{Place}
 use Rattle.command.specs.declared.Plan.{Plan}
 use Rattle.command.specs.declared.Row.{Row}
-use Rattle.command.specs.Plans.{handlerKind, ownNumber, needed, besidesBy, timesBy, PlaceFor, PlanOf}
+use Rattle.command.specs.Plans.{handles, ownNumber, furtherNumber, needed, besidesBy, timesBy, PlaceFor, PlanOf}
 use Rattle.command.specs.Surveys.{slots, slotOf}
 use Rattle.command.proofs.Keys.{arm, out-keys, Outside, outside, every-member, no-member, all-true}
 
@@ -164,19 +163,15 @@ same-true true false e = sym e
 same-true false true e = e
 same-true false false e = refl
 
-if-so : (a b : Bool) → (a ⇒ b else true) ≡ true → a ≡ true → b ≡ true
-if-so a b e t = sym (stop a b true t) ∙ e
-
 -- what makes a plan that of a type
 abbrev tests : Plan → ℕ → List Bool
 tests p t =
     let r = rowAmong t table in
     known t ∷
-    eqb t (handlerKind (p .handler)) ∷
+    handles (p .handler) t ∷
     eqb (p .row .own) (ownNumber (p .handler)) ∷
+    eqb (p .row .further) (furtherNumber (p .handler)) ∷
     same (p .row .opening) (eqb t 0x40) ∷
-    (p .row .opening ⇒ eqb (p .row .further) 0x39 else true) ∷
-    same (p .modem) (toModem t) ∷
     row-all (among (p .row) r) r ∷
     every (agrees (p .row) r) (needed (p .row)) ∷
     every (agrees (p .row) r) others ∷
@@ -193,14 +188,13 @@ plan-right p d k q place e =
     let t = d .kind in
     let w = all-true (tests p t) (ap (rightly p) q ∙ e) in
     let x = w .1 .1 .1 in
-    let y = x .1 .1 .1 in
+    let y = x .1 .1 in
     record {
       known-is = w .0;
-      kind-is = eqb-true t (handlerKind (p .handler)) (w .1 .0);
+      kind-is = w .1 .0;
       own-is = eqb-true (p .row .own) (ownNumber (p .handler)) (w .1 .1 .0);
-      opening-is = same-true (p .row .opening) (eqb t 0x40) (x .0);
-      size-is = λ o. eqb-true (p .row .further) 0x39 (if-so (p .row .opening) (eqb (p .row .further) 0x39) (x .1 .0) o);
-      modem-is = same-true (p .modem) (toModem t) (x .1 .1 .0);
+      further-is = eqb-true (p .row .further) (furtherNumber (p .handler)) (x .0);
+      opening-is = same-true (p .row .opening) (eqb t 0x40) (x .1 .0);
       place = place;
       row =
           record {

@@ -1,41 +1,47 @@
 -- What a plan says of a type.
 use Prim.Native.Nat.{ℕ, _≤_}
 use mathlib.Core.Path.{_≡_}
-use mathlib.Core.Bool.{true, false}
+use mathlib.Core.Bool.{true, false, Bool}
 use mathlib.Core.List.{List, [], _∷_}
 use lib.Dec.{eqb}
 use Rattle.rules.specs.declared.Details.{Details}
 use Rattle.rules.specs.Checks.{_⇒_else_, every, member}
 use Rattle.rules.specs.Profile.{profileSize, bit, allowsType}
 use Rattle.rules.specs.Table.{known, rowOf, times}
-use Rattle.rules.specs.Reading.{toModem}
+use Rattle.rules.specs.Own.{bareTypes}
 use Rattle.command.specs.declared.Handler.{Handler}
-use Rattle.command.specs.declared.Handler.the-variants.{MoreTime, EventList, Open, Close, Receive, Send, Status}
+use Rattle.command.specs.declared.Handler.the-variants.{Bare, EventList, Open, Close, Receive, Send}
 use Rattle.profile.specs.declared.Place.{Place}
 use Rattle.command.specs.declared.Row.{Row}
 use Rattle.command.specs.declared.Plan.{Plan}
 use Rattle.command.specs.declared.Planned.{Planned}
 use Rattle.command.specs.declared.Planned.the-variants.{Of, Unknown}
 
--- the type of a handler
-abbrev pub handlerKind : Handler → ℕ
-handlerKind MoreTime = 0x02
-handlerKind EventList = 0x05
-handlerKind Open = 0x40
-handlerKind Close = 0x41
-handlerKind Receive = 0x42
-handlerKind Send = 0x43
-handlerKind Status = 0x44
+-- a handler has a type
+abbrev pub handles : Handler → ℕ → Bool
+handles Bare t = member t bareTypes
+handles EventList t = eqb t 0x05
+handles Open t = eqb t 0x40
+handles Close t = eqb t 0x41
+handles Receive t = eqb t 0x42
+handles Send t = eqb t 0x43
 
--- the required object that carries a type's own value; 02 where there is none
+-- the required object that carries a type's own value, and the further one; 02 where there is none
 abbrev pub ownNumber : Handler → ℕ
-ownNumber MoreTime = 0x02
+ownNumber Bare = 0x02
 ownNumber EventList = 0x19
 ownNumber Open = 0x35
 ownNumber Close = 0x02
 ownNumber Receive = 0x37
 ownNumber Send = 0x36
-ownNumber Status = 0x02
+
+abbrev pub furtherNumber : Handler → ℕ
+furtherNumber Bare = 0x02
+furtherNumber EventList = 0x02
+furtherNumber Open = 0x39
+furtherNumber Close = 0x02
+furtherNumber Receive = 0x02
+furtherNumber Send = 0x02
 
 -- the objects that a row requires
 abbrev pub needed : Row → List ℕ
@@ -69,11 +75,10 @@ pub record PlaceFor (p : Place) (d : Details) : Type 0 where
 -- the plan is that of a command with these details
 pub record PlanOf (p : Plan) (d : Details) : Type 0 where
   pub known-is : known (d .kind) ≡ true
-  pub kind-is : d .kind ≡ handlerKind (p .handler)
+  pub kind-is : handles (p .handler) (d .kind) ≡ true
   pub own-is : p .row .own ≡ ownNumber (p .handler)
+  pub further-is : p .row .further ≡ furtherNumber (p .handler)
   pub opening-is : p .row .opening ≡ eqb (d .kind) 0x40
-  pub size-is : p .row .opening ≡ true → p .row .further ≡ 0x39
-  pub modem-is : p .modem ≡ toModem (d .kind)
   pub place : PlaceFor (p .place) d
   pub row : RowFor (p .row) d
 

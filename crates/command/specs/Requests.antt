@@ -1,17 +1,17 @@
 -- What a reading hands on: an error with its details, or what is asked, with places in the bytes of the objects.
-use Prim.Native.Nat.{ℕ, _+_, _-_, _*_, _≤_}
+use Prim.Native.Nat.{ℕ, _+_, _-_, _*_, _≤_, _<_}
 use mathlib.Core.Path.{_≡_}
-use mathlib.Core.Bool.{Bool, true, false, not, _&&_}
+use mathlib.Core.Bool.{Bool, true, false, not}
 use mathlib.Core.List.{List, []}
 use mathlib.Core.Option.{Option}
 use lib.ListN.{length, drop, getD}
-use lib.Dec.{leb, eqb}
+use lib.Dec.{eqb}
 use Rattle.rules.specs.declared.Details.{Details}
 use Rattle.rules.specs.Checks.{_⇒_else_, isEmpty}
 use Rattle.rules.specs.Frames.{framed, contents, walk}
 use Rattle.rules.specs.Profile.{allowsType}
 use Rattle.rules.specs.Table.{known, rowOf, Sifted, sift, present, valueOf, complete, bearerFits}
-use Rattle.rules.specs.Reading.{wrong, asked, Command, Body, Transport, moreTime, eventList, openChannel, closeChannel, receiveData, sendData, channelStatus, other, bearerIn, zeros, detailsIn, commandIn, startsWithDetails, isFault, addressed, readObjects}
+use Rattle.rules.specs.Reading.{wrong, asked, Command, Body, Transport, bare, eventList, openChannel, closeChannel, receiveData, sendData, bearerIn, zeros, detailsIn, commandIn, startsWithDetails, isFault, addressed, readObjects}
 use Rattle.rules.specs.Own.{protocolOf}
 use Rattle.octets.specs.Parts.{part}
 use Rattle.objects.specs.Places.{Stands, placeOf}
@@ -20,14 +20,14 @@ use Rattle.command.specs.declared.First.the-variants.{Told, Absent}
 use Rattle.command.specs.declared.Framed.{Framed}
 use Rattle.command.specs.declared.Framed.the-variants.{At, Not}
 use Rattle.command.specs.declared.Handler.{Handler}
-use Rattle.command.specs.declared.Handler.the-variants.{MoreTime, EventList, Open, Close, Receive, Send, Status}
+use Rattle.command.specs.declared.Handler.the-variants.{Bare, EventList, Open, Close, Receive, Send}
 use Rattle.command.specs.declared.Plan.{Plan}
 use Rattle.command.specs.declared.Read.{Read}
 use Rattle.command.specs.declared.Read.the-variants.{Wrong, Asked}
 use Rattle.command.specs.declared.Request.{Request}
 use Rattle.command.specs.declared.Row.{Row}
 use Rattle.command.specs.declared.Sorted.{Sorted}
-use Rattle.command.specs.Plans.{handlerKind, ownNumber, PlanOf}
+use Rattle.command.specs.Plans.{handles, ownNumber, furtherNumber, PlanOf}
 use Rattle.command.specs.Surveys.{surveyOf, allStand}
 
 -- the frame is right, and the objects start there
@@ -50,54 +50,51 @@ theObjects s = sift (rowOf (theDetails s)) [] (walk s .objects)
 abbrev pub theCommand : List ℕ → Command
 theCommand s = commandIn (theDetails s) (theObjects s .counting)
 
--- the size and the protocol that a command's values ask for; 0 and TCP where they are not those of OPEN CHANNEL
-unfoldable pub sizeOf : Body → ℕ
-sizeOf moreTime = 0
-sizeOf (eventList es) = 0
-sizeOf (openChannel b size t) = size
-sizeOf closeChannel = 0
-sizeOf (receiveData n) = 0
-sizeOf (sendData s) = 0
-sizeOf channelStatus = 0
-sizeOf (other t) = 0
+-- the size at a place, high byte first, and the protocol at one; TCP where no transport level stands
+unfoldable pub sizeAt : List ℕ → ℕ → ℕ
+sizeAt s at = 256 * getD s at 0 + getD s (at + 1) 0
 
-unfoldable pub protocolIn : Body → ℕ
-protocolIn moreTime = 0x02
-protocolIn (eventList es) = 0x02
-protocolIn (openChannel b size t) = protocolOf t
-protocolIn closeChannel = 0x02
-protocolIn (receiveData n) = 0x02
-protocolIn (sendData s) = 0x02
-protocolIn channelStatus = 0x02
-protocolIn (other t) = 0x02
+unfoldable pub protocolAt : List ℕ → ℕ → ℕ
+protocolAt s at = eqb at 0 ⇒ 0x02 else getD s at 0
 
 -- the own value of a request stands in the bytes, at its place
 abbrev pub own : Request → List ℕ → List ℕ
 own q s = part (q .start) (q .start + q .len) s
 
+-- the bytes ask to open a channel: the bearer, the size and the protocol stand at their places
+pub record Opens (q : Request) (s : List ℕ) (b : Body) : Type 0 where
+  pub level : Option Transport
+  pub is : b ≡ openChannel (bearerIn (own q s)) (sizeAt s (q .further)) level
+  pub protocol : protocolOf level ≡ protocolAt s (q .transport)
+  pub bearer : bearerFits (own q s) ≡ true
+  pub size-within : q .further + 2 ≤ length s
+  pub protocol-within : 0 < q .transport → q .transport < length s
+
 abbrev pub BodyIs : Handler → Request → List ℕ → Body → Type 0
-BodyIs MoreTime q s b = b ≡ moreTime
+BodyIs Bare q s b = b ≡ bare (q .details .kind)
 BodyIs EventList q s b = b ≡ eventList (own q s)
-BodyIs Open q s b =
-    (t : Option Transport) × (b ≡ openChannel (bearerIn (own q s)) (q .size) t) × (protocolOf t ≡ q .protocol) × (bearerFits (own q s) ≡ true)
+BodyIs Open q s b = Opens q s b
 BodyIs Close q s b = b ≡ closeChannel
 BodyIs Receive q s b = (b ≡ receiveData (getD s (q .start) 0)) × (q .len ≡ 1)
 BodyIs Send q s b = b ≡ sendData (own q s)
-BodyIs Status q s b = b ≡ channelStatus
+
+-- where the value of the first object of a number starts; 0 where none stands
+abbrev pub placeOrNone : ℕ → List ℕ → ℕ
+placeOrNone n s = present n (walk s .objects) ⇒ placeOf n s else 0
 
 -- a request is what the bytes ask, and its places are those of the objects
 pub record AskedFor (q : Request) (p s : List ℕ) : Type 0 where
   pub is : readObjects p s ≡ asked (theCommand s) (q .ignored)
   pub details : theDetails s ≡ q .details
-  pub kind : q .details .kind ≡ handlerKind (q .handler)
+  pub kind : handles (q .handler) (q .details .kind) ≡ true
   pub destination : theCommand s .destination ≡ q .destination
   pub devices : addressed (theDetails s .kind) (theCommand s .source) (theCommand s .destination) ≡ true
   pub body : BodyIs (q .handler) q s (theCommand s .body)
   pub within : q .start + q .len ≤ length s
   pub own-place : q .start ≡ placeOf (ownNumber (q .handler)) s
   pub own-length : q .len ≡ length (valueOf (ownNumber (q .handler)) (walk s .objects))
-  pub size : q .size ≡ sizeOf (theCommand s .body)
-  pub protocol : q .protocol ≡ protocolIn (theCommand s .body)
+  pub further-place : q .further ≡ placeOf (furtherNumber (q .handler)) s
+  pub transport-place : q .transport ≡ placeOrNone 0x3C s
 
 abbrev pub Reads : Read → List ℕ → List ℕ → Type 0
 Reads (Wrong d e) p s = readObjects p s ≡ wrong d e
@@ -174,17 +171,3 @@ pub record Fitted (s : List ℕ) (d : Details) (plan : Plan) (v : Sorted) : Type
   pub unflagged : v .flagged ≡ false
   pub complete : allStand (v .devices) (v .own) (v .further) ≡ true
   pub fit : v .misfit ≡ false
-
--- the size at a place, and the protocol at one, of an OPEN CHANNEL; 0 and TCP of another type
-unfoldable pub sizeBy : List ℕ → Bool → ℕ → ℕ
-sizeBy s opening at = not opening ⇒ 0 else 256 * getD s at 0 + getD s (at + 1) 0
-
-unfoldable pub protocolBy : List ℕ → Bool → ℕ → ℕ
-protocolBy s opening at =
-    not opening ⇒ 0x02 else
-    eqb at 0 ⇒ 0x02 else
-    getD s at 0
-
--- step 8, by whether the command goes to the modem, and two bytes
-abbrev pub addressedBy : Bool → ℕ → ℕ → Bool
-addressedBy modem from to = eqb from 0x81 && (modem ⇒ eqb to 0x82 else leb 0x21 to && leb to 0x27)

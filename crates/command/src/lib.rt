@@ -9,6 +9,7 @@ use profile::allowed;
 use rules::Details;
 use rules::DeviceIdentity;
 use rules::Ending;
+use rules::is_addressed;
 ghost use mathlib.Core.Path.{_≡_};
 ghost use mathlib.Core.Bool.{true, false};
 ghost use mathlib.Core.List.{List};
@@ -21,7 +22,7 @@ ghost use Rattle.octets.specs.Parts.{part};
 ghost use Rattle.command.specs.Plans.{PlaceFor, needed, timesBy, RowFor, PlanOf, Plans};
 ghost use Rattle.command.specs.Surveys.{slots, slotOf, firstOf, noted, allStand, sortedBy};
 ghost use Rattle.rules.specs.AtHand.{detailsTold, atHand};
-ghost use Rattle.command.specs.Requests.{Frames, Firsts, detailsAt, theDetails, addressedBy, sizeBy, protocolBy, Headed, Detailed, Begun, Typed, Sorts, Fitted, Reads};
+ghost use Rattle.command.specs.Requests.{Frames, Firsts, detailsAt, theDetails, Headed, Detailed, Begun, Typed, Sorts, Fitted, Reads};
 
 // The objects, by number.
 const DETAILS: u16 = 0x01;
@@ -55,18 +56,14 @@ const NETWORK: u16 = 0x47;
 // Every object that a row may have is below this number.
 const SLOTS: u16 = 72;
 
-// The protocol of a channel whose transport level does not stand.
-const TCP: u8 = 0x02;
-
-// What is done for a type.
+// What is done for a type; those that change nothing share one.
 pub enum Handler {
-    MoreTime,
+    Bare,
     EventList,
     Open,
     Close,
     Receive,
     Send,
-    Status,
 }
 
 // The objects of a type: the two that it requires besides 01 and 02, which is 02 again where there is none, whether 05 and 1E may stand, and whether those of OPEN CHANNEL may.
@@ -85,12 +82,11 @@ const BARE: Row = Row {
     opening: false,
 };
 
-// A type's handler, its place in the profile, its objects, and whether it goes to the modem itself or to a channel.
+// A type's handler, its place in the profile, and its objects.
 struct Plan {
     handler: Handler,
     place: Place,
     row: Row,
-    modem: bool,
 }
 
 // The plan of a type, or none where it is not one of the seven.
@@ -132,7 +128,6 @@ fn channel_plan(d: Details) -> Plan
                 named: true,
                 opening: true,
             },
-            modem: true,
         },
         0x41 => Plan {
             handler: Handler::Close,
@@ -143,7 +138,6 @@ fn channel_plan(d: Details) -> Plan
                 named: true,
                 opening: false,
             },
-            modem: false,
         },
         0x42 => Plan {
             handler: Handler::Receive,
@@ -154,7 +148,6 @@ fn channel_plan(d: Details) -> Plan
                 named: true,
                 opening: false,
             },
-            modem: false,
         },
         0x43 => Plan {
             handler: Handler::Send,
@@ -165,13 +158,11 @@ fn channel_plan(d: Details) -> Plan
                 named: true,
                 opening: false,
             },
-            modem: false,
         },
         _ => Plan {
-            handler: Handler::Status,
+            handler: Handler::Bare,
             place,
             row: BARE,
-            modem: true,
         },
     }
 }
@@ -183,10 +174,9 @@ fn plan_of(d: Details) -> Planned
     let kind = d.kind;
     match kind {
         0x02 => Planned::Of(Plan {
-            handler: Handler::MoreTime,
+            handler: Handler::Bare,
             place: Place { byte: 3, bit: 4 },
             row: BARE,
-            modem: true,
         }),
         0x05 => Planned::Of(Plan {
             handler: Handler::EventList,
@@ -197,7 +187,6 @@ fn plan_of(d: Details) -> Planned
                 named: false,
                 opening: false,
             },
-            modem: true,
         }),
         0x40..=0x44 => Planned::Of(channel_plan(d)),
         _ => Planned::Unknown,
@@ -416,7 +405,7 @@ pub fn frame_start(s: &[u8]) -> Framed
     Framed::Not
 }
 
-// What is asked: the details, the handler, where it goes, whether an object was ignored, where the type's own value stands, and the size and the protocol of OPEN CHANNEL.
+// What is asked: the details, the handler, where it goes, whether an object was ignored, where the type's own value stands, and where those of its further object and of 3C start, 0 where no 3C stands.
 pub struct Request {
     pub details: Details,
     pub handler: Handler,
@@ -424,8 +413,8 @@ pub struct Request {
     pub ignored: bool,
     pub start: usize,
     pub len: usize,
-    pub size: u16,
-    pub protocol: u8,
+    pub further: usize,
+    pub transport: usize,
 }
 
 // The reading of a command's objects: an error with its details, or what is asked.
@@ -434,74 +423,30 @@ pub enum Read {
     Asked(Request),
 }
 
-// Step 8: from the card, 81, to the modem, 82, or to a channel, 21 to 27.
-fn devices_fit(modem: bool, from: u8, to: u8) -> bool
-    ensures { λ r. ⌜ r ≡ addressedBy modem from to ⌝ }
-{
-    if from != 0x81 {
-        return false;
-    }
-    if modem {
-        return to == 0x82;
-    }
-    if to < 0x21 {
-        return false;
-    }
-    to <= 0x27
-}
-
-// The size that OPEN CHANNEL asks for, high byte first; 0 for another type.
-fn size_at(s: &[u8], opening: bool, at: usize) -> u16
-    requires { ⌜ (opening ≡ true → at + 2 ≤ length (now s)) ⌝ }
-    ensures { λ r. ⌜ r ≡ sizeBy (now (s .entry)) opening at ⌝ }
-{
-    if !opening {
-        return 0;
-    }
-    let high = s[at] as u16;
-    let low = s[at + 1] as u16;
-    256 * high + low
-}
-
-// The protocol that OPEN CHANNEL asks for, the first byte of 3C; TCP where none stands, and for another type.
-fn protocol_at(s: &[u8], opening: bool, at: usize) -> u8
-    requires { ⌜ (opening ≡ true → 0 < at → at < length (now s)) ⌝ }
-    ensures { λ r. ⌜ r ≡ protocolBy (now (s .entry)) opening at ⌝ }
-{
-    if !opening {
-        return TCP;
-    }
-    if at == 0 {
-        return TCP;
-    }
-    s[at]
-}
-
 // Step 8 once the objects are there and have their lengths, and what is asked.
 fn settle(s: &[u8], d: Details, plan: Plan, v: Sorted) -> Read
     requires { ⌜ Fitted (now s) d plan v ⌝ }
     ensures { λ r. ⌜ ((p : List ℕ) → Typed p (now (s .entry)) → Reads r p (now (s .entry))) ⌝ }
 {
     let at = v.devices as usize;
-    let from = s[at];
-    let to = s[at + 1];
-    if !devices_fit(plan.modem, from, to) {
+    let from = DeviceIdentity(s[at]);
+    let to = DeviceIdentity(s[at + 1]);
+    if !is_addressed(d.kind, from, to) {
         return Read::Wrong(d, 0x32);
     }
     let handler = plan.handler;
-    let row = plan.row;
     let start = v.own as usize;
     // The last byte of a length, which stands before the value, is how long it is.
     let len = s[start - 1];
     Read::Asked(Request {
         details: d,
         handler,
-        destination: DeviceIdentity(to),
+        destination: to,
         ignored: v.ignored,
         start,
         len: len as usize,
-        size: size_at(s, row.opening, v.further as usize),
-        protocol: protocol_at(s, row.opening, v.transport as usize),
+        further: v.further as usize,
+        transport: v.transport as usize,
     })
 }
 

@@ -11,6 +11,7 @@ use borrow.Author.Tests.{le-ltb}
 use Rattle.rules.specs.declared.Stage.{Stage}
 use Rattle.rules.specs.declared.Stage.the-variants.{Lacks, Overlong, Decided}
 use Rattle.rules.specs.State.{State}
+use Rattle.rules.specs.Command.{Terms}
 use Rattle.rules.specs.Fetch.{stage, Means, takenAt, oneMore, goesOn, Fetched, burst, fetch}
 use Rattle.rules.proofs.Laws.{branch, stop, skip}
 use Rattle.rules.proofs.Stages.{stage-means, stage-more, lacks-within}
@@ -169,43 +170,43 @@ module _ (r₀ : List ℕ) (held : ℕ) (s : List ℕ) (size : length r₀ ≡ g
     bring-end h = told (ended (ap (brought (take held r₀ ++ take k s)) (drop-of-length-le s h)))
 
 -- what the bytes g come to with t of the burst s behind them
-abbrev with-taken : State → ℕ → List ℕ → List ℕ → List ℕ → Fetched
-with-taken a buffer g s t = concluded a buffer (g ++ t) (drop (length t) s) (stage (g ++ t))
+abbrev with-taken : State → Terms → List ℕ → List ℕ → List ℕ → Fetched
+with-taken a terms g s t = concluded a terms (g ++ t) (drop (length t) s) (stage (g ++ t))
 
 -- nothing is lacking, so no more is taken
 none-taken :
-    (a : State) (buffer : ℕ) (g s : List ℕ) (k : Stage) → stage g ≡ k → isLacking k ≡ false → concluded a buffer g s k ≡ with-taken a buffer g s (brought g s)
-none-taken a buffer g s k e f =
-    ap (concluded a buffer g s) (sym e) ∙ ap (λ (x : List ℕ). concluded a buffer x s (stage x)) (sym (append-nil g))
-    ∙ ap (with-taken a buffer g s) (sym (brought-none g s (ap isLacking e ∙ f)))
+    (a : State) (terms : Terms) (g s : List ℕ) (k : Stage) → stage g ≡ k → isLacking k ≡ false → concluded a terms g s k ≡ with-taken a terms g s (brought g s)
+none-taken a terms g s k e f =
+    ap (concluded a terms g s) (sym e) ∙ ap (λ (x : List ℕ). concluded a terms x s (stage x)) (sym (append-nil g))
+    ∙ ap (with-taken a terms g s) (sym (brought-none g s (ap isLacking e ∙ f)))
 
 -- a burst behind its first byte, at the stage that this made
 byte-taken :
-    (a : State) (buffer : ℕ) (g s : List ℕ) (k : Stage) → stage g ≡ k → (isLacking k ≡ true → burst a buffer g s ≡ with-taken a buffer g s (brought g s)) →
-    goesOn (takenAt a buffer g k) s (λ (x : List ℕ). burst a buffer x s) ≡ with-taken a buffer g s (brought g s)
+    (a : State) (terms : Terms) (g s : List ℕ) (k : Stage) → stage g ≡ k → (isLacking k ≡ true → burst a terms g s ≡ with-taken a terms g s (brought g s)) →
+    goesOn (takenAt a terms g k) s (λ (x : List ℕ). burst a terms x s) ≡ with-taken a terms g s (brought g s)
 unfolding goesOn takenAt concluded isLacking
-byte-taken a buffer g s (Lacks n) e rest = rest refl
-byte-taken a buffer g s Overlong e rest = none-taken a buffer g s Overlong e refl
-byte-taken a buffer g s Decided e rest = none-taken a buffer g s Decided e refl
+byte-taken a terms g s (Lacks n) e rest = rest refl
+byte-taken a terms g s Overlong e rest = none-taken a terms g s Overlong e refl
+byte-taken a terms g s Decided e rest = none-taken a terms g s Decided e refl
 
-stays : (a : State) (buffer : ℕ) (g : List ℕ) (k : Stage) → isLacking k ≡ true → burst a buffer g [] ≡ concluded a buffer g [] k
+stays : (a : State) (terms : Terms) (g : List ℕ) (k : Stage) → isLacking k ≡ true → burst a terms g [] ≡ concluded a terms g [] k
 unfolding burst concluded isLacking
-stays a buffer g (Lacks n) f = refl
-stays a buffer g Overlong f = absurd (true≢false (sym f))
-stays a buffer g Decided f = absurd (true≢false (sym f))
+stays a terms g (Lacks n) f = refl
+stays a terms g Overlong f = absurd (true≢false (sym f))
+stays a terms g Decided f = absurd (true≢false (sym f))
 
 -- a burst is what the bytes come to that it brings
-brought-burst : (a : State) (buffer : ℕ) (g s : List ℕ) → isLacking (stage g) ≡ true → burst a buffer g s ≡ with-taken a buffer g s (brought g s)
+brought-burst : (a : State) (terms : Terms) (g s : List ℕ) → isLacking (stage g) ≡ true → burst a terms g s ≡ with-taken a terms g s (brought g s)
 unfolding burst oneMore brought
-brought-burst a buffer g [] e = stays a buffer g (stage g) e ∙ ap (λ (x : List ℕ). concluded a buffer x [] (stage x)) (sym (append-nil g))
-brought-burst a buffer g (b ∷ s) e =
+brought-burst a terms g [] e = stays a terms g (stage g) e ∙ ap (λ (x : List ℕ). concluded a terms x [] (stage x)) (sym (append-nil g))
+brought-burst a terms g (b ∷ s) e =
     let h = g ++ b ∷ [] in
     let x = brought h s in
-    byte-taken a buffer h s (stage h) refl (λ f. brought-burst a buffer h s f)
-    ∙ ap (λ (y : List ℕ). concluded a buffer y (drop (length x) s) (stage y)) (append-assoc g (b ∷ []) x) ∙ ap (with-taken a buffer g (b ∷ s)) (sym (brought-one g b s e))
+    byte-taken a terms h s (stage h) refl (λ f. brought-burst a terms h s f)
+    ∙ ap (λ (y : List ℕ). concluded a terms y (drop (length x) s) (stage y)) (append-assoc g (b ∷ []) x) ∙ ap (with-taken a terms g (b ∷ s)) (sym (brought-one g b s e))
 
 pub brought-fetched :
-    (a : State) (buffer : ℕ) (g s : List ℕ) → isLacking (stage g) ≡ true → 255 ≤ buffer →
-    fetch a buffer g s ≡ concluded a buffer (g ++ brought g s) (drop (length (brought g s)) s) (stage (g ++ brought g s))
+    (a : State) (terms : Terms) (g s : List ℕ) → isLacking (stage g) ≡ true → 255 ≤ terms .buffer →
+    fetch a terms g s ≡ concluded a terms (g ++ brought g s) (drop (length (brought g s)) s) (stage (g ++ brought g s))
 unfolding fetch
-brought-fetched a buffer g s e h = skip _ _ _ (le-ltb buffer 255 h) ∙ brought-burst a buffer g s e
+brought-fetched a terms g s e h = skip _ _ _ (le-ltb (terms .buffer) 255 h) ∙ brought-burst a terms g s e

@@ -10,7 +10,7 @@ use Rattle.rules.specs.declared.Refusal.the-variants.{ShortBuffer, CommandSize}
 use Rattle.rules.specs.declared.Stage.{Stage}
 use Rattle.rules.specs.declared.Stage.the-variants.{Lacks, Overlong, Decided}
 use Rattle.rules.specs.State.{State}
-use Rattle.rules.specs.Command.{command}
+use Rattle.rules.specs.Command.{command, Terms, lending}
 use Rattle.rules.specs.Fetch as rules
 use Rattle.rules.specs.Fetch.{stage, fetch}
 use Rattle.rules.proofs.Laws.{stop}
@@ -31,7 +31,7 @@ module _ (t p r : List ℕ) (count : ℕ) (out : List ℕ) (stands : Stands r co
   g = take count r
 
   abbrev Left-by : Stage → List ℕ → List ℕ → List ℕ → Ended → List ℕ → Type 0
-  Left-by k t′ p′ r′ e out′ = Leaves (concluded (shown t p) (length out) g [] k) t′ p′ r′ e out out′
+  Left-by k t′ p′ r′ e out′ = Leaves (concluded (shown t p) (lending (length out)) g [] k) t′ p′ r′ e out out′
 
   abbrev Concluded : List ℕ → List ℕ → List ℕ → Ended → List ℕ → Type 0
   Concluded t′ p′ r′ e out′ = Left-by (stage g) t′ p′ r′ e out′
@@ -61,7 +61,7 @@ module _ (t p r : List ℕ) (count : ℕ) (out : List ℕ) (stands : Stands r co
 
   -- a whole frame, or what can never be one
   pub conclude-command :
-      (k : Stage) (t′ p′ r′ : List ℕ) (e : Ended) (out′ : List ℕ) → k ≡ stage g → k ≡ Decided → Answers (command (shown t p) (length out) g) t′ p′ e out out′ →
+      (k : Stage) (t′ p′ r′ : List ℕ) (e : Ended) (out′ : List ℕ) → k ≡ stage g → k ≡ Decided → Answers (command (shown t p) (lending (length out)) g) t′ p′ e out out′ →
       r′ ≡ gatheredOf [] → Concluded t′ p′ r′ e out′
   unfolding concluded
   conclude-command k t′ p′ r′ e out′ is x answers clear =
@@ -77,18 +77,18 @@ kept-few r count stands k n is e =
 
 -- which bytes are left changes nothing else
 left-behind :
-    (a : State) (buffer : ℕ) (g u : List ℕ) (k : Stage) (t p r : List ℕ) (e : Ended) (before after : List ℕ) →
-    Leaves (concluded a buffer g [] k) t p r e before after → Leaves (concluded a buffer g u k) t p r e before after
+    (a : State) (terms : Terms) (g u : List ℕ) (k : Stage) (t p r : List ℕ) (e : Ended) (before after : List ℕ) →
+    Leaves (concluded a terms g [] k) t p r e before after → Leaves (concluded a terms g u k) t p r e before after
 unfolding concluded
-left-behind a buffer g u (Lacks n) t p r e before after h = record { answers = h .answers; gathered = h .gathered; lacks = h .lacks }
-left-behind a buffer g u Overlong t p r e before after h = record { answers = h .answers; gathered = h .gathered; lacks = h .lacks }
-left-behind a buffer g u Decided t p r e before after h = record { answers = h .answers; gathered = h .gathered; lacks = h .lacks }
+left-behind a terms g u (Lacks n) t p r e before after h = record { answers = h .answers; gathered = h .gathered; lacks = h .lacks }
+left-behind a terms g u Overlong t p r e before after h = record { answers = h .answers; gathered = h .gathered; lacks = h .lacks }
+left-behind a terms g u Decided t p r e before after h = record { answers = h .answers; gathered = h .gathered; lacks = h .lacks }
 
-left-is : (a : State) (buffer : ℕ) (g u : List ℕ) (k : Stage) → concluded a buffer g u k .left ≡ u
+left-is : (a : State) (terms : Terms) (g u : List ℕ) (k : Stage) → concluded a terms g u k .left ≡ u
 unfolding concluded
-left-is a buffer g u (Lacks n) = refl
-left-is a buffer g u Overlong = refl
-left-is a buffer g u Decided = refl
+left-is a terms g u (Lacks n) = refl
+left-is a terms g u Overlong = refl
+left-is a terms g u Decided = refl
 
 -- a burst s over the record r, which gathers
 module _ (r s : List ℕ) (gathers : Gathers r) where
@@ -108,7 +108,7 @@ module _ (r s : List ℕ) (gathers : Gathers r) where
   -- R1
   pub fetch-short :
       (t p out : List ℕ) → GoodIn t p → length out < 255 →
-      Fetches (fetch (shown t p) (length out) held s) t p r (record { ended = Refused ShortBuffer; left = length s }) out out
+      Fetches (fetch (shown t p) (lending (length out)) held s) t p r (record { ended = Refused ShortBuffer; left = length s }) out out
   unfolding fetch
   fetch-short t p out good h =
       subst (λ (f : rules.Fetched). Fetches f t p r (record { ended = Refused ShortBuffer; left = length s }) out out) (sym (stop _ _ _ (lt-ltb (length out) 255 h)))
@@ -132,16 +132,16 @@ module _ (r s : List ℕ) (gathers : Gathers r) where
 
     pub fetch-told :
         (t p out t′ p′ r′ : List ℕ) (e : Ended) (out′ : List ℕ) → 255 ≤ length out →
-        Leaves (concluded (shown t p) (length out) (take (count + k) r₁) [] (stage (take (count + k) r₁))) t′ p′ r′ e out out′ →
-        Fetches (fetch (shown t p) (length out) held s) t′ p′ r′ (record { ended = e; left = length s - k }) out out′
+        Leaves (concluded (shown t p) (lending (length out)) (take (count + k) r₁) [] (stage (take (count + k) r₁))) t′ p′ r′ e out out′ →
+        Fetches (fetch (shown t p) (lending (length out)) held s) t′ p′ r′ (record { ended = e; left = length s - k }) out out′
     fetch-told t p out t′ p′ r′ e out′ h leaves =
         let a = shown t p in
         let b = brought held s in
         let u = drop (length b) s in
-        let moved = subst (λ (x : List ℕ). Leaves (concluded a (length out) x [] (stage x)) t′ p′ r′ e out out′) front leaves in
+        let moved = subst (λ (x : List ℕ). Leaves (concluded a (lending (length out)) x [] (stage x)) t′ p′ r′ e out out′) front leaves in
         let x : Fetched = record { ended = e; left = length s - k } in
-        subst (λ (f : rules.Fetched). Fetches f t′ p′ r′ x out out′) (sym (brought-fetched a (length out) held s (gathers .lacks) h))
+        subst (λ (f : rules.Fetched). Fetches f t′ p′ r′ x out out′) (sym (brought-fetched a (lending (length out)) held s (gathers .lacks) h))
         (record {
-          leaves = left-behind a (length out) (held ++ b) u (stage (held ++ b)) t′ p′ r′ e out out′ moved;
-          left = ap (λ (j : ℕ). length s - j) n ∙ sym (length-drop (length b) s) ∙ ap length (sym (left-is a (length out) (held ++ b) u (stage (held ++ b))));
+          leaves = left-behind a (lending (length out)) (held ++ b) u (stage (held ++ b)) t′ p′ r′ e out out′ moved;
+          left = ap (λ (j : ℕ). length s - j) n ∙ sym (length-drop (length b) s) ∙ ap length (sym (left-is a (lending (length out)) (held ++ b) u (stage (held ++ b))));
         })

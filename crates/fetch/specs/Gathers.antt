@@ -9,7 +9,7 @@ use Rattle.rules.specs.declared.Stage.{Stage}
 use Rattle.rules.specs.declared.Stage.the-variants.{Lacks, Overlong, Decided}
 use Rattle.rules.specs.Checks.{_⇒_else_}
 use Rattle.rules.specs.State.{State}
-use Rattle.rules.specs.Command.{answered, refusal, command}
+use Rattle.rules.specs.Command.{answered, refusal, command, Terms}
 use Rattle.rules.specs.Fetch as rules
 use Rattle.rules.specs.Fetch.{stage}
 use Rattle.octets.specs.Parts.{pad}
@@ -54,10 +54,10 @@ brought g [] = []
 brought g (b ∷ s) = let rest = brought (g ++ b ∷ []) s in isLacking (stage g) ⇒ b ∷ rest else []
 
 -- what bytes g come to, with u behind those that were taken
-unfoldable pub concluded : State → ℕ → List ℕ → List ℕ → Stage → rules.Fetched
-concluded a buffer g u (Lacks n) = record { answer = answered a []; gathered = g; left = u }
-concluded a buffer g u Overlong = record { answer = refusal a CommandSize; gathered = []; left = u }
-concluded a buffer g u Decided = record { answer = command a buffer g; gathered = []; left = u }
+unfoldable pub concluded : State → Terms → List ℕ → List ℕ → Stage → rules.Fetched
+concluded a terms g u (Lacks n) = record { answer = answered a []; gathered = g; left = u }
+concluded a terms g u Overlong = record { answer = refusal a CommandSize; gathered = []; left = u }
+concluded a terms g u Decided = record { answer = command a terms g; gathered = []; left = u }
 
 -- the call is the answer of f, and the record r has what is gathered behind it
 pub record Leaves (f : rules.Fetched) (t p r : List ℕ) (e : Ended) (before after : List ℕ) : Type 0 where

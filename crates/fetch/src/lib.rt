@@ -14,7 +14,7 @@ ghost use mathlib.Core.Path.{_≡_};
 ghost use mathlib.Core.List.{[]};
 ghost use Prim.Native.Nat.{_-_, _≤_};
 ghost use lib.ListN.{length, take, drop};
-ghost use Rattle.rules.specs.Command.{command};
+ghost use Rattle.rules.specs.Command.{lending, command};
 ghost use Rattle.rules.specs.Fetch.{lengthToCome, lackingBy, stage, fetch};
 ghost use Rattle.octets.specs.Parts.{pasted};
 ghost use Rattle.session.specs.Picture.{GoodIn, shown};
@@ -123,7 +123,7 @@ fn hand_on(
     out: &mut [u8],
 ) -> Ended
     requires { ⌜ GoodIn (now ledger) (now pool) × Stands (now gathered) count ⌝ }
-    ensures { λ r. ⌜ Answers (command (shown (now (ledger .entry)) (now (pool .entry))) (length (now (out .entry))) (take count (now (gathered .entry)))) (now (ledger .exit)) (now (pool .exit)) r (now (out .entry)) (now (out .exit)) × (now (gathered .exit) ≡ gatheredOf []) ⌝ }
+    ensures { λ r. ⌜ Answers (command (shown (now (ledger .entry)) (now (pool .entry))) (lending (length (now (out .entry)))) (take count (now (gathered .entry)))) (now (ledger .exit)) (now (pool .exit)) r (now (out .entry)) (now (out .exit)) × (now (gathered .exit) ≡ gatheredOf []) ⌝ }
 {
     let ended = command_in(ledger, pool, &gathered[..count], out);
     octets::clear(gathered, 0, Gathered::SIZE);
@@ -139,7 +139,7 @@ fn conclude(
     out: &mut [u8],
 ) -> Ended
     requires { ⌜ GoodIn (now ledger) (now pool) × Stands (now gathered) count ⌝ }
-    ensures { λ r. ⌜ Leaves (concluded (shown (now (ledger .entry)) (now (pool .entry))) (length (now (out .entry))) (take count (now (gathered .entry))) [] (stage (take count (now (gathered .entry))))) (now (ledger .exit)) (now (pool .exit)) (now (gathered .exit)) r (now (out .entry)) (now (out .exit)) ⌝ }
+    ensures { λ r. ⌜ Leaves (concluded (shown (now (ledger .entry)) (now (pool .entry))) (lending (length (now (out .entry)))) (take count (now (gathered .entry))) [] (stage (take count (now (gathered .entry))))) (now (ledger .exit)) (now (pool .exit)) (now (gathered .exit)) r (now (out .entry)) (now (out .exit)) ⌝ }
 {
     match stage_of(&gathered[..count]) {
         Stage::Lacks(_) => {
@@ -163,7 +163,7 @@ pub fn fetch_in(
     out: &mut [u8],
 ) -> Fetched
     requires { ⌜ GoodIn (now ledger) (now pool) × Gathers (now gathered) ⌝ }
-    ensures { λ r. ⌜ Fetches (fetch (shown (now (ledger .entry)) (now (pool .entry))) (length (now (out .entry))) (gatheredIn (now (gathered .entry))) (now (bytes .entry))) (now (ledger .exit)) (now (pool .exit)) (now (gathered .exit)) r (now (out .entry)) (now (out .exit)) ⌝ }
+    ensures { λ r. ⌜ Fetches (fetch (shown (now (ledger .entry)) (now (pool .entry))) (lending (length (now (out .entry)))) (gatheredIn (now (gathered .entry))) (now (bytes .entry))) (now (ledger .exit)) (now (pool .exit)) (now (gathered .exit)) r (now (out .entry)) (now (out .exit)) ⌝ }
 {
     if out.len() < LEAST_BUFFER {
         return Fetched {

@@ -14,9 +14,8 @@ use Rattle.rules.specs.Checks.{_⇒_else_}
 use Rattle.rules.specs.Words.{channelOf}
 use Rattle.rules.specs.Profile.{profileSize}
 use Rattle.rules.specs.State.{State}
-use Rattle.rules.specs.Table.{bearerFits}
-use Rattle.rules.specs.Reading.{Reading, wrong, Command, Body, moreTime, eventList, openChannel, closeChannel, receiveData, sendData, channelStatus, bearerIn, commandIn, toModem, addressed, readObjects}
-use Rattle.rules.specs.Own.{Reply, reply, error, done, nothing, statuses, statusesFrom, plain, own, listing, opening, closing, receiving, sending}
+use Rattle.rules.specs.Reading.{Reading, wrong, Command, Body, bare, eventList, openChannel, closeChannel, receiveData, sendData, bearerIn, commandIn, toModem, addressed, readObjects}
+use Rattle.rules.specs.Own.{Reply, reply, error, telling, own, listing, opening, closing, receiving, sending}
 use Rattle.rules.specs.Written.{responseBytes}
 use Rattle.rules.specs.Command.{Answer, answered, meantBy}
 use Rattle.rules.proofs.Laws.{skip, both-left, both-right}
@@ -28,16 +27,14 @@ use Rattle.session.specs.Picture.{GoodIn, shown}
 use Rattle.session.specs.Calls.{Answers}
 use Rattle.session.specs.Changed.{Numbered}
 use Rattle.command.specs.declared.Handler.{Handler}
-use Rattle.command.specs.declared.Handler.the-variants.{MoreTime, EventList, Open, Close, Receive, Send, Status}
+use Rattle.command.specs.declared.Handler.the-variants.{Bare, EventList, Open, Close, Receive, Send}
 use Rattle.command.specs.declared.Request.{Request}
-use Rattle.command.specs.Plans.{handlerKind}
+use Rattle.command.specs.Plans.{handles}
 use Rattle.command.specs.Requests as requests
-use Rattle.command.specs.Requests.{AskedFor, BodyIs, theDetails, theObjects, theCommand}
+use Rattle.command.specs.Requests.{AskedFor, Opens, BodyIs, sizeAt, protocolAt, theDetails, theObjects, theCommand}
 use Rattle.responses.specs.Stands.{response, Stands}
-use Rattle.responses.proofs.Statuses.{statuses-shown}
-use Rattle.responses.specs.Stands.{statusesIn}
 use Rattle.own.specs.Replies.{told}
-use Rattle.own.proofs.Replies.{left-answers, plain-stands}
+use Rattle.own.proofs.Replies.{left-answers}
 use Rattle.modem.specs.Obeyed.{obeyed}
 
 -- an answer by what the command comes to
@@ -90,16 +87,22 @@ module _ (t p s : List ℕ) (q : Request) (g : GoodIn t p) (h : AskedFor q (part
     as-body : (b : Body) (x : Reply) → c .body ≡ b → own a c b (q .ignored) ≡ x → ends x → obeys
     as-body b x e f w = as-obeyed (obeyed a s) (told d x) u r (Wrote k) before after (asked-told x (ap (λ (y : Body). own a c y (q .ignored)) e ∙ f)) w
 
+    pub bare-answers : q .handler ≡ Bare → ends (reply a (telling a (d .kind) (q .ignored))) → obeys
+    unfolding own
+    bare-answers e = as-body (bare (d .kind)) _ (body-is Bare e) refl
+
     pub events-answers : q .handler ≡ EventList → ends (listing a (requests.own q s) (q .ignored)) → obeys
     unfolding own
     events-answers e = as-body (eventList (requests.own q s)) _ (body-is EventList e) refl
 
-    pub open-answers : q .handler ≡ Open → ends (opening a (d .qualifier) (bearerIn (requests.own q s)) (q .size) (q .protocol) (q .ignored)) → obeys
+    pub open-answers :
+        q .handler ≡ Open → {size protocol : ℕ} → size ≡ sizeAt s (q .further) → protocol ≡ protocolAt s (q .transport) →
+        ends (opening a (d .qualifier) (bearerIn (requests.own q s)) size protocol (q .ignored)) → obeys
     unfolding own
-    open-answers e =
+    open-answers e f g =
         let o = body-is Open e in
-        as-body (openChannel (bearerIn (requests.own q s)) (q .size) (o .0)) _ (o .1)
-        (λ i. opening a (qualifier-is i) (bearerIn (requests.own q s)) (q .size) (o .2 i) (q .ignored))
+        as-body (openChannel (bearerIn (requests.own q s)) (sizeAt s (q .further)) (o .level)) _ (o .is)
+        (λ i. opening a (qualifier-is i) (bearerIn (requests.own q s)) (sym f i) ((o .protocol ∙ sym g) i) (q .ignored))
 
     -- a command to the channel that its destination names
     module _ (n : ChannelNumber) (v : n ≡ channelOf (q .destination)) where
@@ -121,39 +124,24 @@ module _ (t p s : List ℕ) (q : Request) (g : GoodIn t p) (h : AskedFor q (part
       send-answers e =
           as-body (sendData (requests.own q s)) _ (body-is Send e) (λ i. sending a (qualifier-is i) (number-is i) (requests.own q s) (q .ignored))
 
-  -- what changes nothing: the session stays
-  module _ (x k : ℕ) (before after : List ℕ) (m : x ≡ plain (q .ignored)) where
-    pub more-time-answers : q .handler ≡ MoreTime → Stands (response d (error x)) k before after → Answers (obeyed a s) t p (Wrote k) before after
-    unfolding own
-    more-time-answers e w =
-        as-body t p k before after moreTime _ (body-is MoreTime e) refl
-        (left-answers d _ (done (plain (q .ignored)) nothing) t p k before after refl g (plain-stands d x (q .ignored) k before after m w))
-
-    pub status-answers : q .handler ≡ Status → Stands (response d (done x (statuses (statusesIn t 0 7)))) k before after → Answers (obeyed a s) t p (Wrote k) before after
-    unfolding own
-    status-answers e w =
-        as-body t p k before after channelStatus _ (body-is Status e) refl
-        (left-answers d _ (done (plain (q .ignored)) (statuses (statusesFrom 1 (a .chans)))) t p k before after refl g
-        (subst (λ (y : List ℕ). Stands y k before after) (λ i. response d (done (m i) (statuses (statuses-shown t p g i)))) w))
-
   pub one-byte : q .handler ≡ Receive → q .start + 1 ≤ length s
   one-byte e = omega (arith, h .within, body-is Receive e .1)
 
-  pub bearer-ok : q .handler ≡ Open → bearerFits (requests.own q s) ≡ true
-  bearer-ok e = body-is Open e .3
+  pub opens : q .handler ≡ Open → Opens q s (c .body)
+  opens e = body-is Open e
 
   -- a command to a channel has one of the seven numbers
-  pub numbered : (n : ChannelNumber) (k : Handler) → n ≡ channelOf (q .destination) → q .handler ≡ k → toModem (handlerKind k) ≡ false → Numbered t p n
+  pub numbered : (n : ChannelNumber) (k : Handler) → n ≡ channelOf (q .destination) → q .handler ≡ k → (j : ℕ) → (handles k (d .kind) ≡ true → d .kind ≡ j) → toModem j ≡ false → Numbered t p n
   unfolding addressed
-  numbered n k v e f =
-      let kind : theDetails s .kind ≡ handlerKind k = ap (λ (x : Details). x .kind) (h .details) ∙ h .kind ∙ ap handlerKind e in
-      let to : addressed (handlerKind k) (c .source) (q .destination) ≡ true =
+  numbered n k v e j is f =
+      let kind : theDetails s .kind ≡ j = ap (λ (x : Details). x .kind) (h .details) ∙ is (subst (λ (x : Handler). handles x (d .kind) ≡ true) e (h .kind)) in
+      let to : addressed j (c .source) (q .destination) ≡ true =
       sym (λ i. addressed (kind i) (c .source) (h .destination i)) ∙ h .devices in
       let from : Bool = leb 0x21 (q .destination .0) in
       let upto : Bool = leb (q .destination .0) 0x27 in
       let modem : Bool = eqb (q .destination .0) 0x82 in
-      let within = sym (skip (toModem (handlerKind k)) modem (from && upto) f) ∙
-      both-right (eqb (c .source .0) 0x81) (toModem (handlerKind k) ⇒ modem else from && upto) to in
+      let within = sym (skip (toModem j) modem (from && upto) f) ∙
+      both-right (eqb (c .source .0) 0x81) (toModem j ⇒ modem else from && upto) to in
       let low = leb-true 0x21 (q .destination .0) (both-left from upto within) in
       let high = leb-true (q .destination .0) 0x27 (both-right from upto within) in
       let z = ap (λ (m : ChannelNumber). m .0) v in

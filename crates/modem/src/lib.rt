@@ -8,23 +8,23 @@ use command::read_objects;
 use opening::open;
 use own::close;
 use own::list_events;
-use own::plain;
 use own::receive;
 use own::send;
+use own::tell;
 use pool::Pool;
 use responses::tell_result;
-use responses::tell_statuses;
 use rules::Details;
 use rules::Ended;
 use rules::Refusal;
 use session::Answered;
 use session::Ledger;
 use session::Session;
-ghost use Prim.Native.Nat.{_≤_};
+ghost use mathlib.Core.Path.{_≡_};
+ghost use Prim.Native.Nat.{_+_, _≤_, _<_};
 ghost use lib.ListN.{length};
 ghost use Rattle.rules.specs.Profile.{profileSize};
-ghost use Rattle.rules.specs.Command.{command};
-ghost use Rattle.command.specs.Requests.{AskedFor, Reads};
+ghost use Rattle.rules.specs.Command.{lending, command};
+ghost use Rattle.command.specs.Requests.{sizeAt, protocolAt, AskedFor, Reads};
 ghost use Rattle.octets.specs.Parts.{part};
 ghost use Rattle.rules.specs.declared.Ended.the-variants.{Wrote};
 ghost use Rattle.session.specs.Picture.{Good, GoodIn, shown, view};
@@ -35,6 +35,30 @@ ghost use Rattle.modem.specs.Obeyed.{obeyed};
 pub const LEAST_BUFFER: usize = 255;
 
 const LONGEST: usize = 256;
+
+// The protocol of a channel whose transport level does not stand.
+const TCP: u8 = 0x02;
+
+// The size at a place, high byte first.
+fn size_at(s: &[u8], at: usize) -> u16
+    requires { ⌜ at + 2 ≤ length (now s) ⌝ }
+    ensures { λ r. ⌜ r ≡ sizeAt (now (s .entry)) at ⌝ }
+{
+    let high = s[at] as u16;
+    let low = s[at + 1] as u16;
+    256 * high + low
+}
+
+// The protocol at the place of a transport level; TCP where none stands.
+fn protocol_at(s: &[u8], at: usize) -> u8
+    requires { ⌜ (0 < at → at < length (now s)) ⌝ }
+    ensures { λ r. ⌜ r ≡ protocolAt (now (s .entry)) at ⌝ }
+{
+    if at == 0 {
+        return TCP;
+    }
+    s[at]
+}
 
 // Does what a request asks, by its handler.
 fn carry_out(
@@ -55,14 +79,14 @@ fn carry_out(
     let n = to.channel();
     let handler = q.handler;
     match handler {
-        Handler::MoreTime => tell_result(out, d, plain(ignored)),
+        Handler::Bare => tell(ledger, pool, d, ignored, out),
         Handler::EventList => list_events(ledger, pool, &s[start..end], d, ignored, out),
         Handler::Open => open(
             ledger,
             pool,
             &s[start..end],
-            q.size,
-            q.protocol,
+            size_at(s, q.further),
+            protocol_at(s, q.transport),
             d,
             ignored,
             out,
@@ -70,7 +94,6 @@ fn carry_out(
         Handler::Close => close(ledger, pool, n, d, ignored, out),
         Handler::Receive => receive(ledger, pool, n, s[start], d, ignored, out),
         Handler::Send => send(ledger, pool, n, &s[start..end], d, ignored, out),
-        Handler::Status => tell_statuses(out, d, plain(ignored), ledger),
     }
 }
 
@@ -106,7 +129,7 @@ pub fn command_in(
     out: &mut [u8],
 ) -> Ended
     requires { ⌜ GoodIn (now ledger) (now pool) ⌝ }
-    ensures { λ r. ⌜ Answers (command (shown (now (ledger .entry)) (now (pool .entry))) (length (now (out .entry))) (now (s .entry))) (now (ledger .exit)) (now (pool .exit)) r (now (out .entry)) (now (out .exit)) ⌝ }
+    ensures { λ r. ⌜ Answers (command (shown (now (ledger .entry)) (now (pool .entry))) (lending (length (now (out .entry)))) (now (s .entry))) (now (ledger .exit)) (now (pool .exit)) r (now (out .entry)) (now (out .exit)) ⌝ }
 {
     if out.len() < LEAST_BUFFER {
         return Ended::Refused(Refusal::ShortBuffer);
@@ -133,7 +156,7 @@ pub fn command_in(
 // The card sends a command.
 pub fn command(session: Session, s: &[u8], out: &mut [u8]) -> Answered
     requires { ⌜ Good session ⌝ }
-    ensures { λ r. ⌜ Answers (command (view session) (length (now (out .entry))) (now (s .entry))) (r .session .ledger) (r .session .pool) (r .ended) (now (out .entry)) (now (out .exit)) ⌝ }
+    ensures { λ r. ⌜ Answers (command (view session) (lending (length (now (out .entry)))) (now (s .entry))) (r .session .ledger) (r .session .pool) (r .ended) (now (out .entry)) (now (out .exit)) ⌝ }
 {
     let mut ledger = session.ledger;
     let mut pool = session.pool;

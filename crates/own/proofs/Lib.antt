@@ -1,4 +1,5 @@
 pub mod Replies
 pub mod Sends
 pub mod Events
+pub mod Telling
 pub mod Settled

@@ -13,6 +13,8 @@ use Rattle.own.proofs.plain.Kinds as plain-kinds
 use Rattle.own.proofs.plain.Reads as plain-reads
 use Rattle.own.proofs.short_or.Kinds as short-or-kinds
 use Rattle.own.proofs.short_or.Reads as short-or-reads
+use Rattle.own.proofs.tell.Kinds as tell-kinds
+use Rattle.own.proofs.tell.Reads as tell-reads
 use Rattle.own.proofs.list_events.Kinds as list-events-kinds
 use Rattle.own.proofs.list_events.Reads as list-events-reads
 use Rattle.own.proofs.close.Kinds as close-kinds
@@ -36,6 +38,9 @@ counted (Refused r) = 0
 pub count-told :
     {r : Answer} {t u p q before after after′ : List ℕ} {x y : ℕ} → Answers r t p (Wrote x) before after → Answers r u q (Wrote y) before after′ → x ≡ y
 count-told s z = ap counted (ended-alike s z)
+
+pub tell-settled : Determined 3 tell-kinds.ps tell-kinds.r tell-reads.Pre tell-reads.Post
+tell-settled κs a _ x y v w p q = (count-told p q, λ i. (tt, (tt, (tt, (tt, (lent-alike p q i, tt))))))
 
 pub list-events-settled : Determined 4 list-events-kinds.ps list-events-kinds.r list-events-reads.Pre list-events-reads.Post
 list-events-settled κs a _ x y v w p q = (count-told p q, λ i. (ledger-told p q i, (tt, (tt, (tt, (tt, (lent-alike p q i, tt)))))))

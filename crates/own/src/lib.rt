@@ -5,11 +5,13 @@ use responses::tell_problem;
 use responses::tell_received;
 use responses::tell_result;
 use responses::tell_sent;
+use responses::tell_statuses;
 use rules::ChannelNumber;
 use rules::Details;
 use rules::Events;
 use rules::Link;
 use rules::Way;
+use rules::lists;
 use session::Channel;
 use session::ESTABLISHED;
 use session::Ledger;
@@ -27,11 +29,11 @@ use session::start_of;
 ghost use mathlib.Core.Path.{_≡_};
 ghost use Prim.Native.Nat.{_+_, _≤_};
 ghost use lib.ListN.{length};
-ghost use Rattle.rules.specs.Checks.{_⇒_else_, every, member};
+ghost use Rattle.rules.specs.Checks.{_⇒_else_, every};
 ghost use Rattle.rules.specs.Profile.{profileSize, allowsEvent};
 ghost use Rattle.rules.specs.declared.Way.the-variants.{Send};
 ghost use Rattle.rules.specs.State.{isDropped, crowded};
-ghost use Rattle.rules.specs.Own.{plain, listing, closing, receiving, sending};
+ghost use Rattle.rules.specs.Own.{plain, reply, telling, listing, closing, receiving, sending};
 ghost use Rattle.rules.specs.declared.Ended.the-variants.{Wrote};
 ghost use Rattle.session.specs.Picture.{GoodIn, linkOf, shown};
 ghost use Rattle.session.specs.Calls.{Answers};
@@ -41,6 +43,9 @@ ghost use Rattle.own.specs.Replies.{told, sentEntry, sentWhole};
 
 // The most bytes that an answer to RECEIVE DATA carries.
 const DATA_CAP: usize = 237;
+
+// The type of GET CHANNEL STATUS.
+const GET_CHANNEL_STATUS: u8 = 0x44;
 
 // The result of a command that was done: 01 if an unexpected object was ignored, else 00.
 pub fn plain(ignored: bool) -> u8
@@ -62,6 +67,23 @@ pub fn short_or(short: bool, result: u8, ignored: bool) -> u8
     plain(ignored)
 }
 
+// The types that change nothing: GET CHANNEL STATUS tells the statuses, MORE TIME tells nothing. The session stays.
+pub fn tell(
+    ledger: &[u16; Ledger::SIZE],
+    pool: &[u8; Pool::SIZE],
+    d: Details,
+    ignored: bool,
+    out: &mut [u8],
+) -> usize
+    requires { ⌜ GoodIn (now ledger) (now pool) × (255 ≤ length (now out)) ⌝ }
+    ensures { λ r. ⌜ Answers (told d (reply (shown (now (ledger .entry)) (now (pool .entry))) (telling (shown (now (ledger .entry)) (now (pool .entry))) (d .kind) ignored))) (now (ledger .entry)) (now (pool .entry)) (Wrote r) (now (out .entry)) (now (out .exit)) ⌝ }
+{
+    if d.kind == GET_CHANNEL_STATUS {
+        return tell_statuses(out, d, plain(ignored), ledger);
+    }
+    tell_result(out, d, plain(ignored))
+}
+
 // Whether the profile, the first numbers of the ledger, allows each of the events.
 fn all_allowed(ledger: &[u16], events: &[u8]) -> bool
     requires { ⌜ profileSize ≤ length (now ledger) ⌝ }
@@ -75,20 +97,6 @@ fn all_allowed(ledger: &[u16], events: &[u8]) -> bool
         i += 1;
     }
     true
-}
-
-// Whether an event stands in the list.
-fn lists(events: &[u8], event: u8) -> bool
-    ensures { λ r. ⌜ r ≡ member event (now (events .entry)) ⌝ }
-{
-    let mut i: usize = 0;
-    while i < events.len() {
-        if event == events[i] {
-            return true;
-        }
-        i += 1;
-    }
-    false
 }
 
 // SET UP EVENT LIST: each value must be allowed, or the list stays; it replaces the old one. The pool stays.

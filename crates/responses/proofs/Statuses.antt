@@ -18,8 +18,8 @@ use Rattle.rules.specs.Checks.{_⇒_else_}
 use Rattle.rules.specs.Frames.{lengthBytes, objectBytes, written}
 use Rattle.rules.specs.Profile.{profileSize}
 use Rattle.rules.specs.State.{State, closed, isOpen}
-use Rattle.rules.specs.Own.{Status, error, done, statuses, statusesFrom}
-use Rattle.rules.specs.Written.{furtherObjects, statusBytes, statusObject, statusObjects}
+use Rattle.rules.specs.Own.{Status, error, done, statuses, reports, statusesFrom}
+use Rattle.rules.specs.Written.{furtherObjects, statusBytes, statusObject, statusObjects, reportObjects}
 use Rattle.rules.proofs.Laws.{stop, skip}
 use Rattle.octets.specs.Parts.{pasted}
 use Rattle.octets.proofs.Pastes.{paste-after, length-pasted}
@@ -153,13 +153,13 @@ module _ (t : List ℕ) (head : ℕ) (begun : List ℕ) where
   unfolding rest written statusesIn
   all-told at out h = sym (append-nil (h .text)) ∙ h .whole
 
-told-some : (ss : List Status) → 0 < length (bytesOf ss) → written (furtherObjects (statuses ss)) ≡ bytesOf ss
-unfolding furtherObjects statusObjects written
+told-some : (ss : List Status) → 0 < length (bytesOf ss) → written (furtherObjects (reports (statuses ss))) ≡ bytesOf ss
+unfolding furtherObjects reportObjects statusObjects written
 told-some [] h = absurd (let z : 0 < 0 = h in omega arith)
 told-some (s ∷ ss) h = refl
 
-told-none : (ss : List Status) → length (bytesOf ss) ≡ 0 → written (furtherObjects (statuses ss)) ≡ 0x38 ∷ 0x02 ∷ 0x00 ∷ 0x00 ∷ []
-unfolding furtherObjects statusObjects written objectBytes lengthBytes _⇒_else_
+told-none : (ss : List Status) → length (bytesOf ss) ≡ 0 → written (furtherObjects (reports (statuses ss))) ≡ 0x38 ∷ 0x02 ∷ 0x00 ∷ 0x00 ∷ []
+unfolding furtherObjects reportObjects statusObjects written objectBytes lengthBytes _⇒_else_
 told-none [] h = refl
 told-none (s ∷ ss) h = absurd (let z : suc _ ≡ 0 = h in omega arith)
 
@@ -179,16 +179,16 @@ module _ (d : Details) (x : ℕ) (t : List ℕ) (before : List ℕ) (head : ℕ)
   text-size : at ≡ head + length (bytesOf ss)
   text-size = h .counted ∙ ap (λ (u : List ℕ). head + length u) (all-told t head begun at out h)
 
-  pub some-stand : head < at → Stands (response d (done x (statuses ss))) at before out
+  pub some-stand : head < at → Stands (response d (done x (reports (statuses ss)))) at before out
   some-stand g =
       let z = text-size in
       subst (λ (u : List ℕ). Stands u at before out)
-      (ap (λ (u : List ℕ). response d (error x) ++ u) (sym (told-some ss (omega arith))) ∙ sym (behind-head d x (statuses ss)))
+      (ap (λ (u : List ℕ). response d (error x) ++ u) (sym (told-some ss (omega arith))) ∙ sym (behind-head d x (reports (statuses ss))))
       text-stands
 
   pub none-stands :
       at ≤ head → (after : List ℕ) → after ≡ pasted out at (0x38 ∷ 0x02 ∷ 0x00 ∷ 0x00 ∷ []) →
-      Stands (response d (done x (statuses ss))) (at + 4) before after
+      Stands (response d (done x (reports (statuses ss)))) (at + 4) before after
   none-stands g after e =
       let z = text-size in
       let c = b .counted ∙ head-size d x in
@@ -197,7 +197,7 @@ module _ (d : Details) (x : ℕ) (t : List ℕ) (before : List ℕ) (head : ℕ)
       (ap (λ (u : List ℕ). (response d (error x) ++ u) ++ (0x38 ∷ 0x02 ∷ 0x00 ∷ 0x00 ∷ [])) n
       ∙ ap (λ (u : List ℕ). u ++ (0x38 ∷ 0x02 ∷ 0x00 ∷ 0x00 ∷ [])) (append-nil (response d (error x)))
       ∙ ap (λ (u : List ℕ). response d (error x) ++ u) (sym (told-none ss (omega arith)))
-      ∙ sym (behind-head d x (statuses ss)))
+      ∙ sym (behind-head d x (reports (statuses ss))))
       (more (response d (error x) ++ bytesOf ss) (0x38 ∷ 0x02 ∷ 0x00 ∷ 0x00 ∷ []) at (at + 4) before out after text-stands refl (omega arith) e)
 
 -- the statuses that the ledger tells are those of the state whose ledger it is

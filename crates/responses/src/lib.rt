@@ -13,7 +13,7 @@ ghost use lib.ListN.{length};
 ghost use Rattle.octets.specs.Parts.{part, pasted};
 ghost use Rattle.rules.specs.Frames.{objectBytes};
 ghost use Rattle.rules.specs.Reading.{bearerIn};
-ghost use Rattle.rules.specs.Own.{error, problem, done, opened, received, sent, statuses};
+ghost use Rattle.rules.specs.Own.{error, problem, done, opened, received, sent, statuses, reports};
 ghost use Rattle.rules.specs.Written.{statusBytes, statusObject};
 ghost use Rattle.session.specs.Book.{ledgerSize};
 ghost use Rattle.session.specs.Picture.{linkOf};
@@ -152,7 +152,7 @@ fn tell_status(out: &mut [u8], at: usize, n: ChannelNumber, link: u16) -> usize
 // Writes the answer to GET CHANNEL STATUS: a result and a status for each open channel, rising; none open: 00 00.
 pub fn tell_statuses(out: &mut [u8], d: Details, result: u8, ledger: &[u16; Ledger::SIZE]) -> usize
     requires { ⌜ (length (now ledger) ≡ ledgerSize) × (40 ≤ length (now out)) ⌝ }
-    ensures { λ r. ⌜ Stands (response d (done result (statuses (statusesIn (now (ledger .entry)) 0 7)))) r (now (out .entry)) (now (out .exit)) ⌝ }
+    ensures { λ r. ⌜ Stands (response d (done result (reports (statuses (statusesIn (now (ledger .entry)) 0 7))))) r (now (out .entry)) (now (out .exit)) ⌝ }
 {
     let head = tell_result(out, d, result);
     let mut at = head;

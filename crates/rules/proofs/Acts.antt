@@ -14,7 +14,7 @@ use Rattle.rules.specs.Checks.{_⇒_else_}
 use Rattle.rules.specs.Frames.{objectBytes, written}
 use Rattle.rules.specs.Written.{Response, responseObjects, responseBytes}
 use Rattle.rules.specs.State.{State}
-use Rattle.rules.specs.Command.{wrote, refused, Answer, answered, command}
+use Rattle.rules.specs.Command.{wrote, refused, Answer, answered, command, Terms}
 use Rattle.rules.specs.Fetch.{Fetched, fetch}
 use Rattle.rules.specs.Run.{Call, commanding, step, after}
 use Rattle.rules.specs.History.{Exchange, callsOf, seenFrom}
@@ -54,37 +54,37 @@ taken-back s t u e =
     let m : length t ≡ length s - length u = omega (arith, k, j) in ap (take (length s - length u)) e ∙ take-at t u (length s - length u) m
 
 response-seen :
-    (a : State) (buffer : ℕ) (g s t u : List ℕ) (r : Response) (b : State) → s ≡ t ++ u → command a buffer (g ++ t) ≡ answered b (responseBytes r) →
-    Led a (burstSeen buffer g s (length u) (wrote (responseBytes r))) b
+    (a : State) (terms : Terms) (g s t u : List ℕ) (r : Response) (b : State) → s ≡ t ++ u → command a terms (g ++ t) ≡ answered b (responseBytes r) →
+    Led a (burstSeen terms g s (length u) (wrote (responseBytes r))) b
 unfolding burstSeen step responseBytes responseObjects written objectBytes
-response-seen a buffer g s t u r b e x =
-    subst (λ (k : List ℕ). Led a (record { call = commanding buffer (g ++ k); outcome = wrote (responseBytes r) } ∷ []) b) (sym (taken-back s t u e))
-    (led-one a (commanding buffer (g ++ t)) (answered b (responseBytes r)) x)
+response-seen a terms g s t u r b e x =
+    subst (λ (k : List ℕ). Led a (record { call = commanding terms (g ++ k); outcome = wrote (responseBytes r) } ∷ []) b) (sym (taken-back s t u e))
+    (led-one a (commanding terms (g ++ t)) (answered b (responseBytes r)) x)
 
 -- an answer to the bytes g with t behind them is that of the command call
 command-seen :
-    (a : State) (buffer : ℕ) (g s t u : List ℕ) → s ≡ t ++ u →
-    Led a (burstSeen buffer g s (length u) (command a buffer (g ++ t) .outcome)) (command a buffer (g ++ t) .state)
+    (a : State) (terms : Terms) (g s t u : List ℕ) → s ≡ t ++ u →
+    Led a (burstSeen terms g s (length u) (command a terms (g ++ t) .outcome)) (command a terms (g ++ t) .state)
 unfolding burstSeen
-command-seen a buffer g s t u e =
-    command-cases (λ (x : Answer). command a buffer (g ++ t) ≡ x → Led a (burstSeen buffer g s (length u) (x .outcome)) (x .state)) a (λ _ _. led-none a) buffer (g ++ t)
-    (λ _ _ x. response-seen a buffer g s t u _ _ e x) refl
+command-seen a terms g s t u e =
+    command-cases (λ (x : Answer). command a terms (g ++ t) ≡ x → Led a (burstSeen terms g s (length u) (x .outcome)) (x .state)) a (λ _ _. led-none a) terms (g ++ t)
+    (λ _ _ x. response-seen a terms g s t u _ _ e x) refl
 
 -- what is seen of a burst leads to the state behind it
-pub burst-led : (a : State) (buffer : ℕ) (g s : List ℕ) → let f = fetch a buffer g s in Led a (burstSeen buffer g s (length (f .left)) (f .answer .outcome)) (f .answer .state)
+pub burst-led : (a : State) (terms : Terms) (g s : List ℕ) → let f = fetch a terms g s in Led a (burstSeen terms g s (length (f .left)) (f .answer .outcome)) (f .answer .state)
 unfolding fetch burstSeen
-burst-led a buffer g s =
-    let Q : Fetched → Type 0 = λ (f : Fetched). Led a (burstSeen buffer g s (length (f .left)) (f .answer .outcome)) (f .answer .state) in
-    branch Q _ _ _ (λ _. led-none a) (λ _. burst-cases Q a buffer g s (led-none a) (λ t u e i. led-none a) (λ t u e i. command-seen a buffer g s t u e))
+burst-led a terms g s =
+    let Q : Fetched → Type 0 = λ (f : Fetched). Led a (burstSeen terms g s (length (f .left)) (f .answer .outcome)) (f .answer .state) in
+    branch Q _ _ _ (λ _. led-none a) (λ _. burst-cases Q a terms g s (led-none a) (λ t u e i. led-none a) (λ t u e i. command-seen a terms g s t u e))
 
 -- whatever a host does: what was seen is what the definitions see of the same calls, and these lead to the same state
 pub acted-led : (a : State) (g : List ℕ) (xs : List Act) → Led a (acted a g xs .seen) (acted a g xs .state)
 unfolding acted
 acted-led a g [] = led-none a
 acted-led a g (calls c ∷ xs) = led-on a _ _ _ _ (led-one a c (step a c) refl) (acted-led (step a c .state) g xs)
-acted-led a g (bursts buffer s ∷ xs) =
-    let f = fetch a buffer g s in
-    led-on a _ _ _ _ (burst-led a buffer g s) (acted-led (f .answer .state) (gatheredBy g s (f .answer .outcome)) xs)
+acted-led a g (bursts terms s ∷ xs) =
+    let f = fetch a terms g s in
+    led-on a _ _ _ _ (burst-led a terms g s) (acted-led (f .answer .state) (gatheredBy g s (f .answer .outcome)) xs)
 acted-led a g (clears ∷ xs) = acted-led a [] xs
 
 size-gathers : (g s : List ℕ) → [] ≡ gatheredBy g s (refused CommandSize)
@@ -95,15 +95,15 @@ response-gathers : (g s : List ℕ) (r : Response) → [] ≡ gatheredBy g s (wr
 unfolding gatheredBy responseBytes responseObjects written objectBytes
 response-gathers g s r = refl
 
-command-gathers : (a : State) (buffer : ℕ) (g s t : List ℕ) → ltb buffer 255 ≡ false → [] ≡ gatheredBy g s (command a buffer t .outcome)
+command-gathers : (a : State) (terms : Terms) (g s t : List ℕ) → ltb (terms .buffer) 255 ≡ false → [] ≡ gatheredBy g s (command a terms t .outcome)
 unfolding command
-command-gathers a buffer g s t e =
+command-gathers a terms g s t e =
     let Q : Answer → Type 0 = λ (x : Answer). [] ≡ gatheredBy g s (x .outcome) in
     branch Q _ _ _ (λ f. absurd (true≢false (sym f ∙ e))) (λ _. branch Q _ _ _ (λ _. size-gathers g s) (λ _. response-gathers g s _))
 
 -- what is gathered behind a burst is told by the bursts and how they ended
-pub gathered-told : (a : State) (buffer : ℕ) (g s : List ℕ) → fetch a buffer g s .gathered ≡ gatheredBy g s (fetch a buffer g s .answer .outcome)
+pub gathered-told : (a : State) (terms : Terms) (g s : List ℕ) → fetch a terms g s .gathered ≡ gatheredBy g s (fetch a terms g s .answer .outcome)
 unfolding fetch gatheredBy _⇒_else_
-gathered-told a buffer g s =
+gathered-told a terms g s =
     let Q : Fetched → Type 0 = λ (f : Fetched). f .gathered ≡ gatheredBy g s (f .answer .outcome) in
-    branch Q _ _ _ (λ _. refl) (λ e. burst-cases Q a buffer g s refl (λ t u _ _. size-gathers g s) (λ t u _ _. command-gathers a buffer g s (g ++ t) e))
+    branch Q _ _ _ (λ _. refl) (λ e. burst-cases Q a terms g s refl (λ t u _ _. size-gathers g s) (λ t u _ _. command-gathers a terms g s (g ++ t) e))

@@ -12,15 +12,15 @@ use Rattle.rules.specs.declared.Refusal.the-variants.{Overfull, NoPlace}
 use Rattle.rules.specs.Words.{channelOf}
 use Rattle.rules.specs.declared.Way.the-variants.{Receive, Send}
 use Rattle.rules.specs.State.{State, Chan, isOpen, isDropped, chan, withChan, room, held, arrived, removed, crowded}
-use Rattle.rules.specs.Reading.{Reading, wrong, asked, reading, Command, Body, moreTime, eventList, openChannel, closeChannel, receiveData, sendData, channelStatus, other}
-use Rattle.rules.specs.Own.{Reply, reply, Result, Further, nothing, opened, received, sent, statuses, error, problem, done, capped, sending, own, protocolOf}
-use Rattle.rules.specs.Command.{Answer, Meant, answered, refusal, Outcome, wrote, refused, command, meantBy}
+use Rattle.rules.specs.Reading.{Reading, wrong, asked, reading, Command, Body, bare, eventList, openChannel, closeChannel, receiveData, sendData}
+use Rattle.rules.specs.Own.{Reply, reply, Result, Further, nothing, opened, received, sent, error, problem, done, capped, sending, own, protocolOf, reports}
+use Rattle.rules.specs.Command.{Answer, Meant, answered, refusal, Outcome, wrote, refused, command, meantBy, Terms}
 use Rattle.rules.specs.Radio.{arrival, arrivalEvent}
 use Rattle.rules.specs.Run.{Call, step}
 use Rattle.rules.specs.History.{commandSeen}
 use Rattle.rules.specs.Demands.{accepted, isDone}
 use Rattle.rules.proofs.Laws.{branch, skip}
-use Rattle.rules.proofs.Cases.{Linked, command-cases, listing-cases, opening-cases, closing-cases, receiving-cases, sending-cases}
+use Rattle.rules.proofs.Cases.{Linked, command-cases, listing-cases, opening-cases, closing-cases, receiving-cases, sending-cases, telling-cases}
 use Rattle.rules.proofs.Readings.{reading-cases}
 use Rattle.rules.proofs.Refusals.{refusal-stays}
 use Rattle.rules.proofs.Told.{open-changed}
@@ -67,7 +67,7 @@ Undone-stays a r = isDone (r .result) ≡ false → r .state ≡ a
 
 own-undone : (a : State) (c : Command) (b : Body) (i : Bool) → Undone-stays a (own a c b i)
 unfolding own isDone
-own-undone a c moreTime i = λ _. refl
+own-undone a c (bare t) i = λ _. refl
 own-undone a c (eventList es) i = listing-cases (Undone-stays a) a es i (λ _. refl) (λ _ e. absurd (true≢false e))
 own-undone a c (openChannel b size t) i =
     opening-cases (Undone-stays a) a (λ _ _ _. refl) (c .qualifier) b size (protocolOf t) i (λ _. refl) (λ _ _ _ _ _ _ _ e. absurd (true≢false e))
@@ -76,8 +76,6 @@ own-undone a c (receiveData r) i =
     receiving-cases (Undone-stays a) a (λ _ _ _. refl) (channelOf (c .destination)) r i (λ _ _ _ e. absurd (true≢false e))
 own-undone a c (sendData s) i =
     sending-cases (Undone-stays a) a (λ _ _ _. refl) (c .qualifier) (channelOf (c .destination)) s i (λ _ _ _ _ _ _ e. absurd (true≢false e))
-own-undone a c channelStatus i = λ _. refl
-own-undone a c (other t) i = λ _. refl
 
 -- a command that is not done changes nothing
 pub undone-stays : (a : State) (r : Reading) → isDone (meantBy a r .response .result) ≡ false → meantBy a r .state ≡ a
@@ -101,9 +99,9 @@ seen-read p s c i =
     reading-cases (λ (r : Reading). r ≡ asked c i → commandSeen s ≡ c) p s (λ _ _ e. cc) (λ _ _ e. cc) (λ _ _ e. cc)
 
 -- the state after a command that was not refused
-pub commanded-state : (a : State) (buffer : ℕ) (s t : List ℕ) → command a buffer s .outcome ≡ wrote t → command a buffer s .state ≡ meantBy a (reading (a .profile) s) .state
-commanded-state a buffer s t =
-    command-cases (λ (r : Answer). r .outcome ≡ wrote t → r .state ≡ meantBy a (reading (a .profile) s) .state) a (λ _ e. cc) buffer s (λ _ _ _. refl)
+pub commanded-state : (a : State) (terms : Terms) (s t : List ℕ) → command a terms s .outcome ≡ wrote t → command a terms s .state ≡ meantBy a (reading (a .profile) s) .state
+commanded-state a terms s t =
+    command-cases (λ (r : Answer). r .outcome ≡ wrote t → r .state ≡ meantBy a (reading (a .profile) s) .state) a (λ _ e. cc) terms s (λ _ _ _. refl)
 
 -- a count that is told is the channel's
 abbrev pub Counts : Chan → Result → Type 0
@@ -113,14 +111,14 @@ Counts c (done x nothing) = Unit {0}
 Counts c (done x (opened s b g)) = Unit {0}
 Counts c (done x (received d left)) = left ≡ capped (length (held c Receive))
 Counts c (done x (sent space)) = space ≡ capped (room c Send)
-Counts c (done x (statuses ss)) = Unit {0}
+Counts c (done x (reports r)) = Unit {0}
 
 abbrev Counted : ChannelNumber → Reply → Type 0
 Counted n r = Counts (chan (r .state) n) (r .result)
 
 own-counts : (a : State) (c : Command) (b : Body) (i : Bool) → Counted (channelOf (c .destination)) (own a c b i)
 unfolding own
-own-counts a c moreTime i = tt
+own-counts a c (bare t) i = telling-cases (Counts (chan a (channelOf (c .destination)))) a t i tt tt
 own-counts a c (eventList es) i = listing-cases (Counted (channelOf (c .destination))) a es i tt (λ _. tt)
 own-counts a c (openChannel b size t) i =
     opening-cases (Counted (channelOf (c .destination))) a (λ _ _. tt) (c .qualifier) b size (protocolOf t) i tt (λ _ _ _ _ _ _ _. tt)
@@ -133,8 +131,6 @@ own-counts a c (sendData s) i =
     let n = channelOf (c .destination) in
     sending-cases (Counted n) a (λ _ _. tt) (c .qualifier) n s i
     (λ x _ o _ _ _. ap (λ (y : Chan). capped (room y Send)) (sym (open-changed a n x o)))
-own-counts a c channelStatus i = tt
-own-counts a c (other t) i = tt
 
 pub meant-counts :
     (a : State) (r : Reading) (c : Command) (i : Bool) (n : ChannelNumber) → r ≡ asked c i → channelOf (c .destination) ≡ n →

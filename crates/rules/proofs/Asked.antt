@@ -16,12 +16,13 @@ use Rattle.rules.specs.Checks.{_⇒_else_, isEmpty, every, some-of, occu
 use Rattle.rules.specs.Frames.{Object, len, lengthAt, lengthBytes, objectBytes, written, fills, following, framed, contents, frame}
 use Rattle.rules.specs.Table.{table, known, rowAmong, rowOf, times, sift, present, valueOf, complete, bearerFits, lengthFits, measured}
 use Rattle.rules.specs.Profile.{allowsType}
-use Rattle.rules.specs.Reading.{wrong, asked, reading, readObjects, Command, Body, Bearer, Transport, moreTime, eventList, openChannel, closeChannel, receiveData, sendData, channelStatus, other, kindOf, detailsOf, detailsIn, bodyIn, commandIn, addressed, isFault, startsWithDetails}
+use Rattle.rules.specs.Reading.{wrong, asked, reading, readObjects, Command, Body, Bearer, Transport, bare, eventList, openChannel, closeChannel, receiveData, sendData, kindOf, detailsOf, detailsIn, bodyIn, commandIn, addressed, isFault, startsWithDetails}
+use Rattle.rules.specs.Own.{bareTypes}
 use Rattle.rules.specs.Written.{flagged, unflagged, detailsBytes, bearerBytes, pairBytes}
 use Rattle.rules.specs.Command.{Outcome, wrote, refused}
 use Rattle.rules.specs.Bench.{bearerProper, bodyProper, transportObjects, bodyObjects, commandObjects, benchWrite}
 use Rattle.rules.specs.Sound.{Each}
-use Rattle.rules.proofs.Laws.{branch, stop, skip, not-not, both-left, both-right, either, by-equal}
+use Rattle.rules.proofs.Laws.{branch, stop, skip, not-not, both-left, both-right, either, by-equal, each-member}
 use Rattle.rules.proofs.Sizes.{length-bytes}
 use Rattle.rules.proofs.Forms.{length-back, Named, walk-written, pair-back, bearer-back, transport-back}
 
@@ -78,7 +79,9 @@ kept :
     (n k q from to : ℕ) (b : Body) → bodyProper b ≡ true →
     Kept (record { number = n; kind = kindOf b; qualifier = q }) (flagged 0x01 (n ∷ k ∷ q ∷ []) ∷ flagged 0x02 (from ∷ to ∷ []) ∷ bodyObjects b) b
 unfolding bodyObjects transportObjects bodyProper pairBytes known kindOf table member some-of sift rowOf rowAmong times occurrences complete every present measured lengthFits valueOf bodyIn _⇒_else_
-kept n k q from to moreTime e = record { kind = refl; named = omega arith; counts = refl; whole = refl; lengths = refl; values = refl }
+kept n k q from to (bare t) e =
+    each-member (λ (x : ℕ). Kept (record { number = n; kind = x; qualifier = q }) (flagged 0x01 (n ∷ k ∷ q ∷ []) ∷ flagged 0x02 (from ∷ to ∷ []) ∷ []) (bare x)) t bareTypes
+    (record { kind = refl; named = omega arith; counts = refl; whole = refl; lengths = refl; values = refl }, (record { kind = refl; named = omega arith; counts = refl; whole = refl; lengths = refl; values = refl }, tt)) e
 kept n k q from to (eventList es) e = record { kind = refl; named = omega arith; counts = refl; whole = refl; lengths = refl; values = refl }
 kept n k q from to (openChannel b size none) e =
     record {
@@ -101,8 +104,6 @@ kept n k q from to (openChannel b size (some t)) e =
 kept n k q from to closeChannel e = record { kind = refl; named = omega arith; counts = refl; whole = refl; lengths = refl; values = refl }
 kept n k q from to (receiveData m) e = record { kind = refl; named = omega arith; counts = refl; whole = refl; lengths = refl; values = refl }
 kept n k q from to (sendData s) e = record { kind = refl; named = omega arith; counts = refl; whole = refl; lengths = refl; values = refl }
-kept n k q from to channelStatus e = record { kind = refl; named = omega arith; counts = refl; whole = refl; lengths = refl; values = refl }
-kept n k q from to (other t) e = absurd (false≢true e)
 
 -- a test and its lines, the other way round
 turned : {A : Type 0} (b : Bool) (x y : A) → (not b ⇒ x else y) ≡ (b ⇒ y else x)
@@ -148,7 +149,7 @@ transport-short (some t) = omega (arith, last-short (unflagged 0x3C (t .protocol
 
 body-short : (b : Body) → bodyProper b ≡ true → length (written (bodyObjects b)) ≤ 244
 unfolding bodyProper bodyObjects written pairBytes
-body-short moreTime e = omega arith
+body-short (bare t) e = omega arith
 body-short (eventList es) e = omega (arith, last-short (flagged 0x19 es), leb-true (length es) 241 e)
 body-short (openChannel b size t) e =
     let three = object-short (flagged 0x35 (bearerBytes b)) in
@@ -159,8 +160,6 @@ body-short (openChannel b size t) e =
 body-short closeChannel e = omega arith
 body-short (receiveData n) e = omega (arith, last-short (flagged 0x37 (n ∷ [])))
 body-short (sendData s) e = omega (arith, last-short (flagged 0x36 s), leb-true (length s) 241 e)
-body-short channelStatus e = omega arith
-body-short (other t) e = absurd (false≢true e)
 
 frame-short : (c : Command) → bodyProper (c .body) ≡ true → length (frame (commandObjects c)) ≤ 256
 unfolding frame commandObjects written objectBytes lengthBytes detailsBytes _⇒_else_

@@ -15,7 +15,7 @@ use Rattle.rules.specs.State.{State}
 use Rattle.rules.specs.Reading.{Reading, wrong, asked, reading, readObjects, zeros, detailsOf, detailsIn, startsWithDetails}
 use Rattle.rules.specs.AtHand.{frontOf, detailsFirst, detailsTold, packedDetails, atHand}
 use Rattle.rules.specs.Written.{Response}
-use Rattle.rules.specs.Command.{Answer, wrote, command, meantBy}
+use Rattle.rules.specs.Command.{Answer, wrote, command, meantBy, Terms}
 use Rattle.rules.specs.Bench.{told, benchRead}
 use Rattle.rules.specs.Sound.{Sound}
 use Rattle.rules.proofs.Laws.{branch, stop, skip, same-kind, both-left, not-not}
@@ -109,20 +109,20 @@ meant-details a (wrong d e) = refl
 meant-details a (asked c i) = refl
 
 -- a command that is not refused has its size
-few : (a : State) (buffer : ℕ) (s t : List ℕ) → command a buffer s .outcome ≡ wrote t → isEmpty s || ltb 256 (length s) ≡ false
+few : (a : State) (terms : Terms) (s t : List ℕ) → command a terms s .outcome ≡ wrote t → isEmpty s || ltb 256 (length s) ≡ false
 unfolding command
-few a buffer s t =
+few a terms s t =
     branch (λ (x : Answer). x .outcome ≡ wrote t → isEmpty s || ltb 256 (length s) ≡ false) _ _ _ (λ _ q. absurd (false≢true (cc)))
     (λ _. branch (λ (x : Answer). x .outcome ≡ wrote t → isEmpty s || ltb 256 (length s) ≡ false) _ _ _ (λ _ q. absurd (false≢true (cc))) (λ f _. f))
 
 -- for every state and every command that is not refused, the bench reads in the answer just the details that are at hand
 pub at-hand :
-    (a : State) (buffer : ℕ) (s t : List ℕ) (r : Response) → Sound a → command a buffer s .outcome ≡ wrote t → benchRead t ≡ told r →
+    (a : State) (terms : Terms) (s t : List ℕ) (r : Response) → Sound a → command a terms s .outcome ≡ wrote t → benchRead t ≡ told r →
     atHand s ≡ packedDetails (r .details)
 unfolding atHand
-at-hand a buffer s t r h e q =
+at-hand a terms s t r h e q =
     let m = meantBy a (reading (a .profile) s) in
-    let heard = sym (modem-heard a buffer s t h e) ∙ q in
+    let heard = sym (modem-heard a terms s t h e) ∙ q in
     let is : m .response ≡ r = cc in
     let same = ap (λ (x : Response). x .details) (sym is) ∙ meant-details a (reading (a .profile) s) ∙ reading-details (a .profile) s in
-    skip _ _ _ (few a buffer s t e) ∙ ap packedDetails (sym same)
+    skip _ _ _ (few a terms s t e) ∙ ap packedDetails (sym same)

@@ -12,12 +12,12 @@ use Rattle.rules.specs.Checks.{_⇒_else_, isEmpty, some-of, member, sam
 use Rattle.rules.specs.Frames.{longLength, lengthAt, lengthBytes, longTag, tagAt, valueAfter, afterTag, objectAt, onward, walkUpTo, walk, objectBytes, written, frame}
 use Rattle.rules.specs.Table.{table, known}
 use Rattle.rules.specs.State.{isDropped}
-use Rattle.rules.specs.Reading.{Command, Body, Bearer, moreTime, eventList, openChannel, closeChannel, receiveData, sendData, channelStatus, other, kindOf, detailsOf, detailsIn, pairIn, bearerIn, toModem, addressed, zeros}
-use Rattle.rules.specs.Own.{Status, Result, opened, received, sent, statuses, error, problem, done, nothing}
-use Rattle.rules.specs.Written.{Response, pairBytes, detailsBytes, bearerBytes, statusBytes, statusObject, statusObjects, furtherObjects, resultBytes, resultObjects, responseObjects, responseBytes}
+use Rattle.rules.specs.Reading.{Command, Body, Bearer, bare, eventList, openChannel, closeChannel, receiveData, sendData, kindOf, detailsOf, detailsIn, pairIn, bearerIn, toModem, addressed, zeros}
+use Rattle.rules.specs.Own.{Status, Result, opened, received, sent, statuses, error, problem, done, nothing, reports}
+use Rattle.rules.specs.Written.{Response, pairBytes, detailsBytes, bearerBytes, statusBytes, statusObject, statusObjects, reportObjects, furtherObjects, resultBytes, resultObjects, responseObjects, responseBytes}
 use Rattle.rules.specs.Command.{wrote}
 use Rattle.rules.specs.Demands.{accepted}
-use Rattle.rules.specs.Bench.{bearerProper, bodyProper, transportObjects, bodyObjects, commandObjects, benchWrite, errorProper, causeProper, successProper, rising, furtherProper, resultProper, proper, valueAt, statusIn, statusesIn, furtherIn, resultIn, responseIn, Told, told, untold, benchRead}
+use Rattle.rules.specs.Bench.{bearerProper, bodyProper, transportObjects, bodyObjects, commandObjects, benchWrite, errorProper, causeProper, successProper, rising, reportProper, furtherProper, resultProper, proper, valueAt, statusIn, statusesIn, furtherIn, resultIn, responseIn, Told, told, untold, benchRead}
 
 -- a row: a response, and whether the bench reads its bytes
 pub record Row : Type 0 where
@@ -41,7 +41,7 @@ abbrev data-row : ℕ → Bool → Row
 data-row n = row 0x42 (done 0x00 (received (replicate n 0) 0))
 
 abbrev status-row : List Status → Bool → Row
-status-row ss = row 0x44 (done 0x00 (statuses ss))
+status-row ss = row 0x44 (done 0x00 (reports (statuses ss)))
 
 -- within each bound, and past it
 pub bounds : List Row
@@ -108,7 +108,7 @@ heard (untold r) = false
 
 -- the bench reads the responses within each bound, and none past it
 pub bounds-heard : map (λ (r : Row). heard (benchRead (responseBytes (r .response)))) bounds ≡ map (λ (r : Row). r .read) bounds
-unfolding bounds heard _⇒_else_ isEmpty some-of member same longLength lengthAt lengthBytes longTag tagAt valueAfter afterTag objectAt onward walkUpTo walk objectBytes written table known isDropped detailsIn pairIn bearerIn zeros pairBytes detailsBytes bearerBytes statusBytes statusObject statusObjects furtherObjects resultBytes resultObjects responseObjects responseBytes bearerProper errorProper causeProper successProper rising furtherProper resultProper proper valueAt statusIn statusesIn furtherIn resultIn responseIn benchRead
+unfolding bounds heard _⇒_else_ isEmpty some-of member same longLength lengthAt lengthBytes longTag tagAt valueAfter afterTag objectAt onward walkUpTo walk objectBytes written table known isDropped detailsIn pairIn bearerIn zeros pairBytes detailsBytes bearerBytes statusBytes statusObject statusObjects reportObjects furtherObjects resultBytes resultObjects responseObjects responseBytes bearerProper errorProper causeProper successProper rising reportProper furtherProper resultProper proper valueAt statusIn statusesIn furtherIn resultIn responseIn benchRead
 bounds-heard = refl
 
 -- OPEN CHANNEL for 1500 bytes over TCP
@@ -137,10 +137,10 @@ record-to to b =
 -- a record of each type is written; a list or data of 242 bytes, another destination, and values of no type are not
 pub records-written :
     map (λ (c : Command). accepted (benchWrite 256 c))
-    (record-to 0x82 moreTime ∷ record-to 0x82 (eventList (replicate 241 0)) ∷ record-to 0x82 (openChannel (bearer 0x02 6) 0 none) ∷ record-to 0x21 closeChannel ∷
-    record-to 0x27 (receiveData 0) ∷ record-to 0x21 (sendData (replicate 241 0)) ∷ record-to 0x82 channelStatus ∷
+    (record-to 0x82 (bare 0x02) ∷ record-to 0x82 (eventList (replicate 241 0)) ∷ record-to 0x82 (openChannel (bearer 0x02 6) 0 none) ∷ record-to 0x21 closeChannel ∷
+    record-to 0x27 (receiveData 0) ∷ record-to 0x21 (sendData (replicate 241 0)) ∷ record-to 0x82 (bare 0x44) ∷
     record-to 0x82 (eventList (replicate 242 0)) ∷ record-to 0x21 (sendData (replicate 242 0)) ∷ record-to 0x82 (openChannel (bearer 0x03 1) 0 none) ∷
-    record-to 0x28 closeChannel ∷ record-to 0x20 (receiveData 0) ∷ record-to 0x21 moreTime ∷ record-to 0x82 (other 0x02) ∷ []) ≡
+    record-to 0x28 closeChannel ∷ record-to 0x20 (receiveData 0) ∷ record-to 0x21 (bare 0x02) ∷ record-to 0x82 (bare 0x03) ∷ []) ≡
     replicate 7 true ++ replicate 7 false
 unfolding accepted _⇒_else_ isEmpty some-of member lengthBytes objectBytes written frame kindOf detailsOf toModem addressed pairBytes detailsBytes bearerBytes bearerProper bodyProper transportObjects bodyObjects commandObjects benchWrite
 records-written = refl

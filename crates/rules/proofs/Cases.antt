@@ -6,7 +6,7 @@ use mathlib.Core.Bool.{Bool, true, false, not, _&&_, true≢false}
 use mathlib.Core.List.{List}
 use native.Mathlib.Omega.{arith}
 use lib.ListN.{length, take}
-use lib.Dec.{ltb}
+use lib.Dec.{ltb, eqb}
 use borrow.Author.Tests.{ltb-false, eqb-false}
 use Rattle.rules.specs.declared.ChannelNumber.{ChannelNumber}
 use Rattle.rules.specs.declared.Link.{Link}
@@ -19,9 +19,9 @@ use Rattle.rules.specs.declared.Way.the-variants.{Receive, Send}
 use Rattle.rules.specs.State.{State, Chan, chan, withChan, isOpen, isEstablished, isDropped, isStream, room, closed, fresh, readied, dropped, held, atOnce, appended, arrived, removed, crowded}
 use Rattle.rules.specs.Pool.{unpromised, grantFor}
 use Rattle.rules.specs.Reading.{Bearer, reading}
-use Rattle.rules.specs.Own.{Reply, reply, error, problem, done, nothing, opened, received, sent, bit1, plain, capped, openBefore, served, carriedBy, listing, listed, opening, closing, receiving, sending}
+use Rattle.rules.specs.Own.{Reply, reply, error, problem, done, nothing, opened, received, sent, bit1, plain, capped, openBefore, served, carriedBy, listing, listed, opening, closing, receiving, sending, telling, Result, reports, statuses, statusesFrom}
 use Rattle.rules.specs.Written.{responseBytes}
-use Rattle.rules.specs.Command.{Answer, answered, refusal, command, meantBy}
+use Rattle.rules.specs.Command.{Answer, answered, refusal, command, meantBy, Terms}
 use Rattle.rules.specs.Bench.{causeProper}
 use Rattle.rules.specs.Radio.{numbered, arrivalEvent, arrival, taking, dropEvent, dropping}
 use Rattle.rules.proofs.Laws.{branch, not-not, either-right}
@@ -82,11 +82,11 @@ module _ (Q : Answer → Type 0) (a : State) (refuse : (r : Refusal) → Q (refu
       f (ltb-false _ _ e₁) (record { number = not-not _ e₃; stands = not-not _ e₄; link = not-not _ e₅ })))))
 
   pub command-cases :
-      (buffer : ℕ) (s : List ℕ) →
-      (255 ≤ buffer → length s ≤ 256 → Q (answered (meantBy a (reading (a .profile) s) .state) (responseBytes (meantBy a (reading (a .profile) s) .response)))) →
-      Q (command a buffer s)
+      (terms : Terms) (s : List ℕ) →
+      (255 ≤ terms .buffer → length s ≤ 256 → Q (answered (meantBy a (reading (a .profile) s) .state) (responseBytes (meantBy a (reading (a .profile) s) .response)))) →
+      Q (command a terms s)
   unfolding command
-  command-cases buffer s f =
+  command-cases terms s f =
       branch Q _ _ _ (λ _. refuse ShortBuffer) (λ e₁.
       branch Q _ _ _ (λ _. refuse CommandSize) (λ e₂.
       f (ltb-false _ _ e₁) (ltb-false _ _ (either-right (isEmpty s) (ltb 256 (length s)) e₂))))
@@ -188,3 +188,10 @@ module _ (Q : Reply → Type 0) (a : State) where
       branch Q _ _ _ (λ _. why 0x04 (causes .at-43-04)) (λ e₃.
       branch Q _ _ _ (λ _. why 0x04 (causes .at-43-04)) (λ e₄.
       f _ refl (not-not _ e₁) e₂ (ltb-false _ _ e₃) e₄))))
+
+-- the types that change nothing: what each is told
+pub telling-cases :
+    (Q : Result → Type 0) (a : State) (t : ℕ) (i : Bool) → Q (done (plain i) (reports (statuses (statusesFrom 1 (a .chans))))) → Q (done (plain i) nothing) →
+    Q (telling a t i)
+unfolding telling
+telling-cases Q a t i f g = branch Q (eqb t 0x44) _ _ (λ _. f) (λ _. g)

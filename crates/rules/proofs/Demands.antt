@@ -23,13 +23,13 @@ use Rattle.rules.specs.Datagrams.{total, pieces, behind}
 use Rattle.rules.specs.Reading.{reading, kindOf, toModem, Command, Body, Bearer, closeChannel, receiveData, sendData}
 use Rattle.rules.specs.Sound.{SoundChan}
 use Rattle.rules.specs.declared.Refusal.the-variants.{Undersized}
-use Rattle.rules.specs.Own.{Reply, Result, Further, nothing, opened, received, sent, statuses, error, problem, done, capped, plain, closing, receiving, own}
+use Rattle.rules.specs.Own.{Reply, Result, Further, nothing, opened, received, sent, error, problem, done, capped, plain, closing, receiving, own, reports}
 use Rattle.rules.specs.Written.{unflagged, statusObject, eventBytes}
-use Rattle.rules.specs.Command.{Answer, Outcome, wrote, refused, meantBy}
+use Rattle.rules.specs.Command.{Answer, Outcome, wrote, refused, meantBy, Terms}
 use Rattle.rules.specs.Radio.{numbered, arrivalEvent, taking, dropEvent}
-use Rattle.rules.specs.Run.{Call, starting, commanding, arriving, takingOut, droppingLink, step}
+use Rattle.rules.specs.Run.{Call, starting, commanding, radio, arriving, takingOut, droppingLink, step}
 use Rattle.rules.specs.Bench.{Told, told, untold, benchRead}
-use Rattle.rules.specs.History.{History, ended, openedWith, commandSeen, closes, sameNumber, answerTells, heardTells, tells, acceptedIn, wholeIn, withSide, carriedIn, oldestReady, side, heldBy, datagramsBy, finishedBy, buildingBy, wholesBy, atOnceBy, placesBy}
+use Rattle.rules.specs.History.{History, ended, openedWith, commandSeen, closes, sameNumber, answerTells, heardTells, tells, acceptedIn, wholeIn, withSide, carriedIn, oldestReady, side, heldBy, datagramsBy, finishedBy, buildingBy, wholesBy, atOnceBy, placesBy, radioTells}
 use Rattle.rules.specs.Demands.{Tells, Follows, reached, told-of, next, latest, accepted, isDone, resultTold, heard, heardDone, answerTo, listed-by, raisedBy, crowdedBy, Passed, opensNumber, touches}
 use Rattle.rules.proofs.Laws.{by-way, branch, stop, skip, both-left, either-left, either-right, and-false, same-kind, empty-length}
 use Rattle.rules.proofs.Cases.{arrival-cases, taking-cases, dropping-cases, receiving-cases}
@@ -186,7 +186,7 @@ untouched-answer n h c (done x (opened s b g)) e f = skip _ _ _ f
 untouched-answer n h c (done x (received d left)) e f = skip _ _ _ e
 untouched-answer n h c (done x (sent space)) e f = skip _ _ _ e
 untouched-answer n h c (done x nothing) e f = branch (λ (k : History). k ≡ h) (closes (c .body)) _ _ (λ _. skip _ _ _ e) (λ _. refl)
-untouched-answer n h c (done x (statuses ss)) e f = refl
+untouched-answer n h c (done x (reports r)) e f = refl
 untouched-answer n h c (error x) e f = refl
 untouched-answer n h c (problem cause) e f = refl
 
@@ -202,14 +202,10 @@ untouched-heard n h c (untold why) e = refl
 untouched-tells : (n : ChannelNumber) (h : History) (c : Call) (o : Outcome) → touches n c o ≡ false → tells n h c o ≡ h
 unfolding tells touches heard
 untouched-tells n h (starting p) o e = absurd (true≢false e)
-untouched-tells n h (commanding buffer s) (wrote t) e = untouched-heard n h (commandSeen s) (benchRead t) e
-untouched-tells n h (arriving buffer m s) (wrote t) e = skip _ _ _ e
-untouched-tells n h (takingOut buffer m) (wrote t) e = skip _ _ _ e
-untouched-tells n h (droppingLink buffer m) (wrote t) e = skip _ _ _ e
-untouched-tells n h (commanding buffer s) (refused r) e = refl
-untouched-tells n h (arriving buffer m s) (refused r) e = refl
-untouched-tells n h (takingOut buffer m) (refused r) e = refl
-untouched-tells n h (droppingLink buffer m) (refused r) e = refl
+untouched-tells n h (commanding terms s) (wrote t) e = untouched-heard n h (commandSeen s) (benchRead t) e
+untouched-tells n h (commanding terms s) (refused r) e = refl
+untouched-tells n h (radio buffer m act) (wrote t) e = skip _ _ _ e
+untouched-tells n h (radio buffer m act) (refused r) e = refl
 
 -- what fits is accepted exactly where there is a place
 fits-so : (k space : ℕ) (t : Bool) → k ≤ space → (u : Bool) → t ≡ u → leb k space && not t ≡ not u
@@ -220,10 +216,10 @@ pub refused-stays : (p : List ℕ) (cs : List Call) (c : Call) → accepted (ste
 refused-stays p cs c e = reached-next p cs c ∙ unaccepted-stays (reached p cs) c e
 
 pub undone-keeps :
-    (p : List ℕ) (cs : List Call) (buffer : ℕ) (s : List ℕ) (x : Result) → answerTo p cs buffer s ≡ some x → isDone x ≡ false →
-    reached p (next cs (commanding buffer s)) ≡ reached p cs
-undone-keeps p cs buffer s x e u =
-    let w = answer-meant p cs buffer s x e in
+    (p : List ℕ) (cs : List Call) (terms : Terms) (s : List ℕ) (x : Result) → answerTo p cs terms s ≡ some x → isDone x ≡ false →
+    reached p (next cs (commanding terms s)) ≡ reached p cs
+undone-keeps p cs terms s x e u =
+    let w = answer-meant p cs terms s x e in
     w .state ∙ undone-stays (reached p cs) (reading (reached p cs .profile) s) (ap isDone (sym (w .result)) ∙ u)
 
 module _ (n : ChannelNumber) (from : 1 ≤ n .0) (upto : n .0 ≤ 7) (p : List ℕ) (cs : List Call) where
@@ -282,7 +278,7 @@ module _ (n : ChannelNumber) (from : 1 ≤ n .0) (upto : n .0 ≤ 7) (p : List �
   pub event-counts :
       (buffer : ℕ) (s t : List ℕ) → step a (arriving buffer n s) .outcome ≡ wrote t → isEmpty t ≡ false →
       heldBy (told-of n p (next cs (arriving buffer n s))) Receive ≡ length s
-  unfolding isEmpty raisedBy tells wholeIn acceptedIn withSide side heldBy
+  unfolding isEmpty raisedBy tells radioTells wholeIn acceptedIn withSide side heldBy
   event-counts buffer s t e f =
       let all : ℕ = heldBy (told-of n p (next cs (arriving buffer n s))) Receive in
       branch (λ (x : List ℕ). t ≡ x → all ≡ length s) _ _ _
@@ -344,12 +340,12 @@ module _ (n : ChannelNumber) (from : 1 ≤ n .0) (upto : n .0 ≤ 7) (p : List �
 
   -- what a RECEIVE DATA hands out is the oldest bytes held: the least of the request, what may be handed out at once and 237
   pub oldest :
-      (buffer : ℕ) (s : List ℕ) (request x : ℕ) (d : List ℕ) (left : ℕ) → channelOf (commandSeen s .destination) ≡ n →
-      commandSeen s .body ≡ receiveData request → answerTo p cs buffer s ≡ some (done x (received d left)) →
+      (terms : Terms) (s : List ℕ) (request x : ℕ) (d : List ℕ) (left : ℕ) → channelOf (commandSeen s .destination) ≡ n →
+      commandSeen s .body ≡ receiveData request → answerTo p cs terms s ≡ some (done x (received d left)) →
       d ≡ take (min request (min (atOnceBy h Receive) 237)) (drop (length (h .receive .out)) (h .receive .accepted))
   unfolding own side
-  oldest buffer s request x d left eⁿ eᵇ e =
-      let w = answer-meant p cs buffer s (done x (received d left)) e in
+  oldest terms s request x d left eⁿ eᵇ e =
+      let w = answer-meant p cs terms s (done x (received d left)) e in
       let c = done-asked a (reading (a .profile) s) x (received d left) (sym (w .result)) in
       let k = seen-read (a .profile) s (c .0) (c .1) (c .2) in
       let meant =
@@ -364,22 +360,22 @@ module _ (n : ChannelNumber) (from : 1 ≤ n .0) (upto : n .0 ≤ 7) (p : List �
 
   -- the count that an answer tells is what the history behind it leaves held, or the room that it leaves, up to FF
   pub counts :
-      (buffer : ℕ) (s : List ℕ) (x : ℕ) → channelOf (commandSeen s .destination) ≡ n →
-      let h′ = told-of n p (next cs (commanding buffer s)) in
-      ((d : List ℕ) (left : ℕ) → answerTo p cs buffer s ≡ some (done x (received d left)) → left ≡ capped (heldBy h′ Receive)) ×
-      ((space : ℕ) → answerTo p cs buffer s ≡ some (done x (sent space)) → space ≡ capped (h′ .grant - heldBy h′ Send))
+      (terms : Terms) (s : List ℕ) (x : ℕ) → channelOf (commandSeen s .destination) ≡ n →
+      let h′ = told-of n p (next cs (commanding terms s)) in
+      ((d : List ℕ) (left : ℕ) → answerTo p cs terms s ≡ some (done x (received d left)) → left ≡ capped (heldBy h′ Receive)) ×
+      ((space : ℕ) → answerTo p cs terms s ≡ some (done x (sent space)) → space ≡ capped (h′ .grant - heldBy h′ Send))
   unfolding room
-  counts buffer s x eⁿ =
-      let c = commanding buffer s in
+  counts terms s x eⁿ =
+      let c = commanding terms s in
       let h′ = told-of n p (next cs c) in
       let now = follows n p (next cs c) from in
       let left = held-told (chan (reached p (next cs c)) n) h′ now in
       let roomy : room (chan (reached p (next cs c)) n) Send ≡ h′ .grant - heldBy h′ Send = omega (arith, now .grant, left Send) in
       (λ d k e. told-count (received d k) e ∙ ap capped (sym (left Receive)), λ k e. told-count (sent k) e ∙ ap capped roomy)
     where
-      told-count : (f : Further) → answerTo p cs buffer s ≡ some (done x f) → Counts (chan (reached p (next cs (commanding buffer s))) n) (done x f)
+      told-count : (f : Further) → answerTo p cs terms s ≡ some (done x f) → Counts (chan (reached p (next cs (commanding terms s))) n) (done x f)
       told-count f e =
-          let w = answer-meant p cs buffer s (done x f) e in
+          let w = answer-meant p cs terms s (done x f) e in
           let c = done-asked a (reading (a .profile) s) x f (sym (w .result)) in
           let k = seen-read (a .profile) s (c .0) (c .1) (c .2) in
           subst (λ (b : State). Counts (chan b n) (done x f)) (sym (w .state))
@@ -395,14 +391,14 @@ module _ (n : ChannelNumber) (from : 1 ≤ n .0) (upto : n .0 ≤ 7) (p : List �
 
   -- an answer that tells of an opening begins the channel anew: it has the grant and the link told, holds nothing either way, and nothing is ready
   pub opening-begins :
-      (buffer : ℕ) (s : List ℕ) (x : ℕ) (l : Link) (b : Bearer) (g : ℕ) → answerTo p cs buffer s ≡ some (done x (opened (record { number = n; link = l }) b g)) →
-      let c = chan (reached p (next cs (commanding buffer s))) n in
-      (told-of n p (next cs (commanding buffer s)) ≡ openedWith g l (carriedIn (commandSeen s .body))) × (c .grant ≡ g) × (c .link ≡ l) × ((w : Way) → held c w ≡ []) × (c .ready ≡ 0)
+      (terms : Terms) (s : List ℕ) (x : ℕ) (l : Link) (b : Bearer) (g : ℕ) → answerTo p cs terms s ≡ some (done x (opened (record { number = n; link = l }) b g)) →
+      let c = chan (reached p (next cs (commanding terms s))) n in
+      (told-of n p (next cs (commanding terms s)) ≡ openedWith g l (carriedIn (commandSeen s .body))) × (c .grant ≡ g) × (c .link ≡ l) × ((w : Way) → held c w ≡ []) × (c .ready ≡ 0)
   unfolding answerTells openedWith side
-  opening-begins buffer s x l b g e =
-      let c = chan (reached p (next cs (commanding buffer s))) n in
-      let told = answer-tells n p cs buffer s _ e ∙ stop _ _ _ (eq-eqb (n .0) (n .0) refl) in
-      let f : Tells c (openedWith g l (carriedIn (commandSeen s .body))) = subst (Tells c) told (follows n p (next cs (commanding buffer s)) from) in
+  opening-begins terms s x l b g e =
+      let c = chan (reached p (next cs (commanding terms s))) n in
+      let told = answer-tells n p cs terms s _ e ∙ stop _ _ _ (eq-eqb (n .0) (n .0) refl) in
+      let f : Tells c (openedWith g l (carriedIn (commandSeen s .body))) = subst (Tells c) told (follows n p (next cs (commanding terms s)) from) in
       (told, sym (f .grant), sym (f .link), by-way (λ (w : Way). held c w ≡ []) (f .order Receive) (f .order Send), omega (arith, f .ready))
 
   -- a call that does not touch a channel leaves it as it was
@@ -412,7 +408,7 @@ module _ (n : ChannelNumber) (from : 1 ≤ n .0) (upto : n .0 ≤ 7) (p : List �
       one-told (chan (reached p (next cs c)) n) (chan a n) h (subst (Tells (chan (reached p (next cs c)) n)) same (follows n p (next cs c) from)) seen
       (chan-sound (reached p (next cs c)) n (reached-sound p (next cs c))) sound
 
-module _ (p : List ℕ) (cs : List Call) (buffer : ℕ) (s : List ℕ) (c : Command) (i : Bool) (w : Passed (latest p cs) buffer s c i) where
+module _ (p : List ℕ) (cs : List Call) (terms : Terms) (s : List ℕ) (c : Command) (i : Bool) (w : Passed (latest p cs) terms s c i) where
   -- of a command that passed steps 1 to 8: the channel that it goes to, and its history
   abbrev to : ChannelNumber
   to = channelOf (c .destination)
@@ -421,19 +417,19 @@ module _ (p : List ℕ) (cs : List Call) (buffer : ℕ) (s : List ℕ) (c : Comm
   of = told-of to p cs
 
   pub follows-to : toModem (kindOf (c .body)) ≡ false → Follows to (reached p cs) of
-  follows-to e = follows to p cs (aimed-number p cs buffer s c i w e .0)
+  follows-to e = follows to p cs (aimed-number p cs terms s c i w e .0)
 
   -- a SEND DATA on an open channel whose link was not dropped is done exactly when its data fits the grant less what is held, and there is a place for a datagram that it begins
   pub send-accepted :
       (d : List ℕ) → c .body ≡ sendData d → of .stands ≡ true → isDropped (of .link) ≡ false →
-      heardDone (answerTo p cs buffer s) ≡ leb (length d) (of .grant - heldBy of Send) && not (crowdedBy of Send d)
+      heardDone (answerTo p cs terms s) ≡ leb (length d) (of .grant - heldBy of Send) && not (crowdedBy of Send d)
   unfolding own heardDone isDone room kindOf toModem member some-of
   send-accepted d e o l =
       let f = follows-to (ap (λ (b : Body). toModem (kindOf b)) e) in
       let space = of .grant - heldBy of Send in
       let left = held-told (chan (reached p cs) to) of f Send in
       let place = crowded-told (chan (reached p cs) to) of f (chan-sound (reached p cs) to (reached-sound p cs)) Send d in
-      ap heardDone (own-heard p cs buffer s c i w (sendData d) e)
+      ap heardDone (own-heard p cs terms s c i w (sendData d) e)
       ∙ sending-last (λ (r : Result). isDone r ≡ leb (length d) space && not (crowdedBy of Send d)) (reached p cs) (c .qualifier) to d i (sym (f .stands) ∙ o) (ap isDropped (sym (f .link)) ∙ l)
       (λ g. sym (ap (λ (t : Bool). t && not (crowdedBy of Send d)) (lt-leb (length d) space (omega (arith, g, f .grant, left)))))
       (λ g q. sym (fits-so (length d) space (crowdedBy of Send d) (omega (arith, g, f .grant, left)) true (sym place ∙ q)))
@@ -443,32 +439,32 @@ module _ (p : List ℕ) (cs : List Call) (buffer : ℕ) (s : List ℕ) (c : Comm
   pub receive-done :
       (request : ℕ) → c .body ≡ receiveData request → of .stands ≡ true →
       let k = min request (min (atOnceBy of Receive) 237) in
-      answerTo p cs buffer s ≡
+      answerTo p cs terms s ≡
       some (done (ltb k request ⇒ 0x02 else plain i) (received (take k (drop (length (of .receive .out)) (of .receive .accepted))) (capped (heldBy of Receive - k))))
   unfolding own receiving removed withQueue without queue side kindOf toModem member some-of
   receive-done request e o =
       let f = follows-to (ap (λ (b : Body). toModem (kindOf b)) e) in
       let x = chan (reached p cs) to in
-      own-heard p cs buffer s c i w (receiveData request) e
+      own-heard p cs terms s c i w (receiveData request) e
       ∙ ap (λ (r : Reply). some (r .result)) (skip _ _ _ (ap not (sym (f .stands) ∙ o)))
       ∙ rw (held-told x of f Receive, sym (once-told x of f (chan-sound (reached p cs) to (reached-sound p cs)) Receive), rest-told x of f Receive, length-drop (min request (min (atOnce x Receive) 237)) (held x Receive)) refl
 
   -- a CLOSE CHANNEL of an open channel is done, and ends it, in the history and in the session
   pub close-done :
       c .body ≡ closeChannel → of .stands ≡ true →
-      (answerTo p cs buffer s ≡ some (done (plain i) nothing)) × (told-of to p (next cs (commanding buffer s)) ≡ ended) ×
-      (chan (reached p (next cs (commanding buffer s))) to ≡ closed)
+      (answerTo p cs terms s ≡ some (done (plain i) nothing)) × (told-of to p (next cs (commanding terms s)) ≡ ended) ×
+      (chan (reached p (next cs (commanding terms s))) to ≡ closed)
   unfolding own closing kindOf toModem member some-of answerTells closes
   close-done e o =
       let to-channel = ap (λ (b : Body). toModem (kindOf b)) e in
       let f = follows-to to-channel in
       let stands = sym (f .stands) ∙ o in
       let done-so = skip _ _ _ (ap not stands) in
-      let answer = own-heard p cs buffer s c i w closeChannel e ∙ ap (λ (r : Reply). some (r .result)) done-so in
-      let gone = ap (λ (b : State). chan b to) (own-next p cs buffer s c i w closeChannel e ∙ ap (λ (r : Reply). r .state) done-so) in (
+      let answer = own-heard p cs terms s c i w closeChannel e ∙ ap (λ (r : Reply). some (r .result)) done-so in
+      let gone = ap (λ (b : State). chan b to) (own-next p cs terms s c i w closeChannel e ∙ ap (λ (r : Reply). r .state) done-so) in (
         answer,
-        answer-tells to p cs buffer s _ answer
-            ∙ ap (λ (k : Command). answerTells to of k (done (plain i) nothing)) (seen-read (reached p cs .profile) s c i (read-reached p cs buffer s c i w))
+        answer-tells to p cs terms s _ answer
+            ∙ ap (λ (k : Command). answerTells to of k (done (plain i) nothing)) (seen-read (reached p cs .profile) s c i (read-reached p cs terms s c i w))
             ∙ stop _ _ _ (ap closes e) ∙ stop _ _ _ (eq-eqb (to .0) (to .0) refl),
         gone ∙ open-changed (reached p cs) to closed stands,
       )
@@ -510,16 +506,16 @@ module _ (n : ChannelNumber) (from : 1 ≤ n .0) (p : List ℕ) (cs : List Call)
 
   -- what an answer to RECEIVE DATA hands out lies within the first datagram held, from its front
   pub within-first :
-      (buffer : ℕ) (s : List ℕ) (request x : ℕ) (d : List ℕ) (left : ℕ) → n .0 ≤ 7 → channelOf (commandSeen s .destination) ≡ n →
-      commandSeen s .body ≡ receiveData request → answerTo p cs buffer s ≡ some (done x (received d left)) →
+      (terms : Terms) (s : List ℕ) (request x : ℕ) (d : List ℕ) (left : ℕ) → n .0 ≤ 7 → channelOf (commandSeen s .destination) ≡ n →
+      commandSeen s .body ≡ receiveData request → answerTo p cs terms s ≡ some (done x (received d left)) →
       d ≡ take (length d) (getD (datagramsBy seen-of) 0 [])
   unfolding side queue atOnce
-  within-first buffer s request x d left upto eⁿ eᵇ e =
+  within-first terms s request x d left upto eⁿ eᵇ e =
       let held-now = at .receive .bytes in
       let ls = at .receive .lengths in
       let most = min request (min (atOnceBy seen-of Receive) 237) in
       let same : d ≡ take most held-now =
-      oldest n from upto p cs buffer s request x d left eⁿ eᵇ e ∙ ap (take most) (rest-told at seen-of tells-of Receive)
+      oldest n from upto p cs terms s request x d left eⁿ eᵇ e ∙ ap (take most) (rest-told at seen-of tells-of Receive)
       in
       let once : atOnceBy seen-of Receive ≡ first ls = sym (once-told at seen-of tells-of sound-of Receive) ∙ skip _ _ _ datagrams-so in
       let size = ap (λ (l : List ℕ). length l) same ∙ length-take most held-now in

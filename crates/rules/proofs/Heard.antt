@@ -18,10 +18,10 @@ use Rattle.rules.specs.Checks.{_⇒_else_, some-of, member, same}
 use Rattle.rules.specs.Frames.{Object, Walk}
 use Rattle.rules.specs.State.{State, isDropped}
 use Rattle.rules.specs.Reading.{detailsIn, reading}
-use Rattle.rules.specs.Own.{Status, Further, Result, nothing, opened, received, sent, statuses, error, problem, done}
-use Rattle.rules.specs.Written.{Response, detailsBytes, statusBytes, statusObject, statusObjects, furtherObjects, resultBytes, resultObjects, responseObjects, responseBytes}
-use Rattle.rules.specs.Bench.{bearerProper, errorProper, successProper, bare, furtherProper, resultProper, rising, proper, valueAt, statusIn, statusesIn, furtherIn, resultIn, responseIn, Told, told, untold, benchRead}
-use Rattle.rules.specs.Command.{Answer, wrote, command, meantBy}
+use Rattle.rules.specs.Own.{Status, Further, Result, nothing, opened, received, sent, statuses, error, problem, done, reports, Report}
+use Rattle.rules.specs.Written.{Response, detailsBytes, statusBytes, statusObject, statusObjects, furtherObjects, resultBytes, resultObjects, responseObjects, responseBytes, reportObjects}
+use Rattle.rules.specs.Bench.{bearerProper, errorProper, successProper, unfollowed, furtherProper, resultProper, rising, proper, valueAt, statusIn, statusesIn, furtherIn, resultIn, responseIn, Told, told, untold, benchRead, reportProper}
+use Rattle.rules.specs.Command.{Answer, wrote, command, meantBy, Terms}
 use Rattle.rules.specs.Sound.{Each, Sound}
 use Rattle.rules.proofs.Laws.{branch, stop, skip, both-left, both-right, either, by-equal, each-member}
 use Rattle.rules.proofs.Cases.{command-cases}
@@ -34,14 +34,18 @@ unfolding statusObject
 statuses-named [] = tt
 statuses-named (s ∷ ss) = (omega arith, statuses-named ss)
 
+report-named : (r : Report) → Each Named (reportObjects r)
+unfolding reportObjects statusObject statusObjects
+report-named (statuses []) = omega arith
+report-named (statuses (s ∷ ss)) = statuses-named (s ∷ ss)
+
 further-named : (f : Further) → Each Named (furtherObjects f)
-unfolding furtherObjects statusObject statusObjects
+unfolding furtherObjects statusObject
 further-named nothing = tt
 further-named (opened s b g) = omega arith
 further-named (received s left) = omega arith
 further-named (sent room) = omega arith
-further-named (statuses []) = omega arith
-further-named (statuses (s ∷ ss)) = statuses-named (s ∷ ss)
+further-named (reports r) = report-named r
 
 result-named : (x : Result) → Each Named (resultObjects x)
 unfolding resultObjects
@@ -83,10 +87,15 @@ list-back [] e = stop _ _ _ refl
 list-back (s ∷ ss) e =
     skip _ [] _ (no-zeros (s .number) (s .link) (rising-first 0 s ss e .0)) ∙ statuses-back 0 (s ∷ ss) e
 
+report-back : (t : ℕ) (r : Report) → reportProper t r ≡ true → furtherIn t (reportObjects r) ≡ reports r
+unfolding reportProper furtherIn reportObjects _⇒_else_
+report-back t (statuses ss) e =
+    rw (eqb-true t 0x44 (both-left (eqb t 0x44) _ e)) (ap (λ (x : List Status). reports (statuses x)) (list-back ss (both-right (eqb t 0x44) _ e)))
+
 -- what follows a result is read as it was written, for the type that has it
 further-back : (t : ℕ) (f : Further) → furtherProper t f ≡ true → furtherIn t (furtherObjects f) ≡ f
 unfolding furtherProper furtherIn furtherObjects statusObject valueAt _⇒_else_
-further-back t nothing e = each-member (λ (k : ℕ). furtherIn k [] ≡ nothing) t bare (refl, (refl, (refl, tt))) e
+further-back t nothing e = each-member (λ (k : ℕ). furtherIn k [] ≡ nothing) t unfollowed (refl, (refl, (refl, tt))) e
 further-back t (opened s b g) e =
     let fit : eqb t 0x40 && rising 0 (s ∷ []) ≡ true = both-left _ (not (isDropped (s .link))) (both-left _ (bearerProper b) (both-left _ (leb 1 g) (both-left _ (leb g 1500) e))) in
     let first = rising-first 0 s [] (both-right (eqb t 0x40) (rising 0 (s ∷ [])) fit) in
@@ -94,8 +103,7 @@ further-back t (opened s b g) e =
     (λ i. opened (status-back (s .number) (s .link) (first .1) i) (bearer-back b i) (pair-back g i))
 further-back t (received s left) e = rw (eqb-true t 0x42 (both-left (eqb t 0x42) _ (both-left _ (leb left 255) e))) refl
 further-back t (sent room) e = rw (eqb-true t 0x43 (both-left (eqb t 0x43) _ e)) refl
-further-back t (statuses ss) e =
-    rw (eqb-true t 0x44 (both-left (eqb t 0x44) _ e)) (ap statuses (list-back ss (both-right (eqb t 0x44) _ e)))
+further-back t (reports r) e = report-back t r e
 
 -- an error, a problem and a success are told apart by the result's first byte
 error-back : (d : Details) (e : ℕ) → errorProper d e ≡ true → resultIn (d .kind) (e ∷ []) [] ≡ error e
@@ -178,9 +186,9 @@ same-form s t r e f = one-form s r e .1 ∙ sym (one-form t r f .1)
 
 -- what the modem answers is read by the bench, as the response that the command call meant
 pub modem-heard :
-    (a : State) (buffer : ℕ) (s t : List ℕ) → Sound a → command a buffer s .outcome ≡ wrote t →
+    (a : State) (terms : Terms) (s t : List ℕ) → Sound a → command a terms s .outcome ≡ wrote t →
     benchRead t ≡ told (meantBy a (reading (a .profile) s) .response)
-modem-heard a buffer s t h =
+modem-heard a terms s t h =
     let r = meantBy a (reading (a .profile) s) .response in
-    command-cases (λ (x : Answer). x .outcome ≡ wrote t → benchRead t ≡ told r) a (λ w e. cc) buffer s
+    command-cases (λ (x : Answer). x .outcome ≡ wrote t → benchRead t ≡ told r) a (λ w e. cc) terms s
     (λ _ _ e. let is : responseBytes r ≡ t = cc in subst (λ (x : List ℕ). benchRead x ≡ told r) is (form-read r (meant-proper a s h)))

@@ -14,15 +14,16 @@ use Rattle.rules.specs.Frames.{contents}
 use Rattle.rules.specs.declared.Way.the-variants.{Receive, Send}
 use Rattle.rules.specs.State.{State, Chan, isStream, start, closed, chan, withChan, queue, fresh, dropped, held, atOnce, appended, arrived, removed}
 use Rattle.rules.specs.Pool.{unpromised}
-use Rattle.rules.specs.Reading.{Reading, reading, Command, Body, moreTime, eventList, openChannel, closeChannel, receiveData, sendData, channelStatus, other, kindOf, commandIn, toModem}
-use Rattle.rules.specs.Own.{Reply, bit1, listed, own, protocolOf, carriedBy}
-use Rattle.rules.specs.Command.{Answer, Meant, wrote, command, meantBy}
-use Rattle.rules.specs.Run.{Call, starting, commanding, arriving, takingOut, droppingLink, step, after}
+use Rattle.rules.specs.Reading.{Reading, reading, Command, Body, bare, eventList, openChannel, closeChannel, receiveData, sendData, kindOf, commandIn, toModem}
+use Rattle.rules.specs.Own.{Reply, bit1, listed, own, protocolOf, carriedBy, Result}
+use Rattle.rules.specs.Command.{Answer, Meant, wrote, command, meantBy, Terms}
+use Rattle.rules.specs.Radio.{arrives, takes, drops}
+use Rattle.rules.specs.Run.{Call, starting, commanding, radio, arriving, takingOut, droppingLink, step, after}
 use Rattle.rules.specs.Sound.{Sound}
-use Rattle.rules.specs.History.{History, ended, openedWith, readiedIn, droppedIn, commandSeen, dataOf, carriedIn, closes, answerTells, heardTells, tells, historyFrom, history, seenFrom, acceptedIn, wholeIn, outIn}
+use Rattle.rules.specs.History.{History, ended, openedWith, readiedIn, droppedIn, commandSeen, dataOf, carriedIn, closes, answerTells, heardTells, tells, historyFrom, history, seenFrom, acceptedIn, wholeIn, outIn, radioTells}
 use Rattle.rules.specs.Demands.{Tells, Follows, reached, told-of}
 use Rattle.rules.proofs.Laws.{stop, skip, each-get, each-replicate}
-use Rattle.rules.proofs.Cases.{arrival-cases, taking-cases, dropping-cases, command-cases, listing-cases, opening-cases, closing-cases, receiving-cases, sending-cases}
+use Rattle.rules.proofs.Cases.{arrival-cases, taking-cases, dropping-cases, command-cases, listing-cases, opening-cases, closing-cases, receiving-cases, sending-cases, telling-cases}
 use Rattle.rules.proofs.Readings.{detailsRead, counted, reading-cases}
 use Rattle.rules.proofs.Grants.{Granted, grant-law}
 use Rattle.rules.proofs.Soundness.{chan-sound, sent-sound, opened-place, start-sound, step-sound}
@@ -40,10 +41,10 @@ start-follows n p =
 
 -- the answer to a command tells what was meant
 pub command-tells :
-    (n : ChannelNumber) (a : State) (h : History) → Sound a → (buffer : ℕ) (s t : List ℕ) → command a buffer s .outcome ≡ wrote t →
-    tells n h (commanding buffer s) (wrote t) ≡ answerTells n h (commandSeen s) (meantBy a (reading (a .profile) s) .response .result)
+    (n : ChannelNumber) (a : State) (h : History) → Sound a → (terms : Terms) (s t : List ℕ) → command a terms s .outcome ≡ wrote t →
+    tells n h (commanding terms s) (wrote t) ≡ answerTells n h (commandSeen s) (meantBy a (reading (a .profile) s) .response .result)
 unfolding tells heardTells
-command-tells n a h o buffer s t e = ap (heardTells n h (commandSeen s)) (modem-heard a buffer s t o e)
+command-tells n a h o terms s t e = ap (heardTells n h (commandSeen s)) (modem-heard a terms s t o e)
 
 -- a take of datagrams that is not refused takes the first, whole
 taken-whole : (c : Chan) (buffer : ℕ) → isStream (c .carries) ≡ false → atOnce c Send ≤ buffer → min buffer (atOnce c Send) ≡ first (c .send .lengths)
@@ -66,7 +67,9 @@ module _ (n : ChannelNumber) (from : 1 ≤ n .0) (a : State) (h : History) (o : 
 
   own-follows : (c : Command) (b : Body) (i : Bool) → c .body ≡ b → Aimed c b → Told-by c (own a c b i)
   unfolding own answerTells closes kindOf dataOf carriedIn toModem member some-of chan listed
-  own-follows c moreTime i e u = subst (Follows n a) (sym (skip _ _ _ (ap closes e))) f
+  own-follows c (bare t) i e u =
+      telling-cases (λ (r : Result). Follows n a (answerTells n h c r)) a t i f
+      (subst (Follows n a) (sym (skip _ _ _ (ap closes e))) f)
   own-follows c (eventList es) i e u =
       listing-cases (Told-by c) a es i f
       (λ _. subst (Follows n (listed a es)) (sym (skip _ _ _ (ap closes e))) f)
@@ -102,8 +105,6 @@ module _ (n : ChannelNumber) (from : 1 ≤ n .0) (a : State) (h : History) (o : 
       let joins = storing c m s e q in
       subst (λ (y : Chan). Tells y (b ⇒ readiedIn k else k)) (sym eˣ)
       (either-told b _ _ _ _ (readied-told (appended (chan a m) Send s) k joins (sent-sound (chan a m) (chan-sound a m o) s fit place)) joins)))
-  own-follows c channelStatus i e u = f
-  own-follows c (other t) i e u = f
 
   abbrev Tells-of : Call → Answer → Type 0
   Tells-of c r = Follows n (r .state) (tells n h c (r .outcome))
@@ -119,26 +120,26 @@ module _ (n : ChannelNumber) (from : 1 ≤ n .0) (a : State) (h : History) (o : 
 
   -- what is seen of any call tells the channel after it
   pub step-follows : (c : Call) → Tells-of c (step a c)
-  unfolding step tells
+  unfolding step tells radioTells
   step-follows (starting p) = start-follows n p
-  step-follows (commanding buffer s) =
+  step-follows (commanding terms s) =
       let m = meantBy a (reading (a .profile) s) in
       command-cases
-      (λ (r : Answer). ((t : List ℕ) → r .outcome ≡ wrote t → tells n h (commanding buffer s) (wrote t) ≡ answerTells n h (commandSeen s) (m .response .result)) → Tells-of (commanding buffer s) r)
-      a (λ _ _. f) buffer s (λ _ _ hears. subst (Follows n (m .state)) (sym (hears _ refl)) (meant-follows s))
-      (command-tells n a h o buffer s)
-  step-follows (arriving buffer m s) =
+      (λ (r : Answer). ((t : List ℕ) → r .outcome ≡ wrote t → tells n h (commanding terms s) (wrote t) ≡ answerTells n h (commandSeen s) (m .response .result)) → Tells-of (commanding terms s) r)
+      a (λ _ _. f) terms s (λ _ _ hears. subst (Follows n (m .state)) (sym (hears _ refl)) (meant-follows s))
+      (command-tells n a h o terms s)
+  step-follows (radio buffer m (arrives s)) =
       arrival-cases (Tells-of (arriving buffer m s)) a (λ _. f) buffer m s
       (λ _ l _ _.
       changed n m a (arrived (chan a m) s) h (wholeIn (acceptedIn h Receive s) Receive s) from o (l .number) f
       (λ q. arrived-told (chan a m) h (named m q) (chan-sound a m o) s))
-  step-follows (takingOut buffer m) =
+  step-follows (radio buffer m takes) =
       let k = min buffer (atOnce (chan a m) Send) in
       taking-cases (Tells-of (takingOut buffer m)) a (λ _. f) buffer m
       (λ l enough.
       changed n m a (removed (chan a m) Send k) h (outIn h Send (take k (held (chan a m) Send))) from o (l .number) f
       (λ q. taken-told (chan a m) h (named m q) (chan-sound a m o) k (omega arith) (λ e. taken-whole (chan a m) buffer e (enough e))))
-  step-follows (droppingLink buffer m) =
+  step-follows (radio buffer m drops) =
       dropping-cases (Tells-of (droppingLink buffer m)) a (λ _. f) buffer m
       (λ _ l.
       changed n m a (dropped (chan a m)) h (droppedIn h) from o (l .number) f (λ q. dropped-told (chan a m) h (named m q) (chan-sound a m o)))

@@ -1,4 +1,6 @@
 pub mod Laws
+pub mod Values
+pub mod Addressing
 pub mod Datagrams
 pub mod Cases
 pub mod Refusals

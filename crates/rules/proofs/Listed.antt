@@ -10,14 +10,15 @@ use Rattle.rules.specs.declared.Events.{Events}
 use Rattle.rules.specs.Words.{channelOf}
 use Rattle.rules.specs.Frames.{contents}
 use Rattle.rules.specs.State.{State, start, withChan}
-use Rattle.rules.specs.Reading.{Reading, reading, commandIn, Command, Body, moreTime, eventList, openChannel, closeChannel, receiveData, sendData, channelStatus, other}
-use Rattle.rules.specs.Own.{Reply, Result, listed, own, protocolOf}
+use Rattle.rules.specs.Reading.{Reading, reading, commandIn, Command, Body, bare, eventList, openChannel, closeChannel, receiveData, sendData}
+use Rattle.rules.specs.Own.{Reply, Result, listed, own, protocolOf, reply}
 use Rattle.rules.specs.Command.{Answer, Meant, wrote, meantBy}
-use Rattle.rules.specs.Run.{Call, starting, commanding, arriving, takingOut, droppingLink, step, after}
+use Rattle.rules.specs.Radio.{arrives, takes, drops}
+use Rattle.rules.specs.Run.{Call, starting, commanding, radio, arriving, takingOut, droppingLink, step, after}
 use Rattle.rules.specs.Sound.{Sound}
 use Rattle.rules.specs.History.{commandSeen, seenFrom}
 use Rattle.rules.specs.Demands.{reached, isDone, heard, heardDone, listsIn, listsAfter, listsFrom, listed-by}
-use Rattle.rules.proofs.Cases.{arrival-cases, taking-cases, dropping-cases, command-cases, listing-cases, opening-cases, closing-cases, receiving-cases, sending-cases}
+use Rattle.rules.proofs.Cases.{arrival-cases, taking-cases, dropping-cases, command-cases, listing-cases, opening-cases, closing-cases, receiving-cases, sending-cases, telling-cases}
 use Rattle.rules.proofs.Readings.{detailsRead, counted, reading-cases}
 use Rattle.rules.proofs.Soundness.{start-sound, step-sound}
 use Rattle.rules.proofs.Outside.{heard-meant}
@@ -29,7 +30,7 @@ module _ (a : State) where
 
   own-lists : (c : Command) (b : Body) (i : Bool) → Lists b (own a c b i)
   unfolding own isDone listsIn listed withChan _⇒_else_
-  own-lists c moreTime i = refl
+  own-lists c (bare t) i = telling-cases (λ (r : Result). Lists (bare t) (reply a r)) a t i refl refl
   own-lists c (eventList es) i = listing-cases (Lists (eventList es)) a es i refl (λ _. refl)
   own-lists c (openChannel b size t) i =
       opening-cases (Lists (openChannel b size t)) a (λ _ _. refl) (c .qualifier) b size (protocolOf t) i refl (λ _ _ _ _ _ _ _. refl)
@@ -37,8 +38,6 @@ module _ (a : State) where
   own-lists c (receiveData r) i = receiving-cases (Lists (receiveData r)) a (λ _ _. refl) (channelOf (c .destination)) r i (λ _ _ _. refl)
   own-lists c (sendData s) i =
       sending-cases (Lists (sendData s)) a (λ _ _. refl) (c .qualifier) (channelOf (c .destination)) s i (λ _ _ _ _ _ _. refl)
-  own-lists c channelStatus i = refl
-  own-lists c (other t) i = refl
 
   abbrev Listed-in : List ℕ → Meant → Type 0
   Listed-in s m = (isDone (m .response .result) ⇒ listsIn (a .events) (commandSeen s .body) else a .events) ≡ m .state .events
@@ -55,17 +54,17 @@ module _ (a : State) where
   step-lists : Sound a → (c : Call) → Lists-after c (step a c)
   unfolding step listsAfter start withChan heard heardDone _⇒_else_
   step-lists o (starting p) = refl
-  step-lists o (commanding buffer s) =
+  step-lists o (commanding terms s) =
       let x : Result = meantBy a (reading (a .profile) s) .response .result in
       command-cases
-      (λ (r : Answer). ((t : List ℕ) → r .outcome ≡ wrote t → heard (r .outcome) ≡ some x) → Lists-after (commanding buffer s) r)
-      a (λ _ _. refl) buffer s
+      (λ (r : Answer). ((t : List ℕ) → r .outcome ≡ wrote t → heard (r .outcome) ≡ some x) → Lists-after (commanding terms s) r)
+      a (λ _ _. refl) terms s
       (λ _ _ hears.
       ap (λ (y : Option Result). heardDone y ⇒ listsIn (a .events) (commandSeen s .body) else a .events) (hears _ refl) ∙ meant-lists s)
-      (λ t e. heard-meant a buffer s t o e)
-  step-lists o (arriving buffer n s) = arrival-cases (Lists-after (arriving buffer n s)) a (λ _. refl) buffer n s (λ _ _ _ _. refl)
-  step-lists o (takingOut buffer n) = taking-cases (Lists-after (takingOut buffer n)) a (λ _. refl) buffer n (λ _ _. refl)
-  step-lists o (droppingLink buffer n) = dropping-cases (Lists-after (droppingLink buffer n)) a (λ _. refl) buffer n (λ _ _. refl)
+      (λ t e. heard-meant a terms s t o e)
+  step-lists o (radio buffer n (arrives s)) = arrival-cases (Lists-after (arriving buffer n s)) a (λ _. refl) buffer n s (λ _ _ _ _. refl)
+  step-lists o (radio buffer n takes) = taking-cases (Lists-after (takingOut buffer n)) a (λ _. refl) buffer n (λ _ _. refl)
+  step-lists o (radio buffer n drops) = dropping-cases (Lists-after (droppingLink buffer n)) a (λ _. refl) buffer n (λ _ _. refl)
 
 lists-from : (a : State) (e : Events) (cs : List Call) → Sound a → e ≡ a .events → listsFrom e (seenFrom a cs) ≡ after a cs .events
 unfolding after listsFrom seenFrom

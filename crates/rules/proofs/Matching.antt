@@ -20,7 +20,7 @@ use Rattle.rules.specs.Words.{channelOf}
 use Rattle.rules.specs.declared.Way.{Way}
 use Rattle.rules.specs.declared.Way.the-variants.{Receive, Send}
 use Rattle.rules.specs.State.{State, Chan, closed, isOpen, isStream, chan, withChan, establish, fresh, readied, dropped, queue, withQueue, held, joined, without, counting, due, atOnce, marked, appended, whole, arrived, removed, unfinished}
-use Rattle.rules.specs.Reading.{Command, Body, other, kindOf, detailsOf, commandIn, toModem, addressed}
+use Rattle.rules.specs.Reading.{Command, Body, kindOf, detailsOf, commandIn, toModem, addressed}
 use Rattle.rules.specs.Radio.{numbered}
 use Rattle.rules.specs.Sound.{SoundChan, Sound}
 use Rattle.rules.specs.History.{History, ended, openedWith, readiedIn, droppedIn, sameNumber, side, withSide, acceptedIn, wholeIn, outIn, datagramsBy}

@@ -1,7 +1,7 @@
 -- The response that the command call means is one that the paper lists.
 -- Assumes nothing.
 use Prim.Native.Nat.{ℕ, suc, _+_, _≤_, _<_, min}
-use mathlib.Core.Path.{_≡_, refl, sym, subst}
+use mathlib.Core.Path.{_≡_, refl, sym, subst, _∙_}
 use mathlib.Core.Bool.{Bool, true, false, not, _&&_}
 use mathlib.Core.List.{List, [], _∷_}
 use native.Mathlib.Omega.{arith}
@@ -20,13 +20,13 @@ use Rattle.rules.specs.declared.Way.the-variants.{Receive}
 use Rattle.rules.specs.Profile.{allowsBearer}
 use Rattle.rules.specs.State.{State, Chan, chan, isDropped, held}
 use Rattle.rules.specs.Pool.{unpromised}
-use Rattle.rules.specs.Reading.{Reading, reading, Command, Body, Bearer, moreTime, eventList, openChannel, closeChannel, receiveData, sendData, channelStatus, other, bodyIn, commandIn, kindOf, detailsOf}
-use Rattle.rules.specs.Own.{Reply, Status, bit1, capped, plain, opened, statusesFrom, own, protocolOf}
+use Rattle.rules.specs.Reading.{Reading, reading, Command, Body, Bearer, bare, eventList, openChannel, closeChannel, receiveData, sendData, bodyIn, commandIn, kindOf, detailsOf}
+use Rattle.rules.specs.Own.{Reply, Status, bit1, capped, plain, opened, statusesFrom, own, protocolOf, bareTypes, reply, telling}
 use Rattle.rules.specs.Written.{bearerBytes}
 use Rattle.rules.specs.Command.{meantBy}
-use Rattle.rules.specs.Bench.{bearerProper, errorProper, successProper, furtherProper, resultProper, rising, proper}
+use Rattle.rules.specs.Bench.{bearerProper, errorProper, successProper, furtherProper, resultProper, rising, proper, reportProper}
 use Rattle.rules.specs.Sound.{Sound}
-use Rattle.rules.proofs.Laws.{branch, both, or-right}
+use Rattle.rules.proofs.Laws.{branch, both, or-right, each-member}
 use Rattle.rules.proofs.Cases.{listing-cases, opening-cases, closing-cases, receiving-cases, sending-cases}
 use Rattle.rules.proofs.Readings.{detailsRead, counted, reading-cases, body-cases}
 use Rattle.rules.proofs.Sizes.{BearerMeasured, bearer-read, bearer-lengths}
@@ -84,16 +84,14 @@ opened-proper n l b g low high kept fit some capped =
 abbrev detailsWith : Command → Body → Details
 detailsWith c b = record { number = c .number; kind = kindOf b; qualifier = c .qualifier }
 
--- the type of other values is none of the seven
-abbrev OtherUnknown : Body → Type 0
-OtherUnknown moreTime = Unit {0}
-OtherUnknown (eventList es) = Unit {0}
-OtherUnknown (openChannel b size t) = Unit {0}
-OtherUnknown closeChannel = Unit {0}
-OtherUnknown (receiveData n) = Unit {0}
-OtherUnknown (sendData s) = Unit {0}
-OtherUnknown channelStatus = Unit {0}
-OtherUnknown (other t) = known t ≡ false
+-- a type without values is one of those that change nothing
+abbrev BareKnown : Body → Type 0
+BareKnown (bare t) = member t bareTypes ≡ true
+BareKnown (eventList es) = Unit {0}
+BareKnown (openChannel b size t) = Unit {0}
+BareKnown closeChannel = Unit {0}
+BareKnown (receiveData n) = Unit {0}
+BareKnown (sendData s) = Unit {0}
 
 abbrev Listed : Details → Reply → Type 0
 Listed d r = resultProper d (r .result) ≡ true
@@ -108,9 +106,11 @@ unfolding capped
 capped-fits n = le-leb (min n 255) 255 (omega arith)
 
 -- every command's result is one that the paper lists for its type
-own-proper : (a : State) (c : Command) (b : Body) (i : Bool) → Sound a → BearerMeasured b → OtherUnknown b → Listed (detailsWith c b) (own a c b i)
-unfolding own kindOf resultProper errorProper successProper furtherProper known table member some-of _⇒_else_
-own-proper a c moreTime i h m u = both _ _ (plain-proper 0x02 i refl) refl
+own-proper : (a : State) (c : Command) (b : Body) (i : Bool) → Sound a → BearerMeasured b → BareKnown b → Listed (detailsWith c b) (own a c b i)
+unfolding own telling kindOf resultProper errorProper successProper reportProper furtherProper known table member some-of _⇒_else_
+own-proper a c (bare t) i h m u =
+    each-member (λ (k : ℕ). Listed (detailsWith c (bare k)) (reply a (telling a k i))) t bareTypes
+    (both _ _ (plain-proper 0x02 i refl) refl, (both _ _ (plain-proper 0x44 i refl) (statuses-rise 0 1 (a .chans) (omega arith) (omega (arith, h .seven))), tt)) u
 own-proper a c (eventList es) i h m u =
     listing-cases (Listed (detailsWith c (eventList es))) a es i refl (λ _. both _ _ (plain-proper 0x05 i refl) refl)
 own-proper a c (openChannel b size t) i h m u =
@@ -128,12 +128,9 @@ own-proper a c (receiveData r) i h m u =
 own-proper a c (sendData s) i h m u =
     sending-cases (Listed (detailsWith c (sendData s))) a (λ _ e. e) (c .qualifier) (channelOf (c .destination)) s i
     (λ _ _ _ _ _ _. both _ _ (plain-proper 0x43 i refl) (capped-fits _))
-own-proper a c channelStatus i h m u =
-    both _ _ (plain-proper 0x44 i refl) (statuses-rise 0 1 (a .chans) (omega arith) (omega (arith, h .seven)))
-own-proper a c (other t) i h m u = rw u
 
-other-read : (d : Details) (os : List Object) → OtherUnknown (bodyIn d os)
-other-read d os = body-cases OtherUnknown d os (λ _. tt) (λ _. tt) (λ _. tt) (λ _. tt) (λ _. tt) (λ _. tt) (λ _. tt) (λ e. e)
+bare-read : (d : Details) (os : List Object) → known (d .kind) ≡ true → BareKnown (bodyIn d os)
+bare-read d os k = body-cases BareKnown d os (λ _. tt) (λ _. tt) (λ _. tt) (λ _. tt) (λ _. tt) (λ e. sym e ∙ k)
 
 -- the response that the command call means is one that the paper lists
 pub meant-proper : (a : State) (s : List ℕ) → Sound a → proper (meantBy a (reading (a .profile) s) .response) ≡ true
@@ -143,4 +140,4 @@ meant-proper a s h =
     (λ r i.
     let os = contents s in
     let c = commandIn (detailsRead os) (counted os) in
-    own-proper a c (c .body) i h (bearer-read (a .profile) os r) (other-read (detailsRead os) (counted os)))
+    own-proper a c (c .body) i h (bearer-read (a .profile) os r) (bare-read (detailsRead os) (counted os) (r .kind)))

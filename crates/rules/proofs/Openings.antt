@@ -18,13 +18,14 @@ use Rattle.rules.specs.Words.{channelOf}
 use Rattle.rules.specs.Profile.{channels, allowsBearer}
 use Rattle.rules.specs.State.{State, Chan, closed, isOpen, chan, withChan}
 use Rattle.rules.specs.Pool.{cells, promisedTo, promised, unpromised, grantFor}
-use Rattle.rules.specs.Reading.{reading, Command, Body, Bearer, Transport, moreTime, eventList, openChannel, closeChannel, receiveData, sendData, channelStatus, other, kindOf, toModem}
+use Rattle.rules.specs.Reading.{reading, Command, Body, Bearer, Transport, bare, eventList, openChannel, closeChannel, receiveData, sendData, kindOf, toModem}
 use Rattle.rules.specs.Own.{Reply, Result, Status, Further, problem, done, opened, bit1, plain, openBefore, protocolOf, served, opening, closing, own}
 use Rattle.rules.specs.Run.{Call, commanding}
 use Rattle.rules.specs.History.{History, ended}
 use Rattle.rules.specs.Demands.{reached, told-of, next, begun, latest, isDone, heardDone, answerTo, Passed, cellsFrom, freeBy, freeCells, standing, AllOpen, Lowest}
+use Rattle.rules.specs.Command.{Terms}
 use Rattle.rules.proofs.Laws.{branch, skip}
-use Rattle.rules.proofs.Cases.{listing-cases, opening-cases, closing-cases, receiving-cases, sending-cases}
+use Rattle.rules.proofs.Cases.{listing-cases, opening-cases, closing-cases, receiving-cases, sending-cases, telling-cases}
 use Rattle.rules.proofs.Grants.{promised-set, grant-whole}
 use Rattle.rules.proofs.Soundness.{open-place, open-before-le, reached-sound}
 use Rattle.rules.proofs.Answers.{meant-own}
@@ -137,7 +138,8 @@ Opening-lowest a x o b g r = r .result ≡ done x (opened o b g) → Lowest (man
 
 own-opened : (a : State) (c : Command) (y : Body) (i : Bool) (x : ℕ) (o : Status) (b : Bearer) (g : ℕ) → Opening-lowest a x o b g (own a c y i)
 unfolding own
-own-opened a c moreTime i x o b g = λ e. absurd (false≢true (cc))
+own-opened a c (bare t) i x o b g =
+    telling-cases (λ (r : Result). r ≡ done x (opened o b g) → Lowest (many a) (isStanding a) (o .number .0)) a t i (λ e. absurd (false≢true (cc))) (λ e. absurd (false≢true (cc)))
 own-opened a c (eventList es) i x o b g = listing-cases (Opening-lowest a x o b g) a es i (λ e. absurd (false≢true (cc))) (λ _ e. absurd (false≢true (cc)))
 own-opened a c (openChannel d size t) i x o b g =
     opening-cases (Opening-lowest a x o b g) a (λ _ _ e. absurd (false≢true (cc))) (c .qualifier) d size (protocolOf t) i (λ e. absurd (false≢true (cc)))
@@ -150,8 +152,6 @@ own-opened a c (receiveData r) i x o b g =
     receiving-cases (Opening-lowest a x o b g) a (λ _ _ e. absurd (false≢true (cc))) (channelOf (c .destination)) r i (λ _ _ _ e. absurd (false≢true (cc)))
 own-opened a c (sendData s) i x o b g =
     sending-cases (Opening-lowest a x o b g) a (λ _ _ e. absurd (false≢true (cc))) (c .qualifier) (channelOf (c .destination)) s i (λ _ _ _ _ _ _ e. absurd (false≢true (cc)))
-own-opened a c channelStatus i x o b g = λ e. absurd (false≢true (cc))
-own-opened a c (other t) i x o b g = λ e. absurd (false≢true (cc))
 
 -- the histories of the channels, and the state that they tell
 
@@ -203,7 +203,7 @@ module _ (p : List ℕ) (cs : List Call) where
 
 -- an OPEN CHANNEL that passed steps 1 to 8 behind these calls, with a bearer and a protocol that are served, and a size
 module _
-    (p : List ℕ) (cs : List Call) (buffer : ℕ) (s : List ℕ) (c : Command) (i : Bool) (w : Passed (latest p cs) buffer s c i)
+    (p : List ℕ) (cs : List Call) (terms : Terms) (s : List ℕ) (c : Command) (i : Bool) (w : Passed (latest p cs) terms s c i)
     (b : Bearer) (size : ℕ) (t : Option Transport) (e : c .body ≡ openChannel b size t)
     (bearer : allowsBearer (latest p cs) (b .kind) ≡ true) (protocol : served (protocolOf t) ≡ true) (asks : 1 ≤ size) where
   -- every number from 1 to N stands open, by the histories
@@ -215,12 +215,12 @@ module _
       (AllStand → Q (some (problem 0x01))) →
       ((AllStand → ⊥) → freeCells p cs < 2 → Q (some (problem 0x04))) →
       ((AllStand → ⊥) → 2 ≤ freeCells p cs → (k : ℕ) → Lowest (channels (latest p cs)) (standing p cs) k → Q (some (opens (c .qualifier) b size i k (freeCells p cs)))) →
-      Q (answerTo p cs buffer s)
+      Q (answerTo p cs terms s)
   unfolding own
   heard-last Q x y z =
       let a = reached p cs in
       let free = free-told p cs in
-      subst Q (sym (own-heard p cs buffer s c i w (openChannel b size t) e))
+      subst Q (sym (own-heard p cs terms s c i w (openChannel b size t) e))
       (opening-last a (c .qualifier) b size (protocolOf t) i (reached-bearer p cs (b .kind) ∙ bearer) protocol asks (λ (r : Result). Q (some r))
       (λ h. x (told-all p cs h))
       (λ n l. y (λ h. n (all-told p cs h)) (omega arith))
@@ -228,14 +228,14 @@ module _
       subst (λ (f : ℕ). Q (some (opens (c .qualifier) b size i k f))) free (z (λ h. n (all-told p cs h)) (omega arith) k (lowest-told p cs k l))))
 
   -- it lacks a number exactly when every number from 1 to N stands open
-  pub no-number : answerTo p cs buffer s ≡ some (problem 0x01) ↔ AllStand
+  pub no-number : answerTo p cs terms s ≡ some (problem 0x01) ↔ AllStand
   no-number = (
     heard-last (λ (r : Option Result). r ≡ some (problem 0x01) → AllStand) (λ h _. h) (λ _ _ q. let w : _≡_ {A = ℕ} 4 1 = cc in absurd (omega arith)) (λ _ _ _ _ q. absurd (done-not-problem _ _ _ q)),
     heard-last (λ (r : Option Result). AllStand → r ≡ some (problem 0x01)) (λ _ _. refl) (λ n _ h. absurd (n h)) (λ n _ _ _ h. absurd (n h)),
   )
 
   -- where a number is unused, it lacks cells exactly when fewer than two are free
-  pub no-cells : (AllStand → ⊥) → answerTo p cs buffer s ≡ some (problem 0x04) ↔ freeCells p cs < 2
+  pub no-cells : (AllStand → ⊥) → answerTo p cs terms s ≡ some (problem 0x04) ↔ freeCells p cs < 2
   no-cells n = (
     heard-last (λ (r : Option Result). r ≡ some (problem 0x04) → freeCells p cs < 2) (λ h _. absurd (n h)) (λ _ l _. l) (λ _ _ _ _ q. absurd (done-not-problem _ _ _ q)),
     heard-last (λ (r : Option Result). freeCells p cs < 2 → r ≡ some (problem 0x04)) (λ h _. absurd (n h)) (λ _ _ _. refl) (λ _ m _ _ l. absurd (omega arith)),
@@ -244,28 +244,28 @@ module _
   -- where a number is unused and two cells are free, it opens the lowest unused number, with the grant for the free cells
   pub opens-lowest :
       (AllStand → ⊥) → 2 ≤ freeCells p cs →
-      (k : ℕ) × Lowest (channels (latest p cs)) (standing p cs) k × (answerTo p cs buffer s ≡ some (opens (c .qualifier) b size i k (freeCells p cs)))
+      (k : ℕ) × Lowest (channels (latest p cs)) (standing p cs) k × (answerTo p cs terms s ≡ some (opens (c .qualifier) b size i k (freeCells p cs)))
   opens-lowest n m =
       heard-last (λ (r : Option Result). (k : ℕ) × Lowest (channels (latest p cs)) (standing p cs) k × (r ≡ some (opens (c .qualifier) b size i k (freeCells p cs))))
       (λ h. absurd (n h)) (λ _ l. absurd (omega arith)) (λ _ _ k l. (k, l, refl))
 
 -- an opening is told only for a number that does not stand open, the lowest of those from 1 to N
 pub opened-unused :
-    (p : List ℕ) (cs : List Call) (buffer : ℕ) (s : List ℕ) (x : ℕ) (o : Status) (b : Bearer) (g : ℕ) → answerTo p cs buffer s ≡ some (done x (opened o b g)) →
+    (p : List ℕ) (cs : List Call) (terms : Terms) (s : List ℕ) (x : ℕ) (o : Status) (b : Bearer) (g : ℕ) → answerTo p cs terms s ≡ some (done x (opened o b g)) →
     Lowest (channels (latest p cs)) (standing p cs) (o .number .0)
-opened-unused p cs buffer s x o b g e =
+opened-unused p cs terms s x o b g e =
     let a = reached p cs in
-    let w = answer-meant p cs buffer s _ e in
+    let w = answer-meant p cs terms s _ e in
     let c = done-asked a (reading (a .profile) s) x (opened o b g) (sym (w .result)) in
     lowest-told p cs (o .number .0)
     (own-opened a (c .0) (c .0 .body) (c .1) x o b g (sym (ap (λ (r : Reply). r .result) (meant-own a (reading (a .profile) s) (c .0) (c .1) _ (c .2) refl)) ∙ sym (w .result)))
 
 -- a CLOSE CHANNEL that passed steps 1 to 8, of a channel that stands open, gives the cells of its grant back, both ways
 module _
-    (p : List ℕ) (cs : List Call) (buffer : ℕ) (s : List ℕ) (c : Command) (i : Bool) (w : Passed (latest p cs) buffer s c i)
+    (p : List ℕ) (cs : List Call) (terms : Terms) (s : List ℕ) (c : Command) (i : Bool) (w : Passed (latest p cs) terms s c i)
     (e : c .body ≡ closeChannel) (o : told-of (channelOf (c .destination)) p cs .stands ≡ true) where
   abbrev closing-call : Call
-  closing-call = commanding buffer s
+  closing-call = commanding terms s
 
   abbrev was : History
   was = told-of (channelOf (c .destination)) p cs
@@ -275,28 +275,28 @@ module _
   closing-frees =
       let a = reached p cs in
       let n = channelOf (c .destination) in
-      let f = follows-to p cs buffer s c i w (ap (λ (y : Body). toModem (kindOf y)) e) in
+      let f = follows-to p cs terms s c i w (ap (λ (y : Body). toModem (kindOf y)) e) in
       let sum = closed-sum a n i (sym (f .stands) ∙ o) in
-      let now = free-told p (next cs closing-call) ∙ ap unpromised (own-next p cs buffer s c i w closeChannel e) in
+      let now = free-told p (next cs closing-call) ∙ ap unpromised (own-next p cs terms s c i w closeChannel e) in
       let size = ap cells (f .grant) in
       omega (arith, now, free-told p cs, sum, size, reached-sound p cs .within)
 
   -- and an OPEN CHANNEL right behind it has them: it is granted in full what fits the free cells and those of the closed channel together
   pub freed-granted :
-      (buffer′ : ℕ) (s′ : List ℕ) (c′ : Command) (i′ : Bool) → Passed (latest p (next cs closing-call)) buffer′ s′ c′ i′ →
+      (terms′ : Terms) (s′ : List ℕ) (c′ : Command) (i′ : Bool) → Passed (latest p (next cs closing-call)) terms′ s′ c′ i′ →
       (b : Bearer) (size : ℕ) (t : Option Transport) → c′ .body ≡ openChannel b size t →
       allowsBearer (latest p cs) (b .kind) ≡ true → served (protocolOf t) ≡ true → 1 ≤ size → channelOf (c .destination) .0 ≤ channels (latest p cs) →
       2 * cells (min size 1500) ≤ freeCells p cs + 2 * cells (was .grant) →
-      (k : ℕ) × (answerTo p (next cs closing-call) buffer′ s′ ≡ some (opensWith (c′ .qualifier) b size i′ k (min size 1500)))
+      (k : ℕ) × (answerTo p (next cs closing-call) terms′ s′ ≡ some (opensWith (c′ .qualifier) b size i′ k (min size 1500)))
   unfolding begun cells kindOf toModem member some-of ended
-  freed-granted buffer′ s′ c′ i′ w′ b size t e′ bearer protocol asks upto fit =
+  freed-granted terms′ s′ c′ i′ w′ b size t e′ bearer protocol asks upto fit =
       let cs′ = next cs closing-call in
       let same : latest p cs′ ≡ latest p cs = latest-next p cs closing-call in
       let n = channelOf (c .destination) in
-      let number = aimed-number p cs buffer s c i w (ap (λ (y : Body). toModem (kindOf y)) e) in
-      let gone = ap (λ (h : History). h .stands) (close-done p cs buffer s c i w e o .1) in
+      let number = aimed-number p cs terms s c i w (ap (λ (y : Body). toModem (kindOf y)) e) in
+      let gone = ap (λ (h : History). h .stands) (close-done p cs terms s c i w e o .1) in
       let unused : AllOpen (channels (latest p cs′)) (standing p cs′) → ⊥ = λ h. true≢false (sym (h (n .0) (number .0) (omega (arith, upto, ap channels same))) ∙ gone) in
       let free = closing-frees in
-      let g = opens-lowest p cs′ buffer′ s′ c′ i′ w′ b size t e′ (ap (λ (q : List ℕ). allowsBearer q (b .kind)) same ∙ bearer) protocol asks unused (omega arith) in
+      let g = opens-lowest p cs′ terms′ s′ c′ i′ w′ b size t e′ (ap (λ (q : List ℕ). allowsBearer q (b .kind)) same ∙ bearer) protocol asks unused (omega arith) in
       let whole = grant-whole size (freeCells p cs′) (omega arith) in
-      (g .0, subst (λ (y : ℕ). answerTo p cs′ buffer′ s′ ≡ some (opensWith (c′ .qualifier) b size i′ (g .0) y)) whole (g .2))
+      (g .0, subst (λ (y : ℕ). answerTo p cs′ terms′ s′ ≡ some (opensWith (c′ .qualifier) b size i′ (g .0) y)) whole (g .2))

@@ -2,7 +2,7 @@
 -- Assumes nothing.
 use Prim.Native.Nat.{ℕ, _-_, _≤_}
 use mathlib.Core.Path.{_≡_, refl, sym, ap, subst, _∙_}
-use mathlib.Core.Bool.{Bool, true, false, false≢true}
+use mathlib.Core.Bool.{Bool, false, false≢true}
 use mathlib.Core.List.{List, [], _∷_}
 use mathlib.Core.Option.{some}
 use native.Mathlib.Omega.{arith}
@@ -16,12 +16,13 @@ use Rattle.rules.specs.Frames.{walk, framed, contents}
 use Rattle.rules.specs.Table.{valueOf}
 use Rattle.rules.specs.Profile.{kept, allowsType, allowsBearer, channels}
 use Rattle.rules.specs.State.{State, start, withChan}
-use Rattle.rules.specs.Reading.{Reading, wrong, asked, reading, readObjects, zeros, detailsIn, commandIn, kindOf, toModem, Command, Body, moreTime, eventList, openChannel, closeChannel, receiveData, sendData, channelStatus, other}
+use Rattle.rules.specs.Reading.{Reading, wrong, asked, reading, readObjects, zeros, detailsIn, commandIn, kindOf, toModem, Command, Body, bare, eventList, openChannel, closeChannel, receiveData, sendData}
 use Rattle.rules.specs.Own.{Reply, Result, Further, done, listed, own, protocolOf}
 use Rattle.rules.specs.Written.{Response, responseBytes}
-use Rattle.rules.specs.Command.{Answer, answered, Outcome, wrote, refused, command, meantBy}
+use Rattle.rules.specs.Command.{Answer, answered, Outcome, wrote, refused, command, meantBy, Terms}
 use Rattle.rules.specs.Bench.{Told, told, untold, benchRead}
-use Rattle.rules.specs.Run.{Call, starting, commanding, arriving, takingOut, droppingLink, step, after}
+use Rattle.rules.specs.Radio.{arrives, takes, drops}
+use Rattle.rules.specs.Run.{Call, starting, commanding, radio, step, after}
 use Rattle.rules.specs.Sound.{Sound}
 use Rattle.rules.specs.History.{History, answerTells, heardTells, tells, historyFrom, history, seenFrom, commandSeen}
 use Rattle.rules.specs.Demands.{reached, told-of, next, begun, latest, resultTold, heard, answerTo, Passed}
@@ -64,7 +65,7 @@ latest-next p (d ∷ cs) c = latest-next (begun p d) cs c
 -- no call but a start changes the profile
 own-profile : (a : State) (c : Command) (b : Body) (i : Bool) → own a c b i .state .profile ≡ a .profile
 unfolding own listed withChan
-own-profile a c moreTime i = refl
+own-profile a c (bare t) i = refl
 own-profile a c (eventList es) i = listing-cases (λ (r : Reply). r .state .profile ≡ a .profile) a es i refl (λ _. refl)
 own-profile a c (openChannel b size t) i =
     opening-cases (λ (r : Reply). r .state .profile ≡ a .profile) a (λ _ _. refl) (c .qualifier) b size (protocolOf t) i refl (λ _ _ _ _ _ _ _. refl)
@@ -74,8 +75,6 @@ own-profile a c (receiveData r) i =
     receiving-cases (λ (r : Reply). r .state .profile ≡ a .profile) a (λ _ _. refl) (channelOf (c .destination)) r i (λ _ _ _. refl)
 own-profile a c (sendData s) i =
     sending-cases (λ (r : Reply). r .state .profile ≡ a .profile) a (λ _ _. refl) (c .qualifier) (channelOf (c .destination)) s i (λ _ _ _ _ _ _. refl)
-own-profile a c channelStatus i = refl
-own-profile a c (other t) i = refl
 
 meant-profile : (a : State) (r : Reading) → meantBy a r .state .profile ≡ a .profile
 unfolding meantBy
@@ -85,11 +84,11 @@ meant-profile a (asked c i) = own-profile a c (c .body) i
 step-profile : (a : State) (c : Call) (q : List ℕ) → a .profile ≡ kept q → step a c .state .profile ≡ kept (begun q c)
 unfolding step begun start withChan
 step-profile a (starting p) q e = refl
-step-profile a (commanding buffer s) q e =
-    command-cases (λ (r : Answer). r .state .profile ≡ kept q) a (λ _. e) buffer s (λ _ _. meant-profile a (reading (a .profile) s) ∙ e)
-step-profile a (arriving buffer n s) q e = arrival-cases (λ (r : Answer). r .state .profile ≡ kept q) a (λ _. e) buffer n s (λ _ _ _ _. e)
-step-profile a (takingOut buffer n) q e = taking-cases (λ (r : Answer). r .state .profile ≡ kept q) a (λ _. e) buffer n (λ _ _. e)
-step-profile a (droppingLink buffer n) q e = dropping-cases (λ (r : Answer). r .state .profile ≡ kept q) a (λ _. e) buffer n (λ _ _. e)
+step-profile a (commanding terms s) q e =
+    command-cases (λ (r : Answer). r .state .profile ≡ kept q) a (λ _. e) terms s (λ _ _. meant-profile a (reading (a .profile) s) ∙ e)
+step-profile a (radio buffer n (arrives s)) q e = arrival-cases (λ (r : Answer). r .state .profile ≡ kept q) a (λ _. e) buffer n s (λ _ _ _ _. e)
+step-profile a (radio buffer n takes) q e = taking-cases (λ (r : Answer). r .state .profile ≡ kept q) a (λ _. e) buffer n (λ _ _. e)
+step-profile a (radio buffer n drops) q e = dropping-cases (λ (r : Answer). r .state .profile ≡ kept q) a (λ _. e) buffer n (λ _ _. e)
 
 after-profile : (a : State) (cs : List Call) (q : List ℕ) → a .profile ≡ kept q → after a cs .profile ≡ kept (latest q cs)
 unfolding after latest
@@ -131,23 +130,23 @@ heard-wrote (refused r) x e = absurd (false≢true (cc))
 
 -- the bench hears what the command call meant
 pub heard-meant :
-    (a : State) (buffer : ℕ) (s t : List ℕ) → Sound a → command a buffer s .outcome ≡ wrote t →
-    heard (command a buffer s .outcome) ≡ some (meantBy a (reading (a .profile) s) .response .result)
+    (a : State) (terms : Terms) (s t : List ℕ) → Sound a → command a terms s .outcome ≡ wrote t →
+    heard (command a terms s .outcome) ≡ some (meantBy a (reading (a .profile) s) .response .result)
 unfolding heard resultTold
-heard-meant a buffer s t h e = ap heard e ∙ ap resultTold (modem-heard a buffer s t h e)
+heard-meant a terms s t h e = ap heard e ∙ ap resultTold (modem-heard a terms s t h e)
 
 -- what is known behind an answer in which the bench hears the result x
-pub record Answered (p : List ℕ) (cs : List Call) (buffer : ℕ) (s : List ℕ) (x : Result) : Type 0 where
+pub record Answered (p : List ℕ) (cs : List Call) (terms : Terms) (s : List ℕ) (x : Result) : Type 0 where
   pub result : x ≡ meantBy (reached p cs) (reading (reached p cs .profile) s) .response .result
-  pub state : reached p (next cs (commanding buffer s)) ≡ meantBy (reached p cs) (reading (reached p cs .profile) s) .state
+  pub state : reached p (next cs (commanding terms s)) ≡ meantBy (reached p cs) (reading (reached p cs .profile) s) .state
 
-pub answer-meant : (p : List ℕ) (cs : List Call) (buffer : ℕ) (s : List ℕ) (x : Result) → answerTo p cs buffer s ≡ some x → Answered p cs buffer s x
+pub answer-meant : (p : List ℕ) (cs : List Call) (terms : Terms) (s : List ℕ) (x : Result) → answerTo p cs terms s ≡ some x → Answered p cs terms s x
 unfolding step
-answer-meant p cs buffer s x e =
+answer-meant p cs terms s x e =
     let a = reached p cs in
-    let w = heard-wrote (command a buffer s .outcome) x e in
-    let q = sym e ∙ heard-meant a buffer s (w .0) (reached-sound p cs) (w .1) in
-    record { result = cc; state = reached-next p cs (commanding buffer s) ∙ commanded-state a buffer s (w .0) (w .1) }
+    let w = heard-wrote (command a terms s .outcome) x e in
+    let q = sym e ∙ heard-meant a terms s (w .0) (reached-sound p cs) (w .1) in
+    record { result = cc; state = reached-next p cs (commanding terms s) ∙ commanded-state a terms s (w .0) (w .1) }
 
 -- what is done was asked for
 pub done-asked :
@@ -165,29 +164,29 @@ unfolding isEmpty reading framed
 read-some p [] c i e = absurd (wrong-asked zeros 0x32 c i (sym (stop _ _ _ refl) ∙ e))
 read-some p (b ∷ s) c i e = refl
 
-module _ (p : List ℕ) (cs : List Call) (buffer : ℕ) (s : List ℕ) (c : Command) (i : Bool) (w : Passed (latest p cs) buffer s c i) where
+module _ (p : List ℕ) (cs : List Call) (terms : Terms) (s : List ℕ) (c : Command) (i : Bool) (w : Passed (latest p cs) terms s c i) where
   abbrev a : State
   a = reached p cs
 
   pub read-reached : reading (a .profile) s ≡ asked c i
   read-reached = reached-reading p cs s ∙ w .read
 
-  answered-meant : command a buffer s ≡ answered (meantBy a (reading (a .profile) s) .state) (responseBytes (meantBy a (reading (a .profile) s) .response))
+  answered-meant : command a terms s ≡ answered (meantBy a (reading (a .profile) s) .state) (responseBytes (meantBy a (reading (a .profile) s) .response))
   unfolding command
   answered-meant =
-      skip _ _ _ (le-ltb buffer 255 (w .roomy)) ∙ skip _ _ _ (rw (read-some (a .profile) s c i read-reached, le-ltb 256 (length s) (w .few)))
+      skip _ _ _ (le-ltb (terms .buffer) 255 (w .roomy)) ∙ skip _ _ _ (rw (read-some (a .profile) s c i read-reached, le-ltb 256 (length s) (w .few)))
 
   -- a command that passed steps 1 to 8 is answered as its own checks say, and the state is theirs
-  pub own-heard : (b : Body) → c .body ≡ b → answerTo p cs buffer s ≡ some (own a c b i .result)
+  pub own-heard : (b : Body) → c .body ≡ b → answerTo p cs terms s ≡ some (own a c b i .result)
   unfolding step
   own-heard b e =
-      heard-meant a buffer s _ (reached-sound p cs) (ap (λ (r : Answer). r .outcome) answered-meant)
+      heard-meant a terms s _ (reached-sound p cs) (ap (λ (r : Answer). r .outcome) answered-meant)
       ∙ ap (λ (r : Reply). some (r .result)) (meant-own a (reading (a .profile) s) c i b read-reached e)
 
-  pub own-next : (b : Body) → c .body ≡ b → reached p (next cs (commanding buffer s)) ≡ own a c b i .state
+  pub own-next : (b : Body) → c .body ≡ b → reached p (next cs (commanding terms s)) ≡ own a c b i .state
   unfolding step
   own-next b e =
-      reached-next p cs (commanding buffer s) ∙ ap (λ (r : Answer). r .state) answered-meant
+      reached-next p cs (commanding terms s) ∙ ap (λ (r : Answer). r .state) answered-meant
       ∙ ap (λ (r : Reply). r .state) (meant-own a (reading (a .profile) s) c i b read-reached e)
 
   -- and if it goes to a channel, to one of 1 to 7
@@ -208,12 +207,12 @@ told-result (told r) x e = (r, refl, cc)
 told-result (untold why) x e = absurd (false≢true (cc))
 
 pub answer-tells :
-    (n : ChannelNumber) (p : List ℕ) (cs : List Call) (buffer : ℕ) (s : List ℕ) (x : Result) → answerTo p cs buffer s ≡ some x →
-    told-of n p (next cs (commanding buffer s)) ≡ answerTells n (told-of n p cs) (commandSeen s) x
+    (n : ChannelNumber) (p : List ℕ) (cs : List Call) (terms : Terms) (s : List ℕ) (x : Result) → answerTo p cs terms s ≡ some x →
+    told-of n p (next cs (commanding terms s)) ≡ answerTells n (told-of n p cs) (commandSeen s) x
 unfolding heard tells heardTells
-answer-tells n p cs buffer s x e =
+answer-tells n p cs terms s x e =
     let h = told-of n p cs in
-    let w = heard-wrote (step (reached p cs) (commanding buffer s) .outcome) x e in
+    let w = heard-wrote (step (reached p cs) (commanding terms s) .outcome) x e in
     let r = told-result (benchRead (w .0)) x (sym (ap heard (w .1)) ∙ e) in
-    told-next n p cs (commanding buffer s) ∙ ap (tells n h (commanding buffer s)) (w .1)
+    told-next n p cs (commanding terms s) ∙ ap (tells n h (commanding terms s)) (w .1)
     ∙ ap (heardTells n h (commandSeen s)) (r .1) ∙ ap (answerTells n h (commandSeen s)) (r .2)

@@ -2,7 +2,7 @@
 -- Assumes nothing.
 use Prim.Native.Nat.{ℕ}
 use mathlib.Core.Path.{_≡_, refl, sym, ap}
-use mathlib.Core.Bool.{Bool, true, false, not, _||_}
+use mathlib.Core.Bool.{Bool, true, not, _||_}
 use mathlib.Core.List.{List, [], _∷_}
 use mathlib.Core.Option.{some, none}
 use lib.Dec.{eqb}
@@ -13,7 +13,8 @@ use Rattle.rules.specs.Checks.{_⇒_else_, every, some-of, member, same}
 use Rattle.rules.specs.Frames.{Object, walk, contents}
 use Rattle.rules.specs.Table.{table, known, rowOf, sift, present, valueOf, complete, measured, lengthFits}
 use Rattle.rules.specs.Profile.{allowsType}
-use Rattle.rules.specs.Reading.{Reading, Body, moreTime, eventList, openChannel, closeChannel, receiveData, sendData, channelStatus, other, bearerIn, pairIn, transportIn, wrong, asked, zeros, detailsIn, commandIn, bodyIn, kindOf, detailsOf, addressed, readObjects, reading}
+use Rattle.rules.specs.Own.{bareTypes}
+use Rattle.rules.specs.Reading.{Reading, Body, bare, eventList, openChannel, closeChannel, receiveData, sendData, bearerIn, pairIn, transportIn, wrong, asked, zeros, detailsIn, commandIn, bodyIn, kindOf, detailsOf, addressed, readObjects, reading}
 use Rattle.rules.specs.Bench.{errorProper}
 use Rattle.rules.specs.Written.{detailsBytes}
 use Rattle.rules.proofs.Laws.{branch, not-not, both-left, both-right}
@@ -92,31 +93,27 @@ module _ (Q : Body → Type 0) (d : Details) (os : List Object) where
   t = d .kind
 
   pub body-cases :
-      (t ≡ 0x02 → Q moreTime) →
       (t ≡ 0x05 → Q (eventList (valueOf 0x19 os))) →
       (t ≡ 0x40 →
       Q (openChannel (bearerIn (valueOf 0x35 os)) (pairIn (valueOf 0x39 os)) (present 0x3C os ⇒ some (transportIn (valueOf 0x3C os)) else none))) →
       (t ≡ 0x41 → Q closeChannel) →
       (t ≡ 0x42 → Q (receiveData (getD (valueOf 0x37 os) 0 0))) →
       (t ≡ 0x43 → Q (sendData (valueOf 0x36 os))) →
-      (t ≡ 0x44 → Q channelStatus) →
-      (known t ≡ false → Q (other t)) →
+      (known t ≡ member t bareTypes → Q (bare t)) →
       Q (bodyIn d os)
   unfolding bodyIn known table member some-of
-  body-cases f₀₂ f₀₅ f₄₀ f₄₁ f₄₂ f₄₃ f₄₄ f =
-      branch Q _ _ _ (λ e. f₀₂ (eqb-true _ _ e)) (λ e₀₂.
+  body-cases f₀₅ f₄₀ f₄₁ f₄₂ f₄₃ f =
       branch Q _ _ _ (λ e. f₀₅ (eqb-true _ _ e)) (λ e₀₅.
       branch Q _ _ _ (λ e. f₄₀ (eqb-true _ _ e)) (λ e₄₀.
       branch Q _ _ _ (λ e. f₄₁ (eqb-true _ _ e)) (λ e₄₁.
       branch Q _ _ _ (λ e. f₄₂ (eqb-true _ _ e)) (λ e₄₂.
-      branch Q _ _ _ (λ e. f₄₃ (eqb-true _ _ e)) (λ e₄₃.
-      branch Q _ _ _ (λ e. f₄₄ (eqb-true _ _ e)) (λ e₄₄. f (rw (e₀₂, e₀₅, e₄₀, e₄₁, e₄₂, e₄₃, e₄₄)))))))))
+      branch Q _ _ _ (λ e. f₄₃ (eqb-true _ _ e)) (λ e₄₃. f (rw (e₀₅, e₄₀, e₄₁, e₄₂, e₄₃)))))))
 
 -- the command that was read has the details that its bytes tell
 kind-in : (d : Details) (os : List Object) → kindOf (bodyIn d os) ≡ d .kind
 unfolding kindOf
 kind-in d os =
-    body-cases (λ (b : Body). kindOf b ≡ d .kind) d os (λ e. sym e) (λ e. sym e) (λ e. sym e) (λ e. sym e) (λ e. sym e) (λ e. sym e) (λ e. sym e) (λ _. refl)
+    body-cases (λ (b : Body). kindOf b ≡ d .kind) d os (λ e. sym e) (λ e. sym e) (λ e. sym e) (λ e. sym e) (λ e. sym e) (λ _. refl)
 
 pub details-told : (d : Details) (os : List Object) → detailsOf (commandIn d os) ≡ d
 unfolding detailsOf commandIn

@@ -6,7 +6,8 @@ use Prim.Native.Nat.{ℕ}
 use Rattle.rules.specs.declared.Refusal.{Refusal}
 use Rattle.rules.specs.State.{State, start}
 use Rattle.rules.specs.Command.{Answer, refused, answered}
-use Rattle.rules.specs.Run.{Call, starting, commanding, arriving, takingOut, droppingLink, step}
+use Rattle.rules.specs.Radio.{arrives, takes, drops}
+use Rattle.rules.specs.Run.{Call, starting, commanding, radio, step}
 use Rattle.rules.proofs.Cases.{arrival-cases, taking-cases, dropping-cases, command-cases}
 
 -- of an answer that is a refusal: the state is as it was
@@ -20,10 +21,10 @@ answered-stays a b s why e = cc
 pub refusal-stays : (a : State) (c : Call) → Stays a (step a c)
 unfolding step
 refusal-stays a (starting p) = answered-stays a (start p) []
-refusal-stays a (commanding buffer s) =
-    command-cases (Stays a) a (λ _ _ _. refl) buffer s (λ _ _. answered-stays a _ _)
-refusal-stays a (arriving buffer n s) =
+refusal-stays a (commanding terms s) =
+    command-cases (Stays a) a (λ _ _ _. refl) terms s (λ _ _. answered-stays a _ _)
+refusal-stays a (radio buffer n (arrives s)) =
     arrival-cases (Stays a) a (λ _ _ _. refl) buffer n s (λ _ _ _ _. answered-stays a _ _)
-refusal-stays a (takingOut buffer n) = taking-cases (Stays a) a (λ _ _ _. refl) buffer n (λ _ _. answered-stays a _ _)
-refusal-stays a (droppingLink buffer n) =
+refusal-stays a (radio buffer n takes) = taking-cases (Stays a) a (λ _ _ _. refl) buffer n (λ _ _. answered-stays a _ _)
+refusal-stays a (radio buffer n drops) =
     dropping-cases (Stays a) a (λ _ _ _. refl) buffer n (λ _ _. answered-stays a _ _)

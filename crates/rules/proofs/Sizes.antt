@@ -19,15 +19,15 @@ use Rattle.rules.specs.Table.{table, rowAmong, rowOf, complete, present,
 use Rattle.rules.specs.Profile.{bit, allowsBearer}
 use Rattle.rules.specs.declared.Way.the-variants.{Receive, Send}
 use Rattle.rules.specs.State.{State, Chan, chan, held, atOnce}
-use Rattle.rules.specs.Reading.{Reading, reading, Command, Body, Bearer, moreTime, eventList, openChannel, closeChannel, receiveData, sendData, channelStatus, other, bearerIn, commandIn}
-use Rattle.rules.specs.Own.{Reply, Result, Status, error, problem, done, nothing, opened, received, sent, statuses, statusesFrom, own, protocolOf}
-use Rattle.rules.specs.Written.{unflagged, detailsBytes, bearerBytes, pairBytes, statusBytes, statusObject, statusObjects, furtherObjects, resultBytes, resultObjects, responseObjects, responseBytes, eventBytes}
+use Rattle.rules.specs.Reading.{Reading, reading, Command, Body, Bearer, bare, eventList, openChannel, closeChannel, receiveData, sendData, bearerIn, commandIn}
+use Rattle.rules.specs.Own.{Reply, Result, Status, error, problem, done, nothing, opened, received, sent, statuses, statusesFrom, own, protocolOf, reports}
+use Rattle.rules.specs.Written.{unflagged, detailsBytes, bearerBytes, pairBytes, statusBytes, statusObject, statusObjects, furtherObjects, resultBytes, resultObjects, responseObjects, responseBytes, eventBytes, reportObjects}
 use Rattle.rules.specs.Command.{Answer, meantBy}
-use Rattle.rules.specs.Radio.{arrivalEvent, dropEvent}
-use Rattle.rules.specs.Run.{Call, starting, commanding, arriving, takingOut, droppingLink, step}
+use Rattle.rules.specs.Radio.{arrivalEvent, dropEvent, arrives, takes, drops}
+use Rattle.rules.specs.Run.{Call, starting, commanding, radio, step}
 use Rattle.rules.specs.Sound.{Sound, most, Within}
 use Rattle.rules.proofs.Laws.{branch, both-left, both-right}
-use Rattle.rules.proofs.Cases.{arrival-cases, taking-cases, dropping-cases, command-cases, listing-cases, opening-cases, closing-cases, receiving-cases, sending-cases}
+use Rattle.rules.proofs.Cases.{arrival-cases, taking-cases, dropping-cases, command-cases, listing-cases, opening-cases, closing-cases, receiving-cases, sending-cases, telling-cases}
 use Rattle.rules.proofs.Readings.{Read, detailsRead, counted, reading-cases, body-cases, value-fits}
 
 -- a length takes at most two bytes, so an object at most three more than its value
@@ -110,8 +110,8 @@ none-short : length (written (unflagged 0x38 (0x00 ∷ 0x00 ∷ []) ∷ [])) ≤
 unfolding written objectBytes lengthBytes _⇒_else_
 none-short = omega arith
 
-statuses-short : (ss : List Status) → length ss ≤ 7 → length (written (furtherObjects (statuses ss))) ≤ 243
-unfolding furtherObjects statusObjects
+statuses-short : (ss : List Status) → length ss ≤ 7 → length (written (furtherObjects (reports (statuses ss)))) ≤ 243
+unfolding furtherObjects reportObjects statusObjects
 statuses-short [] h =
     none-short
 statuses-short (s ∷ ss) h = let x = status-objects (s ∷ ss) in omega arith
@@ -136,14 +136,12 @@ bearer-short p b s e = bearer-lengths (length (bearerBytes b) ≤ 7) p b s e (λ
 
 -- a command that was read has a bearer of its length
 abbrev pub BearerMeasured : Body → Type 0
-BearerMeasured moreTime = Unit {0}
+BearerMeasured (bare t) = Unit {0}
 BearerMeasured (eventList es) = Unit {0}
 BearerMeasured (openChannel b size t) = bearerFits (bearerBytes b) ≡ true
 BearerMeasured closeChannel = Unit {0}
 BearerMeasured (receiveData n) = Unit {0}
 BearerMeasured (sendData s) = Unit {0}
-BearerMeasured channelStatus = Unit {0}
-BearerMeasured (other t) = Unit {0}
 
 bearer-in : (v : List ℕ) → bearerFits v ≡ true → bearerFits (bearerBytes (bearerIn v)) ≡ true
 unfolding bearerIn bearerBytes bearerFits isEmpty _⇒_else_
@@ -163,12 +161,12 @@ bearer-length v e = e
 pub bearer-read : (p s : List ℕ) → Read p s → BearerMeasured (commandIn (detailsRead s) (counted s) .body)
 unfolding commandIn
 bearer-read p s h =
-    body-cases BearerMeasured (detailsRead s) (counted s) (λ _. tt) (λ _. tt)
+    body-cases BearerMeasured (detailsRead s) (counted s) (λ _. tt)
     (λ e.
     bearer-in (valueOf 0x35 (counted s))
     (bearer-length (valueOf 0x35 (counted s))
     (value-fits 0x35 (counted s) (bearer-there (detailsRead s) (counted s) e (h .whole)) (h .lengths))))
-    (λ _. tt) (λ _. tt) (λ _. tt) (λ _. tt) (λ _. tt)
+    (λ _. tt) (λ _. tt) (λ _. tt) (λ _. tt)
 
 -- every command's result is short
 abbrev After : Reply → Type 0
@@ -176,7 +174,8 @@ After r = Short (r .result)
 
 own-short : (a : State) (c : Command) (b : Body) (i : Bool) → Sound a → BearerMeasured b → Short (own a c b i .result)
 unfolding own
-own-short a c moreTime i h m = nothing-short
+own-short a c (bare t) i h m =
+    telling-cases Short a t i (statuses-short (statusesFrom 1 (a .chans)) (let x = statuses-few 1 (a .chans) in omega (arith, h .seven))) nothing-short
 own-short a c (eventList es) i h m = listing-cases After a es i tt (λ _. nothing-short)
 own-short a c (openChannel b size t) i h m =
     opening-cases After a (λ _ _. tt) (c .qualifier) b size (protocolOf t) i tt
@@ -187,9 +186,6 @@ own-short a c (receiveData r) i h m =
     (λ k e _. received-short _ _ (let x = length-take k (held (chan a (channelOf (c .destination))) Receive) in omega arith))
 own-short a c (sendData s) i h m =
     sending-cases After a (λ _ _. tt) (c .qualifier) (channelOf (c .destination)) s i (λ x _ _ _ _ _. sent-short _)
-own-short a c channelStatus i h m =
-    statuses-short (statusesFrom 1 (a .chans)) (let x = statuses-few 1 (a .chans) in omega (arith, h .seven))
-own-short a c (other t) i h m = tt
 
 -- the two events
 
@@ -229,9 +225,9 @@ Fits k r = Within k (r .outcome)
 pub written-within : (a : State) (c : Call) → Sound a → Within (most c) (step a c .outcome)
 unfolding step
 written-within a (starting p) h = omega arith
-written-within a (commanding buffer s) h = command-cases (Fits 255) a (λ _. tt) buffer s (λ _ _. meant-short a s h)
-written-within a (arriving buffer n s) h = arrival-cases (Fits 16) a (λ _. tt) buffer n s (λ _ _ _ _. arrival-short a n s)
-written-within a (takingOut buffer n) h =
+written-within a (commanding terms s) h = command-cases (Fits 255) a (λ _. tt) terms s (λ _ _. meant-short a s h)
+written-within a (radio buffer n (arrives s)) h = arrival-cases (Fits 16) a (λ _. tt) buffer n s (λ _ _ _ _. arrival-short a n s)
+written-within a (radio buffer n takes) h =
     taking-cases (Fits buffer) a (λ _. tt) buffer n
     (λ _ _. let x = length-take (min buffer (atOnce (chan a n) Send)) (held (chan a n) Send) in omega arith)
-written-within a (droppingLink buffer n) h = dropping-cases (Fits 16) a (λ _. tt) buffer n (λ _ _. drop-short a n)
+written-within a (radio buffer n drops) h = dropping-cases (Fits 16) a (λ _. tt) buffer n (λ _ _. drop-short a n)

@@ -19,10 +19,11 @@ use Rattle.rules.specs.declared.Way.the-variants.{Receive, Send}
 use Rattle.rules.specs.State.{State, Chan, closed, isOpen, isStream, start, chan, withChan, room, fresh, readied, dropped, establish, queue, withQueue, held, joined, without, counting, due, atOnce, marked, appended, whole, arrived, removed, unfinished, placesUsed, crowded}
 use Rattle.rules.specs.Pool.{cells, promisedTo, promised, unpromised}
 use Rattle.rules.specs.Words.{channelOf}
-use Rattle.rules.specs.Reading.{Reading, wrong, asked, reading, Command, Body, moreTime, eventList, openChannel, closeChannel, receiveData, sendData, channelStatus, other}
+use Rattle.rules.specs.Reading.{Reading, wrong, asked, reading, Command, Body, bare, eventList, openChannel, closeChannel, receiveData, sendData}
 use Rattle.rules.specs.Own.{Reply, bit1, openBefore, listed, own, protocolOf, carriedBy}
 use Rattle.rules.specs.Command.{Answer, meantBy}
-use Rattle.rules.specs.Run.{Call, starting, commanding, arriving, takingOut, droppingLink, step, after}
+use Rattle.rules.specs.Radio.{arrives, takes, drops}
+use Rattle.rules.specs.Run.{Call, starting, commanding, radio, step, after}
 use Rattle.rules.specs.Sound.{SoundChan, Sound}
 use Rattle.rules.proofs.Laws.{branch, by-way, skip, each-get, each-set, each-replicate}
 use Rattle.rules.proofs.Cases.{arrival-cases, taking-cases, dropping-cases, command-cases, listing-cases, opening-cases, closing-cases, receiving-cases, sending-cases}
@@ -307,7 +308,7 @@ closed-cells a n = omega arith
 -- every command leaves a sound state
 own-sound : (a : State) (c : Command) (b : Body) (i : Bool) → Sound a → Sound (own a c b i .state)
 unfolding own listed promised chan due removed withQueue without marked readied appended
-own-sound a c moreTime i h = h
+own-sound a c (bare t) i h = h
 own-sound a c (eventList es) i h =
     listing-cases After a es i h (λ _. record { thirteen = h .thirteen; seven = h .seven; each = h .each; within = h .within })
 own-sound a c (openChannel b size t) i h =
@@ -333,8 +334,6 @@ own-sound a c (sendData s) i h =
     (branch (λ (z : Chan). Sound (withChan a n z)) (bit1 (c .qualifier)) _ _
     (λ _. same-sound a n (readied x) h o (readied-sound x fit) (whole-grant x Send (unfinished x)))
     (λ _. same-sound a n x h o fit refl)))
-own-sound a c channelStatus i h = h
-own-sound a c (other t) i h = h
 
 meant-sound : (a : State) (r : Reading) → Sound a → Sound (meantBy a r .state)
 unfolding meantBy
@@ -348,18 +347,18 @@ Left r = Sound (r .state)
 pub step-sound : (a : State) (c : Call) → Sound a → Sound (step a c .state)
 unfolding step due arrived appended removed withQueue marked dropped
 step-sound a (starting p) h = start-sound p
-step-sound a (commanding buffer s) h =
-    command-cases Left a (λ _. h) buffer s (λ _ _. meant-sound a (reading (a .profile) s) h)
-step-sound a (arriving buffer n s) h =
+step-sound a (commanding terms s) h =
+    command-cases Left a (λ _. h) terms s (λ _ _. meant-sound a (reading (a .profile) s) h)
+step-sound a (radio buffer n (arrives s)) h =
     arrival-cases Left a (λ _. h) buffer n s
     (λ _ l f g.
     same-sound a n (arrived (chan a n) s) h (l .stands) (arrived-sound (chan a n) (chan-sound a n h) s f g) (whole-grant (appended (chan a n) Receive s) Receive (length s)))
-step-sound a (takingOut buffer n) h =
+step-sound a (radio buffer n takes) h =
     taking-cases Left a (λ _. h) buffer n
     (λ l _.
     same-sound a n (removed (chan a n) Send (min buffer (atOnce (chan a n) Send))) h (l .stands)
     (removed-sound (chan a n) (chan-sound a n h) Send (min buffer (atOnce (chan a n) Send)) (omega arith)) refl)
-step-sound a (droppingLink buffer n) h =
+step-sound a (radio buffer n drops) h =
     dropping-cases Left a (λ _. h) buffer n
     (λ _ l. same-sound a n (dropped (chan a n)) h (l .stands) (dropped-sound (chan a n) (chan-sound a n h)) refl)
 

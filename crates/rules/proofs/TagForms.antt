@@ -16,7 +16,7 @@ use Rattle.rules.specs.State.{State}
 use Rattle.rules.specs.Reading.{Reading, reading, readObjects}
 use Rattle.rules.specs.declared.Refusal.the-variants.{ShortBuffer, CommandSize}
 use Rattle.rules.specs.Written.{responseBytes}
-use Rattle.rules.specs.Command.{Answer, answered, refusal, meantBy, command}
+use Rattle.rules.specs.Command.{Answer, answered, refusal, meantBy, command, Terms}
 use Rattle.rules.specs.Sound.{Each}
 use Rattle.rules.proofs.Laws.{branch, skip, either-left, either-right, each-drop}
 use Rattle.rules.proofs.Walks.{ObjectLeaves, object-leaves, walk-end, walk-fault, walk-object}
@@ -218,12 +218,12 @@ some-retagged fs s = refl
 
 -- and answered as the same command, where both fit 256 bytes
 pub forms-answered :
-    (a : State) (buffer : ℕ) (s : List ℕ) (fs : List Bool) → Each Byte s → framed s ≡ true → length s ≤ 256 → length (retagged fs s) ≤ 256 →
-    command a buffer (retagged fs s) ≡ command a buffer s
+    (a : State) (terms : Terms) (s : List ℕ) (fs : List Bool) → Each Byte s → framed s ≡ true → length s ≤ 256 → length (retagged fs s) ≤ 256 →
+    command a terms (retagged fs s) ≡ command a terms s
 unfolding command
-forms-answered a buffer s fs h e short other =
+forms-answered a terms s fs h e short other =
     let few : (t : List ℕ) → isEmpty t ≡ false → length t ≤ 256 → isEmpty t || ltb 256 (length t) ≡ false = λ t f l. λ i. f i || le-ltb 256 (length t) l i in
     let read = forms-read (a .profile) s fs h e in
     let by : Bool → Reading → Answer = λ (b : Bool) (r : Reading).
-    ltb buffer 255 ⇒ refusal a ShortBuffer else b ⇒ refusal a CommandSize else answered (meantBy a r .state) (responseBytes (meantBy a r .response)) in
+    ltb (terms .buffer) 255 ⇒ refusal a ShortBuffer else b ⇒ refusal a CommandSize else answered (meantBy a r .state) (responseBytes (meantBy a r .response)) in
     λ i. by ((few (retagged fs s) (some-retagged fs s) other ∙ sym (few s (some-framed s e) short)) i) (read i)

@@ -6,23 +6,23 @@ use lib.Dec.{eqb}
 use Rattle.rules.specs.Checks.{_⇒_else_}
 use Rattle.rules.specs.Words.{numberOf}
 use Rattle.rules.specs.State.{State}
-use Rattle.rules.specs.Command.{Outcome, wrote, refused}
+use Rattle.rules.specs.Command.{Outcome, wrote, refused, Terms}
 use Rattle.rules.specs.Fetch.{fetch}
 use Rattle.rules.specs.Run.{Call, commanding, step}
 use Rattle.rules.specs.History.{Exchange}
 
--- a call, a burst with a buffer of so many bytes, or a start of what is gathered
+-- a call, a burst on its terms, or a start of what is gathered
 pub data Act : Type 0 where
   calls : Call → Act
-  bursts : ℕ → List ℕ → Act
+  bursts : Terms → List ℕ → Act
   clears : Act
 
 -- what is seen of a burst s onto the bytes g, of which so many were left: an answer is that to the command of all bytes taken
-unfoldable pub burstSeen : ℕ → List ℕ → List ℕ → ℕ → Outcome → List Exchange
-burstSeen buffer g s left (wrote []) = []
-burstSeen buffer g s left (wrote (b ∷ t)) =
-    record { call = commanding buffer (g ++ take (length s - left) s); outcome = wrote (b ∷ t) } ∷ []
-burstSeen buffer g s left (refused r) = []
+unfoldable pub burstSeen : Terms → List ℕ → List ℕ → ℕ → Outcome → List Exchange
+burstSeen terms g s left (wrote []) = []
+burstSeen terms g s left (wrote (b ∷ t)) =
+    record { call = commanding terms (g ++ take (length s - left) s); outcome = wrote (b ∷ t) } ∷ []
+burstSeen terms g s left (refused r) = []
 
 -- what is gathered behind it, seen from outside too
 unfoldable pub gatheredBy : List ℕ → List ℕ → Outcome → List ℕ
@@ -45,8 +45,8 @@ acted a g [] = record { state = a; gathered = g; seen = [] }
 acted a g (calls c ∷ xs) =
     let r = step a c in
     seenBefore (record { call = c; outcome = r .outcome } ∷ []) (acted (r .state) g xs)
-acted a g (bursts buffer s ∷ xs) =
-    let f = fetch a buffer g s in
+acted a g (bursts terms s ∷ xs) =
+    let f = fetch a terms g s in
     let o = f .answer .outcome in
-    seenBefore (burstSeen buffer g s (length (f .left)) o) (acted (f .answer .state) (gatheredBy g s o) xs)
+    seenBefore (burstSeen terms g s (length (f .left)) o) (acted (f .answer .state) (gatheredBy g s o) xs)
 acted a g (clears ∷ xs) = acted a [] xs

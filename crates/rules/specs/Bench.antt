@@ -13,8 +13,8 @@ use Rattle.rules.specs.Checks.{_⇒_else_, isEmpty, member, same}
 use Rattle.rules.specs.Frames.{Object, walk, frame}
 use Rattle.rules.specs.Table.{known}
 use Rattle.rules.specs.State.{isDropped}
-use Rattle.rules.specs.Reading.{Bearer, Transport, Body, Command, moreTime, eventList, openChannel, closeChannel, receiveData, sendData, channelStatus, other, kindOf, detailsOf, detailsIn, pairIn, bearerIn, addressed}
-use Rattle.rules.specs.Own.{Status, Further, Result, nothing, opened, received, sent, statuses, error, problem, done}
+use Rattle.rules.specs.Reading.{Bearer, Transport, Body, Command, bare, eventList, openChannel, closeChannel, receiveData, sendData, kindOf, detailsOf, detailsIn, pairIn, bearerIn, addressed}
+use Rattle.rules.specs.Own.{bareTypes, Status, Report, Further, Result, statuses, nothing, opened, received, sent, reports, error, problem, done}
 use Rattle.rules.specs.Written.{Response, flagged, unflagged, pairBytes, detailsBytes, bearerBytes, responseBytes}
 use Rattle.rules.specs.Command.{Outcome, wrote, refused}
 
@@ -25,14 +25,12 @@ bearerProper b =
 
 -- the values are such as the bench writes
 unfoldable pub bodyProper : Body → Bool
-bodyProper moreTime = true
+bodyProper (bare t) = member t bareTypes
 bodyProper (eventList es) = leb (length es) 241
 bodyProper (openChannel b size t) = bearerProper b
 bodyProper closeChannel = true
 bodyProper (receiveData n) = true
 bodyProper (sendData s) = leb (length s) 241
-bodyProper channelStatus = true
-bodyProper (other t) = false
 
 -- a transport level as an object, flag clear, where there is one
 unfoldable pub transportObjects : Option Transport → List Object
@@ -41,14 +39,12 @@ transportObjects (some t) = unflagged 0x3C (t .protocol ∷ pairBytes (t .port))
 
 -- the objects of the values, in rising place of the table, flag set on required ones
 unfoldable pub bodyObjects : Body → List Object
-bodyObjects moreTime = []
+bodyObjects (bare t) = []
 bodyObjects (eventList es) = flagged 0x19 es ∷ []
 bodyObjects (openChannel b size t) = flagged 0x35 (bearerBytes b) ∷ flagged 0x39 (pairBytes size) ∷ transportObjects t
 bodyObjects closeChannel = []
 bodyObjects (receiveData n) = flagged 0x37 (n ∷ []) ∷ []
 bodyObjects (sendData s) = flagged 0x36 s ∷ []
-bodyObjects channelStatus = []
-bodyObjects (other t) = []
 
 -- 01, 02, and the objects of the values
 unfoldable pub commandObjects : Command → List Object
@@ -96,17 +92,20 @@ rising n [] = true
 rising n (s ∷ ss) = ltb n (s .number .0) && leb (s .number .0) 7 && rising (s .number .0) ss
 
 -- the types whose result nothing follows
-abbrev pub bare : List ℕ
-bare = 0x02 ∷ 0x05 ∷ 0x41 ∷ []
+abbrev pub unfollowed : List ℕ
+unfollowed = 0x02 ∷ 0x05 ∷ 0x41 ∷ []
+
+unfoldable pub reportProper : ℕ → Report → Bool
+reportProper t (statuses ss) = eqb t 0x44 && rising 0 ss
 
 -- what follows is that of the type: data up to 237, grant 1 to 1500, counts up to FF
 unfoldable pub furtherProper : ℕ → Further → Bool
-furtherProper t nothing = member t bare
+furtherProper t nothing = member t unfollowed
 furtherProper t (opened s b g) =
     eqb t 0x40 && rising 0 (s ∷ []) && not (isDropped (s .link)) && bearerProper b && leb 1 g && leb g 1500
 furtherProper t (received s left) = eqb t 0x42 && leb (length s) 237 && leb left 255
 furtherProper t (sent room) = eqb t 0x43 && leb room 255
-furtherProper t (statuses ss) = eqb t 0x44 && rising 0 ss
+furtherProper t (reports r) = reportProper t r
 
 unfoldable pub resultProper : Details → Result → Bool
 resultProper d (error e) = errorProper d e
@@ -141,7 +140,7 @@ furtherIn t os =
     eqb t 0x40 ⇒ opened (statusIn (valueAt os 0)) (bearerIn (valueAt os 1)) (pairIn (valueAt os 2)) else
     eqb t 0x42 ⇒ received (valueAt os 0) (getD (valueAt os 1) 0 0) else
     eqb t 0x43 ⇒ sent (getD (valueAt os 0) 0 0) else
-    eqb t 0x44 ⇒ statuses (statusesIn os) else
+    eqb t 0x44 ⇒ reports (statuses (statusesIn os)) else
     nothing
 
 -- what the result's bytes and the objects after it say

@@ -52,10 +52,17 @@ meantBy a (asked c ignored) =
     let r = own a c (c .body) ignored in
     record { state = r .state; response = record { details = detailsOf c; result = r .result } }
 
--- the command call, with a buffer of so many bytes
-unfoldable pub command : State → ℕ → List ℕ → Answer
-command a buffer s =
+-- what a command call is given beside the card's bytes: the length of the lent buffer
+pub record Terms : Type 0 where
+  pub buffer : ℕ
+
+abbrev pub lending : ℕ → Terms
+lending n = record { buffer = n }
+
+-- the command call
+unfoldable pub command : State → Terms → List ℕ → Answer
+command a terms s =
     let m = meantBy a (reading (a .profile) s) in
-    ltb buffer 255 ⇒ refusal a ShortBuffer else
+    ltb (terms .buffer) 255 ⇒ refusal a ShortBuffer else
     isEmpty s || ltb 256 (length s) ⇒ refusal a CommandSize else
     answered (m .state) (responseBytes (m .response))

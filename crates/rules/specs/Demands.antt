@@ -14,12 +14,12 @@ use Rattle.rules.specs.declared.Way.the-variants.{Receive, Send}
 use Rattle.rules.specs.Words.{channelOf}
 use Rattle.rules.specs.State.{State, Chan, chan, isOpen, isStream, held}
 use Rattle.rules.specs.Pool.{cellCount, cells}
-use Rattle.rules.specs.Reading.{Body, Command, asked, reading, moreTime, eventList, openChannel, closeChannel, receiveData, sendData, channelStatus, other}
-use Rattle.rules.specs.Own.{Result, nothing, opened, received, sent, statuses, error, problem, done, capped}
+use Rattle.rules.specs.Reading.{Body, Command, asked, reading, bare, eventList, openChannel, closeChannel, receiveData, sendData}
+use Rattle.rules.specs.Own.{Result, nothing, opened, received, sent, reports, error, problem, done, capped}
 use Rattle.rules.specs.Written.{unflagged, statusObject, eventBytes}
-use Rattle.rules.specs.Command.{Outcome, wrote, refused}
+use Rattle.rules.specs.Command.{Outcome, wrote, refused, Terms}
 use Rattle.rules.specs.Bench.{Told, told, untold, benchRead}
-use Rattle.rules.specs.Run.{Call, starting, commanding, arriving, takingOut, droppingLink, step, after}
+use Rattle.rules.specs.Run.{Call, starting, commanding, radio, step, after}
 use Rattle.rules.specs.State as state
 use Rattle.rules.specs.History.{Exchange, History, side, heldBy, history, seenFrom, commandSeen, sameNumber, datagramsBy, buildingBy, placesBy}
 use Rattle.rules.specs.Datagrams.{placeCount, pieces, bytesOf}
@@ -55,10 +55,8 @@ Follows n a h = Tells (chan a n) h
 -- the profile of the latest start
 unfoldable pub begun : List ℕ → Call → List ℕ
 begun p (starting q) = q
-begun p (commanding buffer s) = p
-begun p (arriving buffer n s) = p
-begun p (takingOut buffer n) = p
-begun p (droppingLink buffer n) = p
+begun p (commanding terms s) = p
+begun p (radio buffer n act) = p
 
 unfoldable pub latest : List ℕ → List Call → List ℕ
 latest p [] = p
@@ -79,8 +77,8 @@ heard (wrote t) = resultTold (benchRead t)
 heard (refused r) = none
 
 -- what the bench hears in the answer to a command behind these calls
-abbrev pub answerTo : List ℕ → List Call → ℕ → List ℕ → Option Result
-answerTo p cs buffer s = heard (step (reached p cs) (commanding buffer s) .outcome)
+abbrev pub answerTo : List ℕ → List Call → Terms → List ℕ → Option Result
+answerTo p cs terms s = heard (step (reached p cs) (commanding terms s) .outcome)
 
 -- a command was done
 unfoldable pub isDone : Result → Bool
@@ -94,22 +92,18 @@ heardDone (some r) = isDone r
 
 -- the events that are listed once a command is done: SET UP EVENT LIST replaces the list
 unfoldable pub listsIn : Events → Body → Events
-listsIn e moreTime = e
+listsIn e (bare t) = e
 listsIn e (eventList es) = record { available = member 0x09 es; status = member 0x0A es }
 listsIn e (openChannel b size t) = e
 listsIn e closeChannel = e
 listsIn e (receiveData n) = e
 listsIn e (sendData s) = e
-listsIn e channelStatus = e
-listsIn e (other t) = e
 
 -- and after a call, by how it ended: a start lists none
 unfoldable pub listsAfter : Events → Call → Outcome → Events
 listsAfter e (starting p) o = record { available = false; status = false }
-listsAfter e (commanding buffer s) o = heardDone (heard o) ⇒ listsIn e (commandSeen s .body) else e
-listsAfter e (arriving buffer n s) o = e
-listsAfter e (takingOut buffer n) o = e
-listsAfter e (droppingLink buffer n) o = e
+listsAfter e (commanding terms s) o = heardDone (heard o) ⇒ listsIn e (commandSeen s .body) else e
+listsAfter e (radio buffer n act) o = e
 
 unfoldable pub listsFrom : Events → List Exchange → Events
 listsFrom e [] = e
@@ -130,8 +124,8 @@ crowdedBy h Receive s = not (isStream (h .carries)) && not (isEmpty s) && leb pl
 crowdedBy h Send s = not (isStream (h .carries)) && not (isEmpty s) && isEmpty (buildingBy h) && leb placeCount (placesBy h Send)
 
 -- a command passed steps 1 to 8: the buffer and the bytes have their sizes, and with that profile the bytes are read as the command c
-pub record Passed (p : List ℕ) (buffer : ℕ) (s : List ℕ) (c : Command) (ignored : Bool) : Type 0 where
-  pub roomy : 255 ≤ buffer
+pub record Passed (p : List ℕ) (terms : Terms) (s : List ℕ) (c : Command) (ignored : Bool) : Type 0 where
+  pub roomy : 255 ≤ terms .buffer
   pub few : length s ≤ 256
   pub read : reading p s ≡ asked c ignored
 
@@ -171,12 +165,10 @@ opensNumber n (some (done x nothing)) = false
 opensNumber n (some (done x (opened s b g))) = sameNumber n (s .number)
 opensNumber n (some (done x (received d left))) = false
 opensNumber n (some (done x (sent room))) = false
-opensNumber n (some (done x (statuses ss))) = false
+opensNumber n (some (done x (reports r))) = false
 
 -- a call may change the channel n: a start, a call of that number, a command to it, and one whose answer opens it
 unfoldable pub touches : ChannelNumber → Call → Outcome → Bool
 touches n (starting p) o = true
-touches n (commanding buffer s) o = sameNumber n (channelOf (commandSeen s .destination)) || opensNumber n (heard o)
-touches n (arriving buffer m s) o = sameNumber n m
-touches n (takingOut buffer m) o = sameNumber n m
-touches n (droppingLink buffer m) o = sameNumber n m
+touches n (commanding terms s) o = sameNumber n (channelOf (commandSeen s .destination)) || opensNumber n (heard o)
+touches n (radio buffer m act) o = sameNumber n m

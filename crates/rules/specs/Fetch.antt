@@ -12,7 +12,7 @@ use Rattle.rules.specs.Checks.{_⇒_else_, isEmpty, same}
 use Rattle.rules.specs.Words.{numberOf}
 use Rattle.rules.specs.Frames.{LengthRead, len, noLength, longLength, lengthAt, framed}
 use Rattle.rules.specs.State.{State}
-use Rattle.rules.specs.Command.{Outcome, wrote, refused, Answer, answered, refusal, command}
+use Rattle.rules.specs.Command.{Outcome, wrote, refused, Answer, answered, refusal, Terms, command}
 
 -- of a length nothing came, or 81 alone
 unfoldable pub lengthToCome : List ℕ → Bool
@@ -84,14 +84,14 @@ pub data Taken : Type 0 where
   ends : Answer → Taken
 
 -- a whole frame, and what can never be one, goes to the command call
-unfoldable pub takenAt : State → ℕ → List ℕ → Stage → Taken
-takenAt a buffer s (Lacks n) = gathers s
-takenAt a buffer s Overlong = ends (refusal a CommandSize)
-takenAt a buffer s Decided = ends (command a buffer s)
+unfoldable pub takenAt : State → Terms → List ℕ → Stage → Taken
+takenAt a terms s (Lacks n) = gathers s
+takenAt a terms s Overlong = ends (refusal a CommandSize)
+takenAt a terms s Decided = ends (command a terms s)
 
 -- one byte more
-unfoldable pub oneMore : State → ℕ → List ℕ → ℕ → Taken
-oneMore a buffer g b = let s = g ++ b ∷ [] in takenAt a buffer s (stage s)
+unfoldable pub oneMore : State → Terms → List ℕ → ℕ → Taken
+oneMore a terms g b = let s = g ++ b ∷ [] in takenAt a terms s (stage s)
 
 -- how a burst ends: the answer, what is gathered behind it, and the bytes that are left to the caller
 pub record Fetched : Type 0 where
@@ -105,19 +105,19 @@ goesOn (gathers g) s next = next g
 goesOn (ends x) s next = record { answer = x; gathered = []; left = s }
 
 -- a burst: byte after byte until the first answer; where there is none nothing is written
-unfoldable pub burst : State → ℕ → List ℕ → List ℕ → Fetched
-burst a buffer g [] = record { answer = answered a []; gathered = g; left = [] }
-burst a buffer g (b ∷ s) = goesOn (oneMore a buffer g b) s (λ (h : List ℕ). burst a buffer h s)
+unfoldable pub burst : State → Terms → List ℕ → List ℕ → Fetched
+burst a terms g [] = record { answer = answered a []; gathered = g; left = [] }
+burst a terms g (b ∷ s) = goesOn (oneMore a terms g b) s (λ (h : List ℕ). burst a terms h s)
 
 -- the fetch call; with R1 the burst is not taken
-unfoldable pub fetch : State → ℕ → List ℕ → List ℕ → Fetched
-fetch a buffer g s =
-    ltb buffer 255 ⇒ record { answer = refusal a ShortBuffer; gathered = g; left = s } else
-    burst a buffer g s
+unfoldable pub fetch : State → Terms → List ℕ → List ℕ → Fetched
+fetch a terms g s =
+    ltb (terms .buffer) 255 ⇒ record { answer = refusal a ShortBuffer; gathered = g; left = s } else
+    burst a terms g s
 
--- a turn of the host: the length of the buffer that it lends, and how many of the bytes not yet taken it hands in
+-- a turn of the host: the terms of its burst, and how many of the bytes not yet taken it hands in
 pub record Turn : Type 0 where
-  pub buffer : ℕ
+  pub terms : Terms
   pub count : ℕ
 
 -- what turns come to: the state, what is gathered, the answers and refusals in order, and the bytes not yet taken
@@ -137,6 +137,6 @@ tellings (refused r) = eqb (numberOf r) 1 ⇒ [] else refused r ∷ []
 unfoldable pub turned : State → List ℕ → List ℕ → List Turn → Turned
 turned a g s [] = record { state = a; gathered = g; told = []; rest = s }
 turned a g s (u ∷ us) =
-    let f = fetch a (u .buffer) g (take (u .count) s) in
+    let f = fetch a (u .terms) g (take (u .count) s) in
     let r = turned (f .answer .state) (f .gathered) (f .left ++ drop (u .count) s) us in
     record { state = r .state; gathered = r .gathered; told = tellings (f .answer .outcome) ++ r .told; rest = r .rest }

@@ -17,11 +17,12 @@ use Rattle.rules.specs.Frames.{walk, contents}
 use Rattle.rules.specs.Table.{rowOf, sift, valueOf}
 use Rattle.rules.specs.Datagrams.{behind, joinedBy}
 use Rattle.rules.specs.State.{State, establish, isStream}
-use Rattle.rules.specs.Reading.{Body, Command, moreTime, eventList, openChannel, closeChannel, receiveData, sendData, channelStatus, other, kindOf, detailsIn, commandIn}
-use Rattle.rules.specs.Own.{Result, nothing, opened, received, sent, statuses, error, problem, done, bit1, protocolOf, carriedBy}
+use Rattle.rules.specs.Reading.{Body, Command, bare, eventList, openChannel, closeChannel, receiveData, sendData, detailsIn, commandIn}
+use Rattle.rules.specs.Own.{Result, nothing, opened, received, sent, reports, error, problem, done, bit1, protocolOf, carriedBy}
 use Rattle.rules.specs.Command.{Outcome, wrote, refused}
 use Rattle.rules.specs.Bench.{Told, told, untold, benchRead}
-use Rattle.rules.specs.Run.{Call, starting, commanding, arriving, takingOut, droppingLink, step}
+use Rattle.rules.specs.Radio.{RadioAct, arrives, takes, drops}
+use Rattle.rules.specs.Run.{Call, starting, commanding, radio, step}
 
 -- a call and how it ended
 pub record Exchange : Type 0 where
@@ -107,29 +108,30 @@ commandSeen s =
 
 -- the data of a SEND DATA
 unfoldable pub dataOf : Body → List ℕ
-dataOf moreTime = []
+dataOf (bare t) = []
 dataOf (eventList es) = []
 dataOf (openChannel b size t) = []
 dataOf closeChannel = []
 dataOf (receiveData n) = []
 dataOf (sendData s) = s
-dataOf channelStatus = []
-dataOf (other t) = []
 
 -- what the channel that an OPEN CHANNEL opens is for
 unfoldable pub carriedIn : Body → Carries
-carriedIn moreTime = Stream
+carriedIn (bare t) = Stream
 carriedIn (eventList es) = Stream
 carriedIn (openChannel b size t) = carriedBy (protocolOf t)
 carriedIn closeChannel = Stream
 carriedIn (receiveData n) = Stream
 carriedIn (sendData s) = Stream
-carriedIn channelStatus = Stream
-carriedIn (other t) = Stream
 
 -- whether a command closes its channel
 unfoldable pub closes : Body → Bool
-closes b = eqb (kindOf b) 0x41
+closes (bare t) = false
+closes (eventList es) = false
+closes (openChannel b size t) = false
+closes closeChannel = true
+closes (receiveData n) = false
+closes (sendData s) = false
 
 -- the two numbers are the same
 abbrev pub sameNumber : ChannelNumber → ChannelNumber → Bool
@@ -143,7 +145,7 @@ answerTells n h c (done x (sent room)) =
     let k = acceptedIn h Send (dataOf (c .body)) in
     sameNumber n (channelOf (c .destination)) ⇒ (bit1 (c .qualifier) ⇒ readiedIn k else k) else h
 answerTells n h c (done x nothing) = closes (c .body) ⇒ (sameNumber n (channelOf (c .destination)) ⇒ ended else h) else h
-answerTells n h c (done x (statuses ss)) = h
+answerTells n h c (done x (reports r)) = h
 answerTells n h c (error e) = h
 answerTells n h c (problem cause) = h
 
@@ -152,17 +154,19 @@ unfoldable pub heardTells : ChannelNumber → History → Command → Told → H
 heardTells n h c (told r) = answerTells n h c (r .result)
 heardTells n h c (untold r) = h
 
+-- what the radio did tells of its channel: bytes that came are one piece, those taken are handed out
+unfoldable pub radioTells : History → RadioAct → List ℕ → History
+radioTells h (arrives s) t = wholeIn (acceptedIn h Receive s) Receive s
+radioTells h takes t = outIn h Send t
+radioTells h drops t = droppedIn h
+
 -- what a call and how it ended tell of the channel n; a refusal tells nothing
 unfoldable pub tells : ChannelNumber → History → Call → Outcome → History
 tells n h (starting p) o = ended
-tells n h (commanding buffer s) (wrote t) = heardTells n h (commandSeen s) (benchRead t)
-tells n h (arriving buffer m s) (wrote t) = sameNumber n m ⇒ wholeIn (acceptedIn h Receive s) Receive s else h
-tells n h (takingOut buffer m) (wrote t) = sameNumber n m ⇒ outIn h Send t else h
-tells n h (droppingLink buffer m) (wrote t) = sameNumber n m ⇒ droppedIn h else h
-tells n h (commanding buffer s) (refused r) = h
-tells n h (arriving buffer m s) (refused r) = h
-tells n h (takingOut buffer m) (refused r) = h
-tells n h (droppingLink buffer m) (refused r) = h
+tells n h (commanding terms s) (wrote t) = heardTells n h (commandSeen s) (benchRead t)
+tells n h (commanding terms s) (refused r) = h
+tells n h (radio buffer m act) (wrote t) = sameNumber n m ⇒ radioTells h act t else h
+tells n h (radio buffer m act) (refused r) = h
 
 -- the history of the channel n after a list of exchanges
 unfoldable pub historyFrom : ChannelNumber → History → List Exchange → History

@@ -11,7 +11,7 @@ use Rattle.rules.specs.Checks.{_⇒_else_}
 use Rattle.rules.specs.Words.{numberOf}
 use Rattle.rules.specs.State.{State, start}
 use Rattle.rules.specs.Reading.{pairIn}
-use Rattle.rules.specs.Command.{Outcome, wrote, refused}
+use Rattle.rules.specs.Command.{Outcome, wrote, refused, lending}
 use Rattle.rules.specs.Run.{Call, commanding, arriving, takingOut, droppingLink, step}
 
 -- a hexadecimal digit in either case
@@ -47,7 +47,7 @@ callOf s =
     let first = getD s 0 0 in
     let n : ChannelNumber = record { 0 = getD s 1 0 } in
     let count = pairIn (drop 2 s) in
-    eqb first 0xD0 ⇒ some (commanding 255 s) else
+    eqb first 0xD0 ⇒ some (commanding (lending 255) s) else
     eqb first 0xA0 && leb 2 (length s) ⇒ some (arriving 16 n (drop 2 s)) else
     eqb first 0xA1 && eqb (length s) 4 && leb count 1500 ⇒ some (takingOut count n) else
     eqb first 0xA2 && eqb (length s) 2 ⇒ some (droppingLink 16 n) else

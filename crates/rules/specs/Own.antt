@@ -17,12 +17,16 @@ use Rattle.rules.specs.Words.{channelOf}
 use Rattle.rules.specs.Profile.{allowsEvent, allowsBearer, channels}
 use Rattle.rules.specs.State.{State, Chan, closed, isDropped, isOpen, chan, withChan, held, room, atOnce, fresh, appended, removed, readied, crowded}
 use Rattle.rules.specs.Pool.{unpromised, grantFor}
-use Rattle.rules.specs.Reading.{Bearer, Transport, Body, Command, moreTime, eventList, openChannel, closeChannel, receiveData, sendData, channelStatus, other}
+use Rattle.rules.specs.Reading.{Bearer, Transport, Body, Command, bare, eventList, openChannel, closeChannel, receiveData, sendData}
 
 -- a channel's number and its link, as a status tells them
 pub record Status : Type 0 where
   pub number : ChannelNumber
   pub link : Link
+
+-- what is told and changes nothing
+pub data Report : Type 0 where
+  statuses : List Status → Report
 
 -- what follows a result 00, 01, 02 or 07
 pub data Further : Type 0 where
@@ -30,7 +34,7 @@ pub data Further : Type 0 where
   opened : Status → Bearer → ℕ → Further
   received : List ℕ → ℕ → Further
   sent : ℕ → Further
-  statuses : List Status → Further
+  reports : Report → Further
 
 -- a result: an error 30, 31, 32 or 36; a problem, 3A, with its cause; or done, with what follows
 pub data Result : Type 0 where
@@ -142,13 +146,21 @@ statusesFrom n (c ∷ cs) =
     let rest = statusesFrom (n + 1) cs in
     isOpen c ⇒ record { number = record { 0 = n }; link = c .link } ∷ rest else rest
 
+-- the types that change nothing and have no values
+abbrev pub bareTypes : List ℕ
+bareTypes = 0x02 ∷ 0x44 ∷ []
+
+-- 44 tells the statuses, 02 tells nothing
+unfoldable pub telling : State → ℕ → Bool → Result
+telling a t ignored =
+    eqb t 0x44 ⇒ done (plain ignored) (reports (statuses (statusesFrom 1 (a .chans)))) else
+    done (plain ignored) nothing
+
 -- the own checks and the change of state, a line for each command
 unfoldable pub own : State → Command → Body → Bool → Reply
-own a c moreTime ignored = reply a (done (plain ignored) nothing)
+own a c (bare t) ignored = reply a (telling a t ignored)
 own a c (eventList es) ignored = listing a es ignored
 own a c (openChannel b size t) ignored = opening a (c .qualifier) b size (protocolOf t) ignored
 own a c closeChannel ignored = closing a (channelOf (c .destination)) ignored
 own a c (receiveData n) ignored = receiving a (channelOf (c .destination)) n ignored
 own a c (sendData s) ignored = sending a (c .qualifier) (channelOf (c .destination)) s ignored
-own a c channelStatus ignored = reply a (done (plain ignored) (statuses (statusesFrom 1 (a .chans))))
-own a c (other t) ignored = reply a (error 0x31)

@@ -63,3 +63,15 @@ dropping a buffer n =
     not (isOpen c) ⇒ refusal a Unopened else
     not (isEstablished (c .link)) ⇒ refusal a Unlinked else
     answered (withChan a n (dropped c)) (dropEvent a n)
+
+-- what the radio does with a channel
+pub data RadioAct : Type 0 where
+  arrives : List ℕ → RadioAct
+  takes : RadioAct
+  drops : RadioAct
+
+-- with a buffer of so many bytes
+abbrev pub radioCall : State → ℕ → ChannelNumber → RadioAct → Answer
+radioCall a buffer n (arrives s) = arrival a buffer n s
+radioCall a buffer n takes = taking a buffer n
+radioCall a buffer n drops = dropping a buffer n

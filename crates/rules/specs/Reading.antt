@@ -24,16 +24,14 @@ pub record Transport : Type 0 where
   pub protocol : ℕ
   pub port : ℕ
 
--- the values that a type has
+-- the values that a type has; one that changes nothing has none, and is told by its number
 pub data Body : Type 0 where
-  moreTime : Body
+  bare : ℕ → Body
   eventList : List ℕ → Body
   openChannel : Bearer → ℕ → Option Transport → Body
   closeChannel : Body
   receiveData : ℕ → Body
   sendData : List ℕ → Body
-  channelStatus : Body
-  other : ℕ → Body
 
 -- a command with its values
 pub record Command : Type 0 where
@@ -45,14 +43,12 @@ pub record Command : Type 0 where
 
 -- the type that has these values
 unfoldable pub kindOf : Body → ℕ
-kindOf moreTime = 0x02
+kindOf (bare t) = t
 kindOf (eventList es) = 0x05
 kindOf (openChannel b s t) = 0x40
 kindOf closeChannel = 0x41
 kindOf (receiveData n) = 0x42
 kindOf (sendData s) = 0x43
-kindOf channelStatus = 0x44
-kindOf (other t) = t
 
 -- the details of a command: number, type, qualifier
 unfoldable pub detailsOf : Command → Details
@@ -80,7 +76,6 @@ transportIn v = record { protocol = getD v 0 0; port = pairIn (drop 1 v) }
 unfoldable pub bodyIn : Details → List Object → Body
 bodyIn d os =
     let t = d .kind in
-    eqb t 0x02 ⇒ moreTime else
     eqb t 0x05 ⇒ eventList (valueOf 0x19 os) else
     eqb t 0x40 ⇒
     openChannel (bearerIn (valueOf 0x35 os)) (pairIn (valueOf 0x39 os))
@@ -88,8 +83,7 @@ bodyIn d os =
     eqb t 0x41 ⇒ closeChannel else
     eqb t 0x42 ⇒ receiveData (getD (valueOf 0x37 os) 0 0) else
     eqb t 0x43 ⇒ sendData (valueOf 0x36 os) else
-    eqb t 0x44 ⇒ channelStatus else
-    other t
+    bare t
 
 -- the command with these details among the objects that count
 unfoldable pub commandIn : Details → List Object → Command

@@ -3,24 +3,30 @@ use Prim.Native.Nat.{ℕ}
 use mathlib.Core.List.{List, [], _∷_}
 use Rattle.rules.specs.declared.ChannelNumber.{ChannelNumber}
 use Rattle.rules.specs.State.{State, start}
-use Rattle.rules.specs.Command.{Outcome, Answer, answered, command}
-use Rattle.rules.specs.Radio.{arrival, taking, dropping}
+use Rattle.rules.specs.Command.{Outcome, Answer, answered, Terms, command}
+use Rattle.rules.specs.Radio.{RadioAct, arrives, takes, drops, radioCall}
 
--- a call, with the length of the buffer that it is lent
+-- a call: a start with a profile, a command on its terms, or what the radio does with a channel over a buffer of so many bytes
 pub data Call : Type 0 where
   starting : List ℕ → Call
-  commanding : ℕ → List ℕ → Call
-  arriving : ℕ → ChannelNumber → List ℕ → Call
-  takingOut : ℕ → ChannelNumber → Call
-  droppingLink : ℕ → ChannelNumber → Call
+  commanding : Terms → List ℕ → Call
+  radio : ℕ → ChannelNumber → RadioAct → Call
+
+-- the radio's calls, each by its name
+abbrev pub arriving : ℕ → ChannelNumber → List ℕ → Call
+arriving buffer n s = radio buffer n (arrives s)
+
+abbrev pub takingOut : ℕ → ChannelNumber → Call
+takingOut buffer n = radio buffer n takes
+
+abbrev pub droppingLink : ℕ → ChannelNumber → Call
+droppingLink buffer n = radio buffer n drops
 
 -- one step; starting anew is a card reset
 unfoldable pub step : State → Call → Answer
 step a (starting p) = answered (start p) []
-step a (commanding buffer s) = command a buffer s
-step a (arriving buffer n s) = arrival a buffer n s
-step a (takingOut buffer n) = taking a buffer n
-step a (droppingLink buffer n) = dropping a buffer n
+step a (commanding terms s) = command a terms s
+step a (radio buffer n act) = radioCall a buffer n act
 
 -- the state after a list of calls
 unfoldable pub after : State → List Call → State

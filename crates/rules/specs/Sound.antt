@@ -11,7 +11,8 @@ use Rattle.rules.specs.Profile.{profileSize}
 use Rattle.rules.specs.Datagrams.{placeCount, total}
 use Rattle.rules.specs.Pool.{cellCount, grantCap, promised}
 use Rattle.rules.specs.Command.{Outcome, wrote, refused}
-use Rattle.rules.specs.Run.{Call, starting, commanding, arriving, takingOut, droppingLink}
+use Rattle.rules.specs.Radio.{RadioAct, arrives, takes, drops}
+use Rattle.rules.specs.Run.{Call, starting, commanding, radio}
 
 -- every element has the property
 abbrev pub Each : {A : Type 0} → (A → Type 0) → List A → Type 0
@@ -40,12 +41,15 @@ pub record Sound (a : State) : Type 0 where
   pub within : promised a ≤ cellCount
 
 -- the most bytes that a call writes: 255 for a response, 16 for an event, as many as are asked for by a take
+abbrev pub radioMost : ℕ → RadioAct → ℕ
+radioMost buffer (arrives s) = 16
+radioMost buffer takes = buffer
+radioMost buffer drops = 16
+
 abbrev pub most : Call → ℕ
 most (starting p) = 0
-most (commanding buffer s) = 255
-most (arriving buffer n s) = 16
-most (takingOut buffer n) = buffer
-most (droppingLink buffer n) = 16
+most (commanding terms s) = 255
+most (radio buffer n act) = radioMost buffer act
 
 -- an outcome of at most so many bytes
 abbrev pub Within : ℕ → Outcome → Type 0

@@ -9,7 +9,7 @@ use Rattle.rules.specs.declared.Link.{Link}
 use Rattle.rules.specs.declared.Link.the-variants.{NotYet, Established, Dropped}
 use Rattle.rules.specs.Frames.{Object, written, lengthBytes}
 use Rattle.rules.specs.Reading.{Bearer}
-use Rattle.rules.specs.Own.{Status, Further, Result, nothing, opened, received, sent, statuses, error, problem, done}
+use Rattle.rules.specs.Own.{Status, Report, Further, Result, statuses, nothing, opened, received, sent, reports, error, problem, done}
 
 -- an object with the flag set, and one with the flag clear
 abbrev pub flagged : ℕ → List ℕ → Object
@@ -42,6 +42,9 @@ unfoldable pub statusObjects : List Status → List Object
 statusObjects [] = unflagged 0x38 (0x00 ∷ 0x00 ∷ []) ∷ []
 statusObjects (s ∷ ss) = map (λ (t : Status). statusObject (t .number) (t .link)) (s ∷ ss)
 
+unfoldable pub reportObjects : Report → List Object
+reportObjects (statuses ss) = statusObjects ss
+
 -- what follows 00, 01, 02 or 07
 unfoldable pub furtherObjects : Further → List Object
 furtherObjects nothing = []
@@ -49,7 +52,7 @@ furtherObjects (opened s b g) =
     statusObject (s .number) (s .link) ∷ unflagged 0x35 (bearerBytes b) ∷ unflagged 0x39 (pairBytes g) ∷ []
 furtherObjects (received s left) = unflagged 0x36 s ∷ unflagged 0x37 (left ∷ []) ∷ []
 furtherObjects (sent room) = unflagged 0x37 (room ∷ []) ∷ []
-furtherObjects (statuses ss) = statusObjects ss
+furtherObjects (reports r) = reportObjects r
 
 -- the result's own bytes: 3A has its cause
 unfoldable pub resultBytes : Result → List ℕ

@@ -1,6 +1,9 @@
 // The words that the definitions and the code share.
 ghost use mathlib.Core.Path.{_≡_};
 ghost use Rattle.rules.specs.Words.{numberOf, identityOf, channelOf};
+ghost use Rattle.rules.specs.Checks.{member};
+ghost use Rattle.rules.specs.Table.{known};
+ghost use Rattle.rules.specs.Reading.{toModem, addressed};
 
 // Object 01 of a command: its number, its type and its qualifier. Every response echoes them.
 pub struct Details {
@@ -116,4 +119,50 @@ impl DeviceIdentity {
         let i = self.0 as u16;
         ChannelNumber(((i + 0xE0) % 256) as u8)
     }
+}
+
+// Whether a value stands in a list.
+pub fn lists(values: &[u8], value: u8) -> bool
+    ensures { λ r. ⌜ r ≡ member value (now (values .entry)) ⌝ }
+{
+    let mut i: usize = 0;
+    while i < values.len() {
+        if value == values[i] {
+            return true;
+        }
+        i += 1;
+    }
+    false
+}
+
+// Whether a type is one of the table.
+pub fn is_known(kind: u8) -> bool
+    ensures { λ r. ⌜ r ≡ known kind ⌝ }
+{
+    let table = [0x02u8, 0x05, 0x40, 0x41, 0x42, 0x43, 0x44];
+    lists(&table, kind)
+}
+
+// Whether a command of a type goes to the modem itself; the others go to a channel.
+fn to_modem(kind: u8) -> bool
+    ensures { λ r. ⌜ r ≡ toModem kind ⌝ }
+{
+    let types = [0x02u8, 0x05, 0x40, 0x44];
+    lists(&types, kind)
+}
+
+// Step 8: whether a command of a type comes from the card, 81, and goes to the modem, 82, or to a channel, 21 to 27.
+pub fn is_addressed(kind: u8, from: DeviceIdentity, to: DeviceIdentity) -> bool
+    ensures { λ r. ⌜ r ≡ addressed kind from to ⌝ }
+{
+    if from.0 != 0x81 {
+        return false;
+    }
+    if to_modem(kind) {
+        return to.0 == 0x82;
+    }
+    if to.0 < 0x21 {
+        return false;
+    }
+    to.0 <= 0x27
 }

@@ -4,7 +4,8 @@ use Prim.Native.Nat.{ℕ}
 use mathlib.Core.Path.{_≡_, refl, sym, ap, _∙_}
 use mathlib.Core.List.{List}
 use mathlib.Core.Option.{Option, none, some}
-use Rattle.rules.specs.Run.{Call, starting, commanding, arriving, takingOut, droppingLink}
+use Rattle.rules.specs.Radio.{arrives, takes, drops}
+use Rattle.rules.specs.Run.{Call, starting, commanding, radio}
 use Rattle.text.specs.declared.Spoken.{Spoken}
 use Rattle.text.specs.declared.Spoken.the-variants.{Command, Arrival, Take, Drop, Nothing}
 use Rattle.text.specs.Calls.{callSpoken}
@@ -21,9 +22,9 @@ use Rattle.text.proofs.gather.Reads as gather-reads
 -- a call as the code tells it, read back from the call
 spoken-in : Option Call → Spoken
 spoken-in (some (commanding k s)) = Command
-spoken-in (some (arriving k n s)) = Arrival n
-spoken-in (some (takingOut k n)) = Take n k
-spoken-in (some (droppingLink k n)) = Drop n
+spoken-in (some (radio k n (arrives s))) = Arrival n
+spoken-in (some (radio k n takes)) = Take n k
+spoken-in (some (radio k n drops)) = Drop n
 spoken-in (some (starting p)) = Nothing
 spoken-in none = Nothing
 

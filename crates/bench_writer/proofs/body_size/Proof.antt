@@ -54,13 +54,9 @@ body-size-spec =
     (λ c. search needs)
     (λ c. search needs)
     (λ c κs. let s : tie.Start = search in leb-true _ _ (rw (c .enum-told5 .given .1) at (s .pre)))
-    (λ c. search needs)
-    (λ c. search needs)
     (λ c. rw (c .enum-told .given .1))
     events
     opening
     (λ c. rw (c .enum-told3 .given .1))
     (λ c. rw (c .enum-told4 .given .1))
-    sent
-    (λ c. rw (c .enum-told6 .given .1))
-    (λ c. rw (c .enum-told7 .given .1)))
+    sent)

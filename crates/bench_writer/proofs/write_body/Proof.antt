@@ -82,8 +82,6 @@ write-body-spec =
     (λ c κs. search needs)
     (λ c. search needs)
     sent-room
-    (λ c. search needs)
-    (λ c. search needs)
     (λ c. let s : tie.Start = search in rw (c .enum-told .given .1) (unwritten _ _ (omega (arith, s .pre .0))))
     (λ c. search needs)
     events
@@ -93,6 +91,4 @@ write-body-spec =
     (λ c. search needs)
     request
     (λ c. search needs)
-    sent
-    (λ c. let s : tie.Start = search in rw (c .enum-told5 .given .1) (unwritten _ _ (omega (arith, s .pre .0))))
-    (λ c. let s : tie.Start = search in rw (c .enum-told6 .given .1) (unwritten _ _ (omega (arith, s .pre .0)))))
+    sent)

@@ -3,24 +3,22 @@
 use Prim.Native.Nat.{_-_}
 use native.Mathlib.Omega.{arith}
 use borrow.Author.Needs.{needs}
-use Rattle.command.proofs.Settling.{devices-within, own-behind, own-within, settle-wrong, size-within, transport-within, settle-asked}
+use Rattle.command.proofs.Settling.{devices-within, own-behind, own-within, settle-wrong, settle-asked}
 use Rattle.command.proofs.settle.Statement.{statement}
 use Rattle.command.proofs.settle.Tie as tie
 
 misaddressed : tie.Need-returns
-misaddressed c = let s : tie.Start = search in settle-wrong (s .pre) (c .before .devices-fit .ensures) (c .if1 .taken)
+misaddressed c = let s : tie.Start = search in settle-wrong (s .pre) (c .before .is-addressed .ensures) (c .if1 .taken)
 
-length-place : tie.Need-shared-slice-read-len
+length-place : tie.Need-shared-slice-read-len-3
 length-place c = let s : tie.Start = search in omega (arith, own-behind (s .pre), own-within (s .pre))
 
 settled : tie.Need-returns-2
 settled c =
-    let p : tie.After-protocol-at = search in
-    let z : tie.After-size-at = search in
     let e : tie.Else1 = search in
-    let f : tie.After-devices-fit = search in
+    let f : tie.After-is-addressed = search in
     let s : tie.Start = search in
-    settle-asked (s .pre) _ _ (z .size-at .ensures) (p .protocol-at .ensures) (f .devices-fit .ensures) (e .if1 .left)
+    settle-asked (s .pre) (f .is-addressed .ensures) (e .if1 .left)
 
 pub settle-spec : {M : Type 1} → statement M
 settle-spec =
@@ -37,7 +35,5 @@ settle-spec =
     length-place
     (λ c. let s : tie.Start = search in omega (arith, c .shared-slice-known4 .given (s .args .v .own - 1)))
     (λ c. search needs)
-    (λ c κs. let s : tie.Start = search in size-within (s .pre))
     (λ c. search needs)
-    (λ c κs. let s : tie.Start = search in λ o h. transport-within (s .pre) o (omega arith))
     settled)

@@ -2,20 +2,36 @@
 -- Assumes nothing.
 use mathlib.Core.Path.{refl}
 use native.Mathlib.Omega.{arith}
+use borrow.Author.Tests.{eqb-true}
 use Rattle.rules.specs.Checks.{some-of, member}
 use Rattle.rules.specs.Reading.{toModem}
 use Rattle.command.specs.declared.Handler.the-variants.{Close, Receive, Send}
-use Rattle.session.proofs.Facts.{good-table}
-use Rattle.modem.proofs.Obeying.{events-answers, open-answers, close-answers, receive-answers, send-answers, more-time-answers, status-answers, one-byte, bearer-ok, numbered}
+use Rattle.modem.proofs.Obeying.{bare-answers, events-answers, open-answers, close-answers, receive-answers, send-answers, one-byte, opens, numbered}
 use borrow.Author.Needs.{needs}
 use Rattle.modem.proofs.carry_out.Statement.{statement}
 use Rattle.modem.proofs.carry_out.Tie as tie
+
+-- the function's start, from the arm of OPEN CHANNEL
+abbrev start : tie.After-enum-told3 → tie.Start
+start c = c .before .before .before .before .before .before .before .before
+
+size-at-requires : tie.Need-size-at-requires
+size-at-requires c κs =
+    let e : tie.After-enum-told3 = search in
+    let s : tie.Start = search in
+    opens _ _ _ (s .args .q) (s .pre .0) (s .pre .1) (e .enum-told3 .given .1) .size-within
+
+protocol-at-requires : tie.Need-protocol-at-requires
+protocol-at-requires c κs =
+    let e : tie.After-enum-told3 = search in
+    let s : tie.Start = search in
+    opens _ _ _ (s .args .q) (s .pre .0) (s .pre .1) (e .enum-told3 .given .1) .protocol-within
 
 open-requires : tie.Need-open-requires
 open-requires c κs =
     let e : tie.After-enum-told3 = search in
     let s : tie.Start = search in
-    (s .pre .0, s .pre .2, bearer-ok _ _ _ (s .args .q) (s .pre .0) (s .pre .1) (e .enum-told3 .given .1))
+    (s .pre .0, s .pre .2, opens _ _ _ (s .args .q) (s .pre .0) (s .pre .1) (e .enum-told3 .given .1) .bearer)
 
 close-requires : tie.Need-close-requires
 unfolding toModem member some-of
@@ -23,7 +39,7 @@ close-requires c κs =
     let e : tie.After-enum-told4 = search in
     let n : tie.After-channel = search in
     let s : tie.Start = search in
-    (numbered _ _ _ (s .args .q) (s .pre .0) (s .pre .1) _ Close (n .channel .ensures) (e .enum-told4 .given .1) refl, s .pre .2)
+    (numbered _ _ _ (s .args .q) (s .pre .0) (s .pre .1) _ Close (n .channel .ensures) (e .enum-told4 .given .1) 0x41 (eqb-true _ 0x41) refl, s .pre .2)
 
 shared-slice-read-receive : tie.Need-shared-slice-read-receive
 shared-slice-read-receive c =
@@ -38,7 +54,7 @@ receive-requires c κs =
     let e : tie.After-enum-told5 = search in
     let n : tie.After-channel = search in
     let s : tie.Start = search in
-    (numbered _ _ _ (s .args .q) (s .pre .0) (s .pre .1) _ Receive (n .channel .ensures) (e .enum-told5 .given .1) refl, s .pre .2)
+    (numbered _ _ _ (s .args .q) (s .pre .0) (s .pre .1) _ Receive (n .channel .ensures) (e .enum-told5 .given .1) 0x42 (eqb-true _ 0x42) refl, s .pre .2)
 
 send-requires : tie.Need-send-requires
 unfolding toModem member some-of
@@ -46,20 +62,14 @@ send-requires c κs =
     let e : tie.After-enum-told6 = search in
     let n : tie.After-channel = search in
     let s : tie.Start = search in
-    (numbered _ _ _ (s .args .q) (s .pre .0) (s .pre .1) _ Send (n .channel .ensures) (e .enum-told6 .given .1) refl, s .pre .2)
-
-tell-statuses-requires : tie.Need-tell-statuses-requires
-tell-statuses-requires c κs =
-    let s : tie.Start = search in
-    (good-table _ _ (s .pre .0), omega (arith, s .pre .2))
+    (numbered _ _ _ (s .args .q) (s .pre .0) (s .pre .1) _ Send (n .channel .ensures) (e .enum-told6 .given .1) 0x43 (eqb-true _ 0x43) refl, s .pre .2)
 
 returns : tie.Need-returns
 returns c =
-    let r : tie.After-tell-result = search in
-    let m : tie.After-plain = search in
+    let r : tie.After-tell = search in
     let e : tie.After-enum-told = search in
     let s : tie.Start = search in
-    more-time-answers _ _ _ (s .args .q) (s .pre .0) (s .pre .1) _ _ _ _ (m .plain .ensures) (e .enum-told .given .1) (r .tell-result .ensures)
+    bare-answers _ _ _ (s .args .q) (s .pre .0) (s .pre .1) _ _ _ _ _ (e .enum-told .given .1) (r .tell .ensures)
 
 returns-2 : tie.Need-returns-2
 returns-2 c =
@@ -71,9 +81,11 @@ returns-2 c =
 returns-3 : tie.Need-returns-3
 returns-3 c =
     let r : tie.After-open = search in
+    let w : tie.After-protocol-at = search in
+    let z : tie.After-size-at = search in
     let e : tie.After-enum-told3 = search in
-    let s : tie.Start = search in
-    open-answers _ _ _ (s .args .q) (s .pre .0) (s .pre .1) _ _ _ _ _ (e .enum-told3 .given .1) (r .open .ensures)
+    let s = start e in
+    open-answers _ _ _ (s .args .q) (s .pre .0) (s .pre .1) _ _ _ _ _ (e .enum-told3 .given .1) (z .size-at .ensures) (w .protocol-at .ensures) (r .open .ensures)
 
 returns-4 : tie.Need-returns-4
 returns-4 c =
@@ -99,14 +111,6 @@ returns-6 c =
     let s : tie.Start = search in
     send-answers _ _ _ (s .args .q) (s .pre .0) (s .pre .1) _ _ _ _ _ _ (n .channel .ensures) (e .enum-told6 .given .1) (r .send .ensures)
 
-returns-7 : tie.Need-returns-7
-returns-7 c =
-    let r : tie.After-tell-statuses = search in
-    let m : tie.After-plain2 = search in
-    let e : tie.After-enum-told7 = search in
-    let s : tie.Start = search in
-    status-answers _ _ _ (s .args .q) (s .pre .0) (s .pre .1) _ _ _ _ (m .plain2 .ensures) (e .enum-told7 .given .1) (r .tell-statuses .ensures)
-
 pub carry-out-spec : {M : Type 1} → statement M
 carry-out-spec =
     tie.close
@@ -114,17 +118,18 @@ carry-out-spec =
     (λ c. search needs)
     (λ c κs. search needs)
     (λ c. search needs)
-    (λ c κs. search needs)
-    (λ c κs. search needs)
+    (λ c κs. search needs)  -- tell
     (λ c. search needs)
     (λ c. search needs)
     (λ c. search needs)
     (λ c. search needs)
-    (λ c κs. search needs)
+    (λ c κs. search needs)  -- list_events
     (λ c. search needs)
     (λ c. search needs)
     (λ c. search needs)
     (λ c. search needs)
+    size-at-requires
+    protocol-at-requires
     open-requires
     (λ c. search needs)
     close-requires
@@ -137,9 +142,6 @@ carry-out-spec =
     (λ c. search needs)
     send-requires
     (λ c. search needs)
-    (λ c κs. search needs)
-    tell-statuses-requires
-    (λ c. search needs)
     returns
     (λ c. search needs)
     returns-2
@@ -150,6 +152,4 @@ carry-out-spec =
     (λ c. search needs)
     returns-5
     (λ c. search needs)
-    returns-6
-    (λ c. search needs)
-    returns-7)
+    returns-6)

@@ -9,7 +9,7 @@ use denote.Ref.{now}
 use Rattle.rules.specs.Checks.{every}
 use Rattle.rules.specs.Profile.{allowsEvent}
 use borrow.Author.Tests.{not-true, not-false}
-use Rattle.own.proofs.Events.{every-at, every-end}
+use Rattle.rules.proofs.Values.{every-at, every-end}
 use Rattle.own.proofs.all_allowed.Statement.{statement}
 use Rattle.own.proofs.all_allowed.Tie as tie
 
