@@ -1,6 +1,7 @@
 pub mod Packing
 pub mod Lending
+pub mod Locals
+pub mod Passing
 pub mod Serving
-pub mod ByNumber
 pub mod Settled
 pub mod Tied
