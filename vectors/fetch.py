@@ -109,6 +109,30 @@ SHORT = [
     (H("D081FE"), "R2"), (H("D081FF"), "R2"),
 ]
 
+# Bursts with a buffer of so many bytes, which no line of the program makes: R1 takes nothing and leaves what was
+# gathered, before a wrong head and R2 too.
+TOO_SHORT = (0, 1, 254)
+BUFFERS = [
+    (MORE_TIME, 256, DONE + " 0"), (MORE_TIME, TOO_SHORT, "R1 11"), ("", TOO_SHORT, "R1 0"), ("D0", TOO_SHORT, "R1 1"),
+    ("AA", TOO_SHORT, "R1 1"), ("D081FE", TOO_SHORT, "R1 3"), ("00" * 300, TOO_SHORT, "R1 300"), ("", 255, "-- 0"),
+    (MORE_TIME[:8], 255, "-- 0"), (MORE_TIME[8:], TOO_SHORT, "R1 7"), ("", TOO_SHORT, "R1 0"),
+    (MORE_TIME[8:12], TOO_SHORT, "R1 2"), (MORE_TIME[8:12], 255, "-- 0"), (MORE_TIME[12:] + "AA", TOO_SHORT, "R1 6"),
+    (MORE_TIME[12:], 1500, DONE + " 0"),
+    ("D0", 255, "-- 0"), ("80", TOO_SHORT, "R1 1"), ("81", 255, "-- 0"), ("00AA", TOO_SHORT, "R1 2"),
+    ("FE", TOO_SHORT, "R1 1"), ("FEAA", 255, "R2 1"),
+    (hx(open_(100)), TOO_SHORT, "R1 18"), (hx(status()), 255, "..38020000 0"), (hx(open_(100)), 255, "..39020064 0"),
+    (hx(close(1)), TOO_SHORT, "R1 11"), (hx(status()), 255, "..38028100 0"),
+]
+
+# Whole inputs of the program, with all that it prints.
+FORBIDDEN = "8103010200" "82028281" "830130 0\n"
+INPUTS = [
+    ("", ""), (PROFILE_7 + "\n", ""), ("\n" + MORE_TIME, FORBIDDEN), ("0\n" + MORE_TIME + "\n", "R9\n" + FORBIDDEN),
+    (PROFILE_7 + "00" * 1587 + "\n" + MORE_TIME, DONE[1:] + " 0\n"),
+    (PROFILE_7 + "00" * 1588 + "\n" + MORE_TIME, "R9\n" + FORBIDDEN),
+    (PROFILE_7.lower() + "\nd081fE\nD0", "R2 0\n-- 0\n"), (PROFILE_7 + "\nD0\n\n", "-- 0\n-- 0\n"),
+]
+
 
 def as_wanted(got, want):
     """The answer as its short form says, the count behind it as it stands."""
@@ -408,6 +432,25 @@ def everything():
     return s
 
 
+def other_buffers():
+    """Holds bursts with other buffers to what is wanted."""
+    session, gathered = oracle.Session(H(PROFILE_7)), oracle.Gathered()
+    for burst, sizes, want in BUFFERS:
+        for size in sizes if sizes == TOO_SHORT else (sizes,):
+            answer, left = gathered.fetch(session, H(burst), size)
+            if not as_wanted("%s %d" % (oracle.printed(answer), left), want):
+                raise SystemExit("with a buffer of %d: %s\n got  %s %d\n want %s"
+                                 % (size, burst[:80], oracle.printed(answer), left, want))
+
+
+def whole_inputs():
+    """Holds whole inputs to what is wanted."""
+    for text, want in INPUTS:
+        got = oracle.run_fetch(text.encode("ascii")).decode("ascii")
+        if got != want:
+            raise SystemExit("input %r\n got  %r\n want %r" % (text[:80], got, want))
+
+
 def byte_by_byte(taken):
     """The answers that bytes get in bursts of one byte each, by a session of its own."""
     session, gathered = oracle.Session(H(PROFILE_7)), oracle.Gathered()
@@ -417,6 +460,8 @@ def byte_by_byte(taken):
 
 def main(root):
     """Writes both files, once the answers have stood their checks."""
+    other_buffers()
+    whole_inputs()
     s = everything()
     text = b"\n".join(s.lines)
     out = oracle.run_fetch(text)
