@@ -13,11 +13,11 @@ use Rattle.rules.specs.declared.Way.the-variants.{Send}
 use Rattle.rules.specs.Words.{numberOf, refusalOf}
 use Rattle.rules.specs.Pool.{grantCap}
 use Rattle.rules.specs.State.{State, chan, held, atOnce}
-use Rattle.rules.specs.Command.{Answer, Outcome, wrote, refused, endedOf}
+use Rattle.rules.specs.Command.{Answer, Outcome, wrote, refused, endedOf, Terms}
 use Rattle.rules.specs.Fetch as rules
 use Rattle.rules.specs.Fetch.{fetch}
-use Rattle.rules.specs.Radio.{taking}
-use Rattle.rules.specs.Run.{Call, starting, commanding, arriving, takingOut, droppingLink, step}
+use Rattle.rules.specs.Radio.{taking, arrives, takes, drops}
+use Rattle.rules.specs.Run.{Call, starting, commanding, step, radio}
 use Rattle.rules.specs.Sound.{Sound, Within}
 use Rattle.rules.proofs.Laws.{stop, skip}
 use Rattle.rules.proofs.Told.{refusal-back}
@@ -56,10 +56,10 @@ take-within a buffer n h =
 call-fits : (a : State) (c : Call) → Sound a → Fits (endedOf (step a c .outcome))
 unfolding step
 call-fits a (starting p) h = within-fits 0 _ (omega arith) (written-within a (starting p) h)
-call-fits a (commanding buffer s) h = within-fits 255 _ (omega arith) (written-within a (commanding buffer s) h)
-call-fits a (arriving buffer n s) h = within-fits 16 _ (omega arith) (written-within a (arriving buffer n s) h)
-call-fits a (takingOut buffer n) h = within-fits grantCap _ (omega arith) (take-within a buffer n h)
-call-fits a (droppingLink buffer n) h = within-fits 16 _ (omega arith) (written-within a (droppingLink buffer n) h)
+call-fits a (commanding terms s) h = within-fits 255 _ (omega arith) (written-within a (commanding terms s) h)
+call-fits a (radio buffer n (arrives s)) h = within-fits 16 _ (omega arith) (written-within a (radio buffer n (arrives s)) h)
+call-fits a (radio buffer n takes) h = within-fits grantCap _ (omega arith) (take-within a buffer n h)
+call-fits a (radio buffer n drops) h = within-fits 16 _ (omega arith) (written-within a (radio buffer n drops) h)
 
 module _ (a : State) (c : Call) (t p : List ℕ) (e : Ended) (before after : List ℕ) (h : Answers (step a c) t p e before after) where
   -- how the call ended can be packed
@@ -94,13 +94,13 @@ burst-many x told e h =
     let m : leftCap ≡ min (x .left) leftCap = omega (arith, h) in λ i. 0x100000000 * m i + e i
 
 -- how a burst ended can be packed
-pub fetch-fits : (a : State) (buffer : ℕ) (g s : List ℕ) → Sound a → Fits (endedOf (fetch a buffer g s .answer .outcome))
-fetch-fits a buffer g s sound = within-fits 255 _ (omega arith) (fetch-within a buffer g s sound)
+pub fetch-fits : (a : State) (terms : Terms) (g s : List ℕ) → Sound a → Fits (endedOf (fetch a terms g s .answer .outcome))
+fetch-fits a terms g s sound = within-fits 255 _ (omega arith) (fetch-within a terms g s sound)
 
 pub burst-fits :
-    (a : State) (buffer : ℕ) (g s : List ℕ) (t p r : List ℕ) (x : Fetched) (before after : List ℕ) → Sound a → Fetches (fetch a buffer g s) t p r x before after → Fits (x .ended)
-burst-fits a buffer g s t p r x before after sound h =
-    subst Fits (sym (h .leaves .answers .ended)) (fetch-fits a buffer g s sound)
+    (a : State) (terms : Terms) (g s : List ℕ) (t p r : List ℕ) (x : Fetched) (before after : List ℕ) → Sound a → Fetches (fetch a terms g s) t p r x before after → Fits (x .ended)
+burst-fits a terms g s t p r x before after sound h =
+    subst Fits (sym (h .leaves .answers .ended)) (fetch-fits a terms g s sound)
 
 -- and once it is packed, the burst is told
 pub burst-packs :

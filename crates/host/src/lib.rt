@@ -21,7 +21,7 @@ ghost use lib.ListN.{length};
 ghost use Rattle.rules.specs.Pool.{poolSize};
 ghost use Rattle.rules.specs.State.{start};
 ghost use Rattle.rules.specs.AtHand.{atHand};
-ghost use Rattle.rules.specs.Command.{command};
+ghost use Rattle.rules.specs.Command.{lending, command};
 ghost use Rattle.rules.specs.Fetch.{fetch};
 ghost use Rattle.rules.specs.Radio.{arrival, taking, dropping};
 ghost use Rattle.session.specs.Book.{ledgerSize};
@@ -76,7 +76,7 @@ fn command_packed(
     out: &mut [u8],
 ) -> u32
     requires { ⌜ GoodIn (now ledger) (now pool) ⌝ }
-    ensures { λ r. ⌜ Packs (command (shown (now (ledger .entry)) (now (pool .entry))) (length (now (out .entry))) (now (bytes .entry))) (now (ledger .exit)) (now (pool .exit)) r (now (out .entry)) (now (out .exit)) ⌝ }
+    ensures { λ r. ⌜ Packs (command (shown (now (ledger .entry)) (now (pool .entry))) (lending (length (now (out .entry)))) (now (bytes .entry))) (now (ledger .exit)) (now (pool .exit)) r (now (out .entry)) (now (out .exit)) ⌝ }
 {
     pack(command_in(ledger, pool, bytes, out))
 }
@@ -130,7 +130,7 @@ fn fetch_packed(
     out: &mut [u8],
 ) -> u64
     requires { ⌜ GoodIn (now ledger) (now pool) × Gathers (now gathered) ⌝ }
-    ensures { λ r. ⌜ PacksBurst (fetch (shown (now (ledger .entry)) (now (pool .entry))) (length (now (out .entry))) (gatheredIn (now (gathered .entry))) (now (bytes .entry))) (now (ledger .exit)) (now (pool .exit)) (now (gathered .exit)) r (now (out .entry)) (now (out .exit)) ⌝ }
+    ensures { λ r. ⌜ PacksBurst (fetch (shown (now (ledger .entry)) (now (pool .entry))) (lending (length (now (out .entry)))) (gatheredIn (now (gathered .entry))) (now (bytes .entry))) (now (ledger .exit)) (now (pool .exit)) (now (gathered .exit)) r (now (out .entry)) (now (out .exit)) ⌝ }
 {
     pack_burst(fetch_in(ledger, pool, gathered, bytes, out))
 }
@@ -147,7 +147,7 @@ pub extern "C" fn pomerassol_start(s: &mut Session, profile: &[u8])
 #[no_mangle]
 pub extern "C" fn pomerassol_command(s: &mut Session, bytes: &[u8], out: &mut [u8]) -> u32
     requires { ⌜ Good (now s) ⌝ }
-    ensures { λ r. ⌜ Hosts (command (view (now (s .entry))) (length (now (out .entry))) (now (bytes .entry))) (now (s .exit)) r (now (out .entry)) (now (out .exit)) ⌝ }
+    ensures { λ r. ⌜ Hosts (command (view (now (s .entry))) (lending (length (now (out .entry)))) (now (bytes .entry))) (now (s .exit)) r (now (out .entry)) (now (out .exit)) ⌝ }
 {
     command_packed(&mut s.ledger, &mut s.pool, bytes, out)
 }
@@ -209,7 +209,7 @@ pub extern "C" fn pomerassol_fetch(
     out: &mut [u8],
 ) -> u64
     requires { ⌜ Good (now s) × Gathers (now gathered) ⌝ }
-    ensures { λ r. ⌜ HostsBurst (fetch (view (now (s .entry))) (length (now (out .entry))) (gatheredIn (now (gathered .entry))) (now (bytes .entry))) (now (s .exit)) (now (gathered .exit)) r (now (out .entry)) (now (out .exit)) ⌝ }
+    ensures { λ r. ⌜ HostsBurst (fetch (view (now (s .entry))) (lending (length (now (out .entry)))) (gatheredIn (now (gathered .entry))) (now (bytes .entry))) (now (s .exit)) (now (gathered .exit)) r (now (out .entry)) (now (out .exit)) ⌝ }
 {
     fetch_packed(&mut s.ledger, &mut s.pool, gathered, bytes, out)
 }
