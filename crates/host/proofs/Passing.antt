@@ -58,6 +58,7 @@ valOf (reborrowed ℓ τ) p = vptr (p .0) (p .1)
 valOf (resliced ℓ τ) p = sliceVal (p .0) (p .1)
 
 -- ---- of a list
+-- what the machine values are made of
 abbrev pub Helds : List Pass → Type 0
 Helds [] = Unit {0}
 Helds (h ∷ hs) = Held h × Helds hs
@@ -183,7 +184,7 @@ module _ {M : Type 1} {𝓤 : URA M} {H : Heap 𝓤} {A : Atoms 𝓤} {K : Type 
   reads-operands t (resliced ℓ τ ∷ hs) xs bs cs i j ps ts rs us =
       and-then t (load t (from-at t (ts .1 .0) (stop t)) (us .1 .0)) (reads-operands t hs (xs .1) (bs .1) (cs .1 .1) (suc i) (suc (suc j)) (ps .1) (ts .1 .1) (rs .1) (us .1 .1))
 
--- a parameter of a signature of n lifetimes, that is passed on
+-- a parameter of a signature of n lifetimes, that is passed on: its machine value is told by its meaning, and has its type
 pub record Passed (n : ℕ) : Type 2 where
   pub slot : Slot n
   pub how : Pass
@@ -244,7 +245,8 @@ module _ {n : ℕ} where
     typed = λ 𝓤 H A W κs x is. LL.lawful D L 𝓤 H A W .typed x _ is .0;
   }
 
-  -- ---- a list of them: slots, ways, values
+  -- ---- a list of them
+  -- its slots, and how each is passed
   abbrev pub slots : List (Passed n) → List (Slot n)
   slots [] = []
   slots (p ∷ ps) = p .slot ∷ slots ps
@@ -254,23 +256,27 @@ module _ {n : ℕ} where
   hows (p ∷ ps) = p .how ∷ hows ps
 
   module _ (κs : Lfts n) where
+    -- what their machine values are made of
     abbrev pub helds : (ps : List (Passed n)) → Denots (typesAt (slots ps) κs) → Helds (hows ps)
     helds [] a = tt
     helds (p ∷ ps) a = (p .held κs (a .0), helds ps (a .1))
 
+    -- these values, as the signature's rows have them
     abbrev pub spells : (ps : List (Passed n)) → Spells (typesAt (slots ps) κs)
     spells [] = tt
     spells (p ∷ ps) = ((λ x. valOf (p .how) (p .held κs x) ∷ []), spells ps)
 
+    -- told by what the parameters mean
     pub tellss : (ps : List (Passed n)) → Tellss (typesAt (slots ps) κs) (Ises (typesAt (slots ps) κs)) (spells ps)
     tellss [] = tt
     tellss (p ∷ ps) = (p .tells κs, tellss ps)
 
-    -- their machine values in a row
+    -- in a row they are the values of the list
     pub in-a-row : (ps : List (Passed n)) (a : Denots (typesAt (slots ps) κs)) → vals (hows ps) (helds ps a) ≡ flat (typesAt (slots ps) κs) (valss (typesAt (slots ps) κs) (spells ps) a)
     in-a-row [] a = refl
     in-a-row (p ∷ ps) a = ap (λ (vs : List Val). valOf (p .how) (p .held κs (a .0)) ∷ vs) (in-a-row ps (a .1))
 
+    -- and have their types
     pub all-typed :
         {M : Type 1} (𝓤 : URA M) (H : Heap 𝓤) (A : Atoms 𝓤) (W : Given 𝓤 H A) (ps : List (Passed n)) (a : Denots (typesAt (slots ps) κs)) →
         Are (typesAt (slots ps) κs) (Ises (typesAt (slots ps) κs)) a (valss (typesAt (slots ps) κs) (spells ps) a) → Typed (tys (hows ps)) (vals (hows ps) (helds ps a))

@@ -51,17 +51,19 @@ use Rattle.host.proofs.Passing.{Pass, Helds, tys, vals, temps, tempVals
 abbrev as-left : {n : ℕ} (s : Slot n) (k : Kept) → Stay s k
 as-left s k = record { fit = λ κs x f. Unit {0}; has = λ κs x f vs. left (s .row κs .exit k) x f }
 
+-- and of a list of them
 abbrev stays-left : {n : ℕ} (ss : List (Slot n)) (ks : Kepts ss) → Stays ss ks
 stays-left [] ks = tt
 stays-left (s ∷ ss) ks = (as-left s (ks .0), stays-left ss (ks .1))
 
+-- the callee's end is theirs, and it asks for nothing
 go-left : {M : Type 1} (𝓤 : URA M) (H : Heap 𝓤) (A : Atoms 𝓤) (W : Given 𝓤 H A) (n : ℕ) (ss : List (Slot n)) (ks : Kepts ss) → AllGo 𝓤 H A W n ss ks (stays-left ss ks)
 go-left 𝓤 H A W n [] ks = tt
 go-left 𝓤 H A W n (s ∷ ss) ks = ((λ κs x f vs ok. W .laws .⇛-intro _), go-left 𝓤 H A W n ss (ks .1))
 
-fits-left : {n : ℕ} (κs : Lfts n) (ps : List (Passed n)) (a : Args (record { lifetimes = n; outlives = []; params = slots ps; result = plain (λ _. Nothing) }) κs) (ws : Fins κs (slots ps) (all yes (slots ps)) a) → fitsOf κs (slots ps) (all yes (slots ps)) (stays-left (slots ps) (all yes (slots ps))) a ws
+fits-left : {n : ℕ} (κs : Lfts n) (ss : List (Slot n)) (a : Denots (typesAt ss κs)) (ws : Fins κs ss (all yes ss) a) → fitsOf κs ss (all yes ss) (stays-left ss (all yes ss)) a ws
 fits-left κs [] a ws = tt
-fits-left κs (p ∷ ps) a ws = (tt, fits-left κs ps (a .1) (ws .1))
+fits-left κs (s ∷ ss) a ws = (tt, fits-left κs ss (a .1) (ws .1))
 
 -- ---- the call
 -- the record that is lent, and what goes to the callee and comes back beside it. R is the result's type
@@ -73,7 +75,7 @@ pub record Call {M : Type 1} (𝓤 : URA M) (R : RattleType) : Type 2 where
   pub γ : GName
   pub h : Session
   pub toks : Item 𝓤  -- the tokens of the further parameters, and what these own
-  pub Passed : Fml
+  pub Handed : Fml
   pub Ws : Type 0  -- their last values, and what is said of them
   pub Left : Ws → Fml
   pub Has : SProp 𝓤  -- what the function is told, what the callee asks for, and what it says at its end
@@ -81,49 +83,55 @@ pub record Call {M : Type 1} (𝓤 : URA M) (R : RattleType) : Type 2 where
   pub Ends : R .Denot → List ℕ → List ℕ → Ws → SProp 𝓤
 
 module _ {M : Type 1} (𝓤 : URA M) (H : Heap 𝓤) (A : Atoms 𝓤) (W : Given 𝓤 H A) (R : RattleType) (x : Call 𝓤 R) where
-  open Call x using (κ, q, b, o, γ, h, toks, Passed, Ws, Left, Has, Asked, Ends)
+  open Call x using (κ, q, b, o, γ, h, toks, Handed, Ws, Left, Has, Asked, Ends)
 
-  -- what the callee asks, and what it ends in, with the two arrays lent for the lifetimes ν and μ under the names δ and ε
+  -- what the callee asks, with the two arrays lent for the lifetimes ν and μ under the names δ and ε
   abbrev pub Asks : ℕ → ℕ → GName → GName → SProp 𝓤
   Asks ν μ δ ε =
       sep 𝓤
       (sep 𝓤 (sep 𝓤 (A .lft (ν ∷ []) fullShare) (sep 𝓤 (A .lft (μ ∷ []) fullShare) (mean 𝓤 H A toks)))
-      (sem 𝓤 H A (fsep (LentNumbers b o (ν ∷ []) δ (h .ledger)) (fsep (LentPool b o (μ ∷ []) ε (h .pool)) Passed))))
+      (sem 𝓤 H A (fsep (LentNumbers b o (ν ∷ []) δ (h .ledger)) (fsep (LentPool b o (μ ∷ []) ε (h .pool)) Handed))))
       Asked
 
+  -- the last values of what was lent and passed on
   abbrev Lasts : GName → GName → List ℕ × (List ℕ × Ws) → Fml
   Lasts δ ε ws = fsep (fres δ (Numbers .coded .code (ws .0))) (fsep (fres ε (Pool .coded .code (ws .1 .0))) (Left (ws .1 .1)))
 
+  -- what it gives where it returns w
   abbrev pub Gives : ℕ → ℕ → GName → GName → Val → SProp 𝓤
   Gives ν μ δ ε w =
       H .⇛ (ex 𝓤 (λ (r : R .Denot).
       sep 𝓤 (sep 𝓤 (sep 𝓤 (A .lft (ν ∷ []) fullShare) (sep 𝓤 (A .lft (μ ∷ []) fullShare) (mean 𝓤 H A toks))) (sem 𝓤 H A (R .own r (w ∷ []))))
       (ex 𝓤 (λ (ws : List ℕ × (List ℕ × Ws)). sep 𝓤 (sem 𝓤 H A (Lasts δ ε ws)) (Ends r (ws .0) (ws .1 .0) (ws .1 .1))))))
 
-  abbrev asked : ℕ → ℕ → GName → GName → List (Item 𝓤)
-  asked ν μ δ ε =
-      ‵ (flft (ν ∷ []) fullShare) ∷ ‵ (flft (μ ∷ []) fullShare) ∷ toks ∷ ‵ (LentNumbers b o (ν ∷ []) δ (h .ledger)) ∷ ‵ (LentPool b o (μ ∷ []) ε (h .pool)) ∷ ‵ Passed ∷ raw Asked ∷ []
+  -- the former, as the walk has it
+  abbrev Asking : ℕ → ℕ → GName → GName → List (Item 𝓤)
+  Asking ν μ δ ε =
+      ‵ (flft (ν ∷ []) fullShare) ∷ ‵ (flft (μ ∷ []) fullShare) ∷ toks ∷ ‵ (LentNumbers b o (ν ∷ []) δ (h .ledger)) ∷ ‵ (LentPool b o (μ ∷ []) ε (h .pool)) ∷ ‵ Handed ∷ raw Asked ∷ []
 
-  asks : (ν μ : ℕ) (δ ε : GName) → ent 𝓤 (⋆ 𝓤 H A (asked ν μ δ ε)) (Asks ν μ δ ε)
-  asks ν μ δ ε = qed W (asked ν μ δ ε) ∵ group ! 3 $ move ! (1 ∷ 2 ∷ 3 ∷ []) $ fjoin3 ! $ move ! (1 ∷ 0 ∷ []) $ join ! $ done !
+  asks : (ν μ : ℕ) (δ ε : GName) → ent 𝓤 (⋆ 𝓤 H A (Asking ν μ δ ε)) (Asks ν μ δ ε)
+  asks ν μ δ ε = qed W (Asking ν μ δ ε) ∵ group ! 3 $ move ! (1 ∷ 2 ∷ 3 ∷ []) $ fjoin3 ! $ move ! (1 ∷ 0 ∷ []) $ join ! $ done !
 
+  -- what the holder of the borrow knows: the record is s
   abbrev Known : Session → Fml
   Known s = fobs γ (T.the-row .coded .code s)
 
-  -- what is left at the end
-  abbrev Left-over : R .Denot → Val → List ℕ → List ℕ → Ws → List (Item 𝓤)
-  Left-over r v l p w =
-      ‵ (Known (both l p)) ∷ ‵ (Shut b o κ γ) ∷ ‵ (flft κ q) ∷ toks ∷ ‵ (Left w) ∷ raw (Ends r l p w) ∷ ‵ (R .own r (v ∷ [])) ∷ []
+  -- what the function has before the call, and what it has behind it, where the callee returned v
+  abbrev Before : List (Item 𝓤) → List (Item 𝓤)
+  Before Γ = ‵ (Known h) ∷ ‵ (Shut b o κ γ) ∷ ‵ (flft κ q) ∷ toks ∷ ‵ Handed ∷ raw Has ∷ Γ
 
-  -- that is what the function owes: the tokens, the parameters and the result
+  abbrev Behind : R .Denot → Val → List ℕ → List ℕ → Ws → List (Item 𝓤) → List (Item 𝓤)
+  Behind r v l p w Γ = ‵ (Known (both l p)) ∷ ‵ (Shut b o κ γ) ∷ ‵ (flft κ q) ∷ toks ∷ ‵ (Left w) ∷ raw (Ends r l p w) ∷ ‵ (R .own r (v ∷ [])) ∷ Γ
+
+  -- the latter is what the function owes: the tokens, the parameters and the result
   ends-with :
       (r : R .Denot) (v : Val) (l p : List ℕ) (w : Ws) →
-      ent 𝓤 (⋆ 𝓤 H A (Left-over r v l p w))
+      ent 𝓤 (⋆ 𝓤 H A (Behind r v l p w []))
       (sep 𝓤 (sep 𝓤 (sep 𝓤 (A .lft κ q) (mean 𝓤 H A toks))
       (sep 𝓤 (sem 𝓤 H A (fsep (MutRef (named 0) κ T.the-row .own (record { ptr = (b, o); name = γ; now = both l p }) (vptr b o ∷ [])) (Left w))) (sem 𝓤 H A (R .own r (v ∷ [])))))
       (Ends r l p w))
   ends-with r v l p w =
-      qed W (Left-over r v l p w) ∵ move ! (2 ∷ 3 ∷ []) $ join ! $ move ! (1 ∷ 2 ∷ 3 ∷ []) $
+      qed W (Behind r v l p w []) ∵ move ! (2 ∷ 3 ∷ []) $ join ! $ move ! (1 ∷ 2 ∷ 3 ∷ []) $
       feqI ! (List Val) (vptr b o ∷ []) (vptr b o ∷ []) refl $ fjoin3 ! $ fjoin ! $ move ! (1 ∷ 0 ∷ 3 ∷ []) $ group ! 3 $ done !
 
   module _ (C : Calls 𝓤 H) (Λ : Loops 𝓤 H) (fm : FmC 𝓤 H (W .laws) C) (f : Name) (vs : List Val) where
@@ -131,12 +139,12 @@ module _ {M : Type 1} (𝓤 : URA M) (H : Heap 𝓤) (A : Atoms 𝓤) (W : Given
     abbrev Calling : List (Item 𝓤) → ℕ → ℕ → GName → GName → List (Item 𝓤)
     Calling Γ ν μ δ ε = raw (Asks ν μ δ ε) ∷ Lender b o 𝓤 H A κ q γ h (ν ∷ []) (μ ∷ []) δ ε ∷ Γ
 
+    -- from the one to the other, where the callee meets what it is asked and its operands can be read
     calls-lent :
         {K : Type 0} {E : Env 𝓤 H} {ψ : Post 𝓤 H} {xs : List Operand} {d : Place} {rest : Code} {Γ : List (Item 𝓤)} → K → (Sized h → ent 𝓤 Has Asked) →
         ((ν μ : ℕ) (δ ε : GName) → ent 𝓤 (Asks ν μ δ ε) (C f vs (Gives ν μ δ ε))) → ((ν μ : ℕ) (δ ε : GName) → Opds K W (Calling Γ ν μ δ ε) E xs vs) →
         ((w : Val) (r : R .Denot) (l p : List ℕ) (ws : Ws) → Is R r (w ∷ []) →
-        Seq K W (‵ (Known (both l p)) ∷ ‵ (Shut b o κ γ) ∷ ‵ (flft κ q) ∷ toks ∷ ‵ (Left ws) ∷ raw (Ends r l p ws) ∷ ‵ (R .own r (w ∷ [])) ∷ Γ) (lands C Λ E d w rest ψ)) →
-        Seq K W (‵ (Known h) ∷ ‵ (Shut b o κ γ) ∷ ‵ (flft κ q) ∷ toks ∷ ‵ Passed ∷ raw Has ∷ Γ) (runs C Λ E (seq (call f xs d) rest) ψ)
+        Seq K W (Behind r w l p ws Γ) (lands C Λ E d w rest ψ)) → Seq K W (Before Γ) (runs C Λ E (seq (call f xs d) rest) ψ)
     calls-lent t good met reads ends =
         lends b o t (tt {0}) h (λ z ν μ δ ε.
         -- [ν; μ; the numbers, lent; the pool, lent; the lender; the tokens; what is passed on; what is told; …]
@@ -150,6 +158,7 @@ module _ {M : Type 1} (𝓤 : URA M) (H : Heap 𝓤) (A : Atoms 𝓤) (W : Given
         move t (0 ∷ 1 ∷ 8 ∷ 4 ∷ 5 ∷ []) $ comes-home b o t (tt {0}) h (ws .0) (ws .1 .0) $ move t (0 ∷ 1 ∷ 2 ∷ 3 ∷ 5 ∷ 6 ∷ 4 ∷ []) $ ends w r (ws .0) (ws .1 .0) (ws .1 .1) is)))))
 
 -- ---- the statements
+-- the types of the session, and of its two arrays lent
 abbrev τs : Ty
 τs = tyRef (named 0) mut (pointee (T.the-row .written))
 
@@ -159,35 +168,35 @@ abbrev τl : Ty
 abbrev τp : Ty
 τp = tyRef erased mut τb
 
+-- the locals that the function makes
 abbrev further : List Pass → List Ty
 further hs = τl ∷ τp ∷ temps hs
 
--- the two arrays' places begin at j, and the result goes to d
+-- the arrays are lent to the locals j and j + 1, the parameters are prepared behind these, and f is called; its result goes to d
 abbrev lending : ℕ → Name → Place → List Pass → Code → Code
 lending j f d hs k =
     seq (assign (at j []) (addrOf (at 1 (deref T′.mir ∷ field 0 ∷ []))))
     (seq (assign (at (suc j) []) (addrOf (at 1 (deref T′.mir ∷ field 1 ∷ []))))
     (prep 2 (suc (suc j)) hs (seq (call f (copy (at j []) ∷ copy (at (suc j) []) ∷ operands 2 (suc (suc j)) hs) d) k)))
 
--- they run, for any list of what is passed on
 module _ {M : Type 1} (𝓤 : URA M) (H : Heap 𝓤) (A : Atoms 𝓤) (W : Given 𝓤 H A) (R : RattleType) (x : Call 𝓤 R) (C : Calls 𝓤 H) (Λ : Loops 𝓤 H) (fm : FmC 𝓤 H (W .laws) C) (f : Name) (hs : List Pass) (us : Helds hs) where
-  open Call x using (κ, q, b, o, γ, h, toks, Passed, Ws, Left, Has, Asked, Ends)
+  open Call x using (κ, q, b, o, γ, h, toks, Handed, Ws, Left, Has, Asked, Ends)
 
+  -- the values of the parameters and of the further locals
   abbrev ins : List Val
   ins = vptr b o ∷ vals hs us
 
   abbrev furthers : List Val
   furthers = v₁ b o ∷ v₂ b o ∷ tempVals hs us
 
+  -- these statements run, for any list of what is passed on
   hands-on :
       {K : Type 0} {Γ : List (Item 𝓤)} {ψ : Post 𝓤 H} → K → (E : Env 𝓤 H) (j : ℕ) (d : Place) (k : Code) (bs : Addrs (τs ∷ tys hs)) (cs : Addrs (further hs)) →
       Look 𝓤 H E 1 (τs ∷ tys hs) bs → Look 𝓤 H E j (further hs) cs → Typed (tys hs) (vals hs us) → (Sized h → ent 𝓤 Has Asked) →
       ((ν μ : ℕ) (δ ε : GName) → ent 𝓤 (Asks 𝓤 H A W R x ν μ δ ε) (C f (v₁ b o ∷ v₂ b o ∷ vals hs us) (Gives 𝓤 H A W R x ν μ δ ε))) →
       ((w : Val) (r : R .Denot) (l p : List ℕ) (ws : Ws) → Is R r (w ∷ []) →
-      Seq K W
-      (‵ (Known 𝓤 H A W R x (both l p)) ∷ ‵ (Shut b o κ γ) ∷ ‵ (flft κ q) ∷ toks ∷ ‵ (Left ws) ∷ raw (Ends r l p ws) ∷ ‵ (R .own r (w ∷ [])) ∷
-      cells 𝓤 (τs ∷ tys hs) bs ins ∷ cells 𝓤 (further hs) cs furthers ∷ Γ) (lands C Λ E d w k ψ)) →
-      Seq K W (‵ (Known 𝓤 H A W R x h) ∷ ‵ (Shut b o κ γ) ∷ ‵ (flft κ q) ∷ toks ∷ ‵ Passed ∷ raw Has ∷ cells 𝓤 (τs ∷ tys hs) bs ins ∷ rooms 𝓤 (further hs) cs ∷ Γ) (runs C Λ E (lending j f d hs k) ψ)
+      Seq K W (Behind 𝓤 H A W R x r w l p ws (cells 𝓤 (τs ∷ tys hs) bs ins ∷ cells 𝓤 (further hs) cs furthers ∷ Γ)) (lands C Λ E d w k ψ)) →
+      Seq K W (Before 𝓤 H A W R x (cells 𝓤 (τs ∷ tys hs) bs ins ∷ rooms 𝓤 (further hs) cs ∷ Γ)) (runs C Λ E (lending j f d hs k) ψ)
   hands-on t E j d k bs cs ps ts ok good met ends =
       move t (6 ∷ 7 ∷ []) $ split t $ move t (2 ∷ []) $ split3 t $
       -- [the ledger; the pool; the further locals; the session; the parameters; obs; the borrow; its token; the further tokens; what is passed on; what is told; …]
@@ -209,11 +218,12 @@ pub data Result : Type 0 where
   a-number : Width → Result
   nothing : Result
 
+-- its type
 abbrev typeOf : Result → RattleType
 typeOf (a-number w) = UInt w
 typeOf nothing = Nothing
 
--- its type in MIR
+-- and in MIR
 abbrev τ₀ : Result → Ty
 τ₀ (a-number w) = tyInt w
 τ₀ nothing = tyUnit
@@ -276,6 +286,7 @@ module _ {n : ℕ} (ps : List (Passed (suc n))) (r : Result) where
   }
 
 module _ {M : Type 1} (𝓤 : URA M) (H : Heap 𝓤) (A : Atoms 𝓤) (W : Given 𝓤 H A) {n : ℕ} (ps : List (Passed (suc n))) (r : Result) (c : Clauses 𝓤 (exported ps r)) where
+  -- the type of its result, and how its parameters are passed
   abbrev R : RattleType
   R = typeOf r
 
@@ -312,7 +323,7 @@ module _ {M : Type 1} (𝓤 : URA M) (H : Heap 𝓤) (A : Atoms 𝓤) (W : Given
         γ = a .0 .name;
         h = a .0 .now;
         toks = raw (toks 𝓤 A n (κs .1) (qs .1));
-        Passed = owns (typesAt (slots ps) κs) (a .1) vss;
+        Handed = owns (typesAt (slots ps) κs) (a .1) vss;
         Ws = Fins κs (slots ps) (all yes (slots ps)) (a .1);
         Left = λ w. hasOf κs (slots ps) (all yes (slots ps)) (stays-left (slots ps) (all yes (slots ps))) (a .1) w vss;
         Has = c κs a .requires g;
@@ -332,10 +343,11 @@ module _ {M : Type 1} (𝓤 : URA M) (H : Heap 𝓤) (A : Atoms 𝓤) (W : Given
         abbrev Owes : Val → SProp 𝓤
         Owes = walkOf 𝓤 H A (exported ps r) stayed c .post ((κs, qs, bounds, a, (vptr b o ∷ [], vss)), g)
 
-        exits : (x : R .Denot) (v : Val) (l p : List ℕ) (w : the-call .Ws) → ent 𝓤 (⋆ 𝓤 H A (Left-over 𝓤 H A W R the-call x v l p w)) (Owes v)
+        -- what it has behind the call is that
+        exits : (x : R .Denot) (v : Val) (l p : List ℕ) (w : the-call .Ws) → ent 𝓤 (⋆ 𝓤 H A (Behind 𝓤 H A W R the-call x v l p w [])) (Owes v)
         exits x v l p w =
             via 𝓤 _ (ends-with 𝓤 H A W R the-call x v l p w)
-            (ends-at 𝓤 H A (exported ps r) stayed c W ((κs, qs, bounds, a, (vptr b o ∷ [], vss)), g) v x (both l p, w) (tt, fits-left κs ps (a .1) w))
+            (ends-at 𝓤 H A (exported ps r) stayed c W ((κs, qs, bounds, a, (vptr b o ∷ [], vss)), g) v x (both l p, w) (tt, fits-left κs (slots ps) (a .1) w))
 
         -- the walk of the function
         walk :
