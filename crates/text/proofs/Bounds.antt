@@ -6,7 +6,7 @@ use mathlib.Core.List.{List, [], _∷_, _++_}
 use mathlib.Core.Option.{Option, none, some}
 use native.Mathlib.Omega.{arith}
 use lib.ListN.{length, take, drop, length-append, length-take, length-drop}
-use lib.Seq.{take-append-seam}
+use lib.Seq.{take-append-seam, length-take-le}
 use Rattle.rules.specs.Command.{Outcome, wrote, refused, endedOf, writtenBy}
 use Rattle.rules.specs.Words.{numberOf}
 use Rattle.rules.specs.Lines.{hex, decimal, printed}
@@ -15,7 +15,7 @@ use Rattle.rules.specs.declared.Ended.{Ended}
 use Rattle.rules.specs.declared.Ended.the-variants.{Wrote, Refused}
 use Rattle.text.specs.Sizes.{keptCap, shortLine}
 use Rattle.text.specs.declared.Frame.{Frame}
-use Rattle.text.specs.declared.Frame.the-variants.{Bytes}
+use Rattle.text.specs.declared.Frame.the-variants.{Bytes, Unreadable}
 use Rattle.text.specs.declared.Gathered.{Gathered}
 use Rattle.text.specs.Frames.{frameTold, frameBytes}
 use Rattle.text.specs.Gathers.{beforeFeed, fitting, Gathers}
@@ -26,6 +26,7 @@ use Rattle.text.proofs.Gathering.{piece-some, piece-few}
 -- a frame that was read: its bytes stand at the front of the buffer
 pub record Read (o : Option (List ℕ)) (n : ℕ) (buffer : List ℕ) : Type 0 where
   pub fits : n ≤ length buffer
+  pub size : n ≡ length (take n buffer)
   pub bytes : o ≡ some (take n buffer)
 
 pub frame-read :
@@ -35,7 +36,14 @@ frame-read none f n before after t e = absurd (let z : _≡_ {A = ℕ} 0 1 = cc 
 frame-read (some s) f n before after t e =
     let size : n ≡ length s = cc in
     let long = ap length (t .1) ∙ length-append s (drop (length s) before) in
-    record { fits = omega arith; bytes = sym (ap some ((λ i. take (size i) (t .1 i)) ∙ take-append-seam s (drop (length s) before))) }
+    let fits : n ≤ length after = omega arith in
+    record { fits = fits; size = sym (length-take-le n after fits); bytes = sym (ap some ((λ i. take (size i) (t .1 i)) ∙ take-append-seam s (drop (length s) before))) }
+
+-- a line that was not read has no frame
+pub frame-unread : (o : Option (List ℕ)) (f : Frame) → f ≡ frameTold o → f ≡ Unreadable → o ≡ none
+unfolding frameTold
+frame-unread none f t e = refl
+frame-unread (some s) f t e = absurd (let z : _≡_ {A = ℕ} 0 1 = cc in omega arith)
 
 -- the bytes that a call wrote stand at the front of its buffer
 front-within : (o : Outcome) (d : List ℕ) → countOf (endedOf o) ≤ length (overlaid (writtenBy o) d)
