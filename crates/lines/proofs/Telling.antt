@@ -37,16 +37,10 @@ use Rattle.text.specs.Calls.{callSpoken}
 use Rattle.text.specs.Prints.{countOf, outcomeOf, lineOf, Prints}
 use Rattle.text.proofs.Stores.{paste-none}
 use Rattle.text.proofs.Printing.{prints-as}
-use Rattle.text.proofs.Bounds.{count-within}
+use Rattle.text.proofs.Bounds.{front-back, count-within}
 use Rattle.lines.specs.Says.{answerTo, Replies, Says}
 
--- the bytes that a call wrote stand at the front of its buffer
-front-back : (o : Outcome) (d : List ℕ) → outcomeOf (endedOf o) (overlaid (writtenBy o) d) ≡ o
-unfolding outcomeOf endedOf overlaid writtenBy
-front-back (wrote s) d = ap wrote (take-append-seam s (drop (length s) d))
-front-back (refused r) d = refl
-
--- and of every buffer in front of which that stands
+-- what a call wrote stands in every buffer in front of which its own stands
 outcome-front : (e : Ended) (s w : List ℕ) → countOf e ≤ length s → outcomeOf e (s ++ w) ≡ outcomeOf e s
 unfolding outcomeOf countOf
 outcome-front (Wrote k) s w h = ap wrote (take-append-le k s w h)
