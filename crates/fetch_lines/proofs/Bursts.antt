@@ -9,7 +9,7 @@ use lib.ListN.{length, replicate}
 use Rattle.rules.specs.Pool.{poolSize}
 use Rattle.rules.specs.Checks.{_⇒_else_}
 use Rattle.rules.specs.State.{start}
-use Rattle.rules.specs.Lines.{printed}
+use Rattle.rules.specs.Lines.{zerosBefore, decimal, printed}
 use Rattle.rules.specs.Input.{begins}
 use Rattle.rules.specs.Fetch as rules
 use Rattle.rules.proofs.Soundness.{start-sound}
@@ -43,7 +43,7 @@ first-gathers r e = gathers-of r [] e none-lacks
 
 -- the first line prints R9 at most
 out-few : (o : Option (List ℕ)) → length (begins o .out) ≤ 3
-unfolding begins printed _⇒_else_
+unfolding begins zerosBefore decimal printed _⇒_else_
 out-few none = omega arith
 out-few (some p) = omega arith
 

@@ -21,9 +21,17 @@ eventSize = 16
 abbrev pub takeCap : ℕ
 takeCap = 1500
 
+-- the print of a value without bytes
+abbrev pub leastValue : ℕ
+leastValue = 2
+
 -- the longest printed line without bytes, R11 or R12, and the longest of all
 abbrev pub shortLine : ℕ
 shortLine = 4
 
 abbrev pub lineCap : ℕ
 lineCap = 3004
+
+-- numbers below it have a decimal
+abbrev pub decimalCap : ℕ
+decimalCap = 10000

@@ -18,7 +18,7 @@ print-left-requires c κs =
     let p : tie.After-print = search in
     let f : tie.After-fetch-in = search in
     let s : tie.Start = search in
-    let w = line-within _ _ _ _ (p .print .ensures .1) in
+    let w = line-within _ _ _ _ (p .print .ensures .place) in
     (omega (arith, w .0), omega (arith, w .1, s .pre .2))
 
 returns : tie.Need-returns
@@ -27,7 +27,7 @@ returns c =
     let p : tie.After-print = search in
     let f : tie.After-fetch-in = search in
     let s : tie.Start = search in
-    let w = line-within _ _ _ _ (p .print .ensures .1) in
+    let w = line-within _ _ _ _ (p .print .ensures .place) in
     let k = e .print-left .ensures in
     let b = burst-ready _ _ _ _ _ _ _ (f .fetch-in .ensures) in
     (b .0, b .1, omega (arith, k, w .1, s .pre .2))

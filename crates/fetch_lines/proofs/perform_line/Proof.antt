@@ -31,7 +31,7 @@ returns-2 : tie.Need-returns-2
 returns-2 c =
     let p : tie.After-print = search in
     let s : tie.Start = search in
-    let w = line-within _ _ _ _ (p .print .ensures .1) in
+    let w = line-within _ _ _ _ (p .print .ensures .place) in
     (s .pre .0, s .pre .1, omega (arith, w .1, s .pre .2))
 
 pub perform-line-spec : {M : Type 1} → statement M
