@@ -15,6 +15,7 @@ use Rattle.rules.specs.declared.Details.{Details}
 use Rattle.rules.specs.declared.Link.{Link}
 use Rattle.rules.specs.declared.Link.the-variants.{NotYet, Established, Dropped}
 use Rattle.rules.specs.Checks.{_⇒_else_, isEmpty, some-of, member}
+use Rattle.rules.specs.Results.{dataCap}
 use Rattle.rules.specs.Frames.{walk}
 use Rattle.rules.specs.State.{isDropped}
 use Rattle.rules.specs.Pool.{grantCap}
@@ -40,7 +41,7 @@ use Rattle.bench_reader.specs.declared.Verdict.the-variants.{Done}
 use Rattle.bench_reader.specs.declared.Heard.{Heard}
 use Rattle.bench_reader.specs.declared.Heard.the-variants.{Silence}
 use Rattle.bench_reader.specs.Heard.{furtherOf, resultOf}
-use Rattle.bench_reader.specs.Tails.{Holder, Single, Double, ShownAt, sized, dataCap, checked, followed, borne, Hears}
+use Rattle.bench_reader.specs.Tails.{Holder, Single, Double, ShownAt, sized, checked, followed, borne, Hears}
 use Rattle.bench_reader.proofs.Standing.{named, object-there, object-absent, byte-there, byte-missed, pair-there, pair-missed, value-long, behind-one, behind-two, silent, hears-as, step-on}
 use Rattle.bench_reader.proofs.Rising.{status-shown, status-hidden, rising-first}
 

@@ -83,10 +83,6 @@ ShownAt shown.Not s at = Hidden s at
 unfoldable pub sized : ℕ → ℕ → Bool
 sized kind n = (eqb kind 0x02 && eqb n 7) || (eqb kind 0x03 && eqb n 1)
 
--- the most bytes of data
-abbrev pub dataCap : ℕ
-dataCap = 237
-
 -- the response, if a test is true and the objects stand in the bytes up to their end
 unfoldable pub checked : Bool → List Object → List ℕ → Response → Told
 checked b os t r = b && same (written os) t ⇒ told r else untold NoResponse

@@ -1,9 +1,13 @@
 // The bench's reader: a response from its one form, or silence.
 use objects::Cursor;
 use objects::Found;
+use pool::Pool;
+use rules::Causes;
 use rules::ChannelNumber;
 use rules::Details;
+use rules::Limits;
 use rules::Link;
+use rules::Results;
 use rules::is_known;
 ghost use mathlib.Core.Path.{_≡_};
 ghost use mathlib.Core.Bool.{true};
@@ -17,11 +21,6 @@ ghost use Rattle.rules.specs.Written.{pairBytes, detailsBytes};
 ghost use Rattle.rules.specs.Bench.{errorProper, causeProper, successProper, benchRead};
 ghost use Rattle.bench_reader.specs.Heard.{resultOf, VerdictAt};
 ghost use Rattle.bench_reader.specs.Tails.{Tag, Misfit, Holder, Single, Double, ShownAt, sized, Hears, checked, resulted, followed, borne, listed};
-
-// The most bytes of data.
-const DATA_CAP: usize = 237;
-// The greatest grant.
-const GRANT_CAP: u16 = 1500;
 
 // What follows the result of a response. A bearer and data stand in the bytes that were read, from a place on and so long; statuses from a place on, four bytes each.
 pub enum Further {
@@ -130,10 +129,10 @@ fn fits_error(d: Details, e: u8) -> bool
     ensures { λ r. ⌜ r ≡ errorProper d e ⌝ }
 {
     match e {
-        0x30 => is_known(d.kind),
-        0x31 => !is_known(d.kind),
-        0x32 => true,
-        0x36 => is_known(d.kind) || is_zero(d),
+        Results::BEYOND_CAPABILITIES => is_known(d.kind),
+        Results::TYPE_NOT_UNDERSTOOD => !is_known(d.kind),
+        Results::DATA_NOT_UNDERSTOOD => true,
+        Results::VALUES_MISSING => is_known(d.kind) || is_zero(d),
         _ => false,
     }
 }
@@ -144,12 +143,12 @@ fn fits_cause(kind: u8, cause: u8) -> bool
 {
     match kind {
         0x40 => match cause {
-            0x01 | 0x04 | 0x06 => true,
+            Causes::NO_CHANNEL | Causes::SIZE_UNAVAILABLE | Causes::LEVEL_UNAVAILABLE => true,
             _ => false,
         },
-        0x41 | 0x42 => cause == 0x03,
+        0x41 | 0x42 => cause == Causes::CHANNEL_INVALID,
         0x43 => match cause {
-            0x02 | 0x03 | 0x04 => true,
+            Causes::CHANNEL_CLOSED | Causes::CHANNEL_INVALID | Causes::SIZE_UNAVAILABLE => true,
             _ => false,
         },
         _ => false,
@@ -161,9 +160,9 @@ fn fits_success(kind: u8, result: u8) -> bool
     ensures { λ r. ⌜ r ≡ successProper kind result ⌝ }
 {
     match result {
-        0x00 | 0x01 => is_known(kind),
-        0x02 => kind == 0x42,
-        0x07 => kind == 0x40,
+        Results::PERFORMED | Results::PARTLY_UNDERSTOOD => is_known(kind),
+        Results::MISSING_INFORMATION => kind == 0x42,
+        Results::MODIFIED => kind == 0x40,
         _ => false,
     }
 }
@@ -239,7 +238,7 @@ fn read_bearer(s: &[u8], c: Cursor, d: Details, result: u8, n: ChannelNumber, li
     if grant < 1 {
         return Heard::Silence;
     }
-    if GRANT_CAP < grant {
+    if Pool::GRANT_CAP < grant {
         return Heard::Silence;
     }
     let further = Further::Opened(n, link, start, len, grant);
@@ -267,7 +266,7 @@ fn read_received(s: &[u8], c: Cursor, d: Details, result: u8) -> Heard
     let Value::At(start, len, next) = object_of(s, c, 0x36) else {
         return Heard::Silence;
     };
-    if DATA_CAP < len {
+    if Limits::DATA < len {
         return Heard::Silence;
     }
     let One::Byte(left, end) = byte_of(s, next, 0x37) else {
@@ -350,7 +349,7 @@ fn read_problem(s: &[u8], c: Cursor, d: Details) -> Heard
     let Two::Bytes(result, cause, next) = pair_of(s, c, 0x83) else {
         return Heard::Silence;
     };
-    if result != 0x3A {
+    if result != Results::CHANNEL_PROBLEM {
         return Heard::Silence;
     }
     if !fits_cause(d.kind, cause) {

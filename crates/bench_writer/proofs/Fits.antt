@@ -10,6 +10,7 @@ use lib.ListN.{length, length-append}
 use lib.Dec.{leb, eqb}
 use borrow.Author.Tests.{le-leb, ne-eqb, eqb-true, leb-true}
 use Rattle.rules.specs.Checks.{_⇒_else_, isEmpty}
+use Rattle.rules.specs.Results.{valueCap}
 use Rattle.rules.specs.Frames.{lengthBytes, objectBytes, written}
 use Rattle.rules.specs.Reading.{Bearer}
 use Rattle.rules.specs.Written.{flagged, pairBytes}
@@ -21,7 +22,7 @@ use Rattle.bench_writer.specs.declared.Level.the-variants.{Without, With
 use Rattle.bench_writer.specs.declared.Asking.{Asking}
 use Rattle.bench_writer.specs.declared.Asking.the-variants.{Bare, EventList, Open, Close, Receive, Send}
 use Rattle.bench_writer.specs.Records.{levelOf, bodyOf}
-use Rattle.bench_writer.specs.Wrote.{valueCap, bodyCap}
+use Rattle.bench_writer.specs.Wrote.{bodyCap}
 use Rattle.bench_writer.proofs.Writes.{behindBearer, opening-form}
 
 -- a bearer and its parameters

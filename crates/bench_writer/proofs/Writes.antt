@@ -12,6 +12,7 @@ use Rattle.octets.specs.Parts.{pasted, overlaid}
 use Rattle.rules.specs.declared.Refusal.{Refusal}
 use Rattle.rules.specs.declared.Refusal.the-variants.{ShortBuffer, UnfitRecord}
 use Rattle.rules.specs.Checks.{_⇒_else_}
+use Rattle.rules.specs.Results.{commandCap}
 use Rattle.rules.specs.Frames.{Object, lengthBytes, objectBytes, written, frame}
 use Rattle.rules.specs.Reading.{Body, kindOf, detailsOf, addressed}
 use Rattle.rules.specs.Written.{flagged, pairBytes, detailsBytes, bearerBytes}
@@ -26,7 +27,7 @@ use Rattle.bench_writer.specs.declared.Level.{Level}
 use Rattle.bench_writer.specs.declared.Asking.the-variants.{Open}
 use Rattle.bench_writer.specs.declared.Record.{Record}
 use Rattle.bench_writer.specs.Records.{levelOf, bodyOf, commandOf}
-use Rattle.bench_writer.specs.Wrote.{bodyCap, bufferSize, Wrote, frontBytes}
+use Rattle.bench_writer.specs.Wrote.{bodyCap, Wrote, frontBytes}
 
 -- a write leaves the buffer its length
 pub still : (s : List ℕ) (at end : ℕ) (before after : List ℕ) → Wrote s at end before after → length after ≡ length before
@@ -124,7 +125,7 @@ module _ (kind size at : ℕ) (level : Level) (s before : List ℕ) {d₁ d₂ :
 
 -- behind the front there is room for the values
 pub front-room :
-    (order : Record) (kind size at : ℕ) (before after : List ℕ) → bufferSize ≤ length before → Wrote (frontBytes order kind size) 0 at before after →
+    (order : Record) (kind size at : ℕ) (before after : List ℕ) → commandCap ≤ length before → Wrote (frontBytes order kind size) 0 at before after →
     at + bodyCap ≤ length after
 unfolding frontBytes
 front-room order kind size at before after h w =
@@ -168,25 +169,25 @@ module _ (order : Record) (s : List ℕ) (buffer : ℕ) where
   abbrev outcome : Outcome
   outcome = benchWrite buffer (commandOf order s)
 
-  pub short-buffer : buffer < bufferSize → outcome ≡ refused ShortBuffer
+  pub short-buffer : buffer < commandCap → outcome ≡ refused ShortBuffer
   unfolding benchWrite
-  short-buffer h = stop _ _ _ (lt-ltb buffer bufferSize h)
+  short-buffer h = stop _ _ _ (lt-ltb buffer commandCap h)
 
-  module _ (h : bufferSize ≤ buffer) {kind : ℕ} (k : (t : List ℕ) → kind ≡ kindOf (bodyOf (order .asking) t)) {b : Bool} (f : b ≡ addressed kind (order .source) (order .destination)) where
+  module _ (h : commandCap ≤ buffer) {kind : ℕ} (k : (t : List ℕ) → kind ≡ kindOf (bodyOf (order .asking) t)) {b : Bool} (f : b ≡ addressed kind (order .source) (order .destination)) where
     not-kind : (t : Bool) → b ≡ t → not (addressed (kindOf body) (order .source) (order .destination)) ≡ not t
     not-kind t e = ap (λ (x : ℕ). not (addressed x (order .source) (order .destination))) (sym (k s)) ∙ ap not (sym f ∙ e)
 
     pub unaddressed : not b ≡ true → outcome ≡ refused UnfitRecord
     unfolding benchWrite commandOf
-    unaddressed n = skip _ _ _ (le-ltb buffer bufferSize h) ∙ stop _ _ _ (not-kind false (not-true b n))
+    unaddressed n = skip _ _ _ (le-ltb buffer commandCap h) ∙ stop _ _ _ (not-kind false (not-true b n))
 
     module _ (n : not b ≡ false) {p : Bool} (e : p ≡ bodyProper body) where
       pub unproper : not p ≡ true → outcome ≡ refused UnfitRecord
       unfolding benchWrite commandOf
-      unproper m = skip _ _ _ (le-ltb buffer bufferSize h) ∙ skip _ _ _ (not-kind true (not-false b n)) ∙ stop _ _ _ (ap not (sym e) ∙ m)
+      unproper m = skip _ _ _ (le-ltb buffer commandCap h) ∙ skip _ _ _ (not-kind true (not-false b n)) ∙ stop _ _ _ (ap not (sym e) ∙ m)
 
       pub whole : not p ≡ false → {size : ℕ} → size ≡ length (written (bodyObjects body)) → outcome ≡ wrote (frontBytes order kind size ++ written (bodyObjects body))
       unfolding benchWrite commandOf
       whole m l =
-          skip _ _ _ (le-ltb buffer bufferSize h) ∙ skip _ _ _ (not-kind true (not-false b n)) ∙ skip _ _ _ (ap not (sym e) ∙ m)
+          skip _ _ _ (le-ltb buffer commandCap h) ∙ skip _ _ _ (not-kind true (not-false b n)) ∙ skip _ _ _ (ap not (sym e) ∙ m)
           ∙ ap wrote (front-frame order s kind (k s) _ l)

@@ -7,15 +7,9 @@ use Rattle.rules.specs.Frames.{lengthBytes}
 use Rattle.octets.specs.Parts.{pasted}
 use Rattle.bench_writer.specs.declared.Record.{Record}
 
--- the most bytes that an event list or data has, that the objects of the values take, and the least buffer
-abbrev pub valueCap : ℕ
-valueCap = 241
-
+-- the most bytes that the objects of the values take
 abbrev pub bodyCap : ℕ
 bodyCap = 244
-
-abbrev pub bufferSize : ℕ
-bufferSize = 256
 
 -- the bytes s stand from `at` up to `end`, the others are as they were
 pub record Wrote (s : List ℕ) (at end : ℕ) (before after : List ℕ) : Type 0 where

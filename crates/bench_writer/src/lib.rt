@@ -3,6 +3,7 @@ use objects;
 use octets;
 use rules::DeviceIdentity;
 use rules::Ended;
+use rules::Limits;
 use rules::Refusal;
 use rules::is_addressed;
 use rules::lists;
@@ -11,6 +12,7 @@ ghost use mathlib.Core.Bool.{true};
 ghost use mathlib.Core.List.{List, _∷_, _++_};
 ghost use Prim.Native.Nat.{ℕ, _+_, _≤_};
 ghost use lib.ListN.{length};
+ghost use Rattle.rules.specs.Results.{valueCap};
 ghost use Rattle.rules.specs.Frames.{lengthBytes, written};
 ghost use Rattle.rules.specs.Checks.{member};
 ghost use Rattle.rules.specs.Reading.{kindOf};
@@ -19,12 +21,7 @@ ghost use Rattle.rules.specs.Bench.{bearerProper, bodyProper, transportObjects,
 ghost use Rattle.rules.specs.Command.{endedOf, writtenBy};
 ghost use Rattle.octets.specs.Parts.{overlaid};
 ghost use Rattle.bench_writer.specs.Records.{levelOf, bodyOf, commandOf};
-ghost use Rattle.bench_writer.specs.Wrote.{valueCap, bodyCap, Wrote, frontBytes};
-
-// The most bytes that an event list or data has.
-const VALUE_CAP: usize = 241;
-// The least buffer that is not refused.
-const BUFFER: usize = 256;
+ghost use Rattle.bench_writer.specs.Wrote.{bodyCap, Wrote, frontBytes};
 
 // The transport level of an OPEN CHANNEL, object 3C, where it has one: its protocol and its port.
 pub enum Level {
@@ -90,11 +87,11 @@ fn is_proper(asking: Asking, bytes: &[u8]) -> bool
 {
     match asking {
         Asking::Bare(kind) => is_bare(kind),
-        Asking::EventList => bytes.len() <= VALUE_CAP,
+        Asking::EventList => bytes.len() <= Limits::VALUE,
         Asking::Open(kind, _, _) => fits_bearer(kind, bytes),
         Asking::Close => true,
         Asking::Receive(_) => true,
-        Asking::Send => bytes.len() <= VALUE_CAP,
+        Asking::Send => bytes.len() <= Limits::VALUE,
     }
 }
 
@@ -223,7 +220,7 @@ pub fn write(order: Record, bytes: &[u8], out: &mut [u8]) -> Ended
     ensures { λ r. ⌜ r ≡ endedOf (benchWrite (length (now (out .entry))) (commandOf order (now (bytes .entry)))) ⌝ }
     ensures { λ r. ⌜ now (out .exit) ≡ overlaid (writtenBy (benchWrite (length (now (out .entry))) (commandOf order (now (bytes .entry))))) (now (out .entry)) ⌝ }
 {
-    if out.len() < BUFFER {
+    if out.len() < Limits::COMMAND {
         return Ended::Refused(Refusal::ShortBuffer);
     }
     let asking = order.asking;

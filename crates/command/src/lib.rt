@@ -9,6 +9,8 @@ use profile::allowed;
 use rules::Details;
 use rules::DeviceIdentity;
 use rules::Ending;
+use rules::Limits;
+use rules::Results;
 use rules::is_addressed;
 ghost use mathlib.Core.Path.{_≡_};
 ghost use mathlib.Core.Bool.{true, false};
@@ -432,7 +434,7 @@ fn settle(s: &[u8], d: Details, plan: Plan, v: Sorted) -> Read
     let from = DeviceIdentity(s[at]);
     let to = DeviceIdentity(s[at + 1]);
     if !is_addressed(d.kind, from, to) {
-        return Read::Wrong(d, 0x32);
+        return Read::Wrong(d, Results::DATA_NOT_UNDERSTOOD);
     }
     let handler = plan.handler;
     let start = v.own as usize;
@@ -472,13 +474,13 @@ fn read_known(s: &[u8], d: Details, plan: Plan, v: Sorted) -> Read
     ensures { λ r. ⌜ ((p : List ℕ) → Typed p (now (s .entry)) → Reads r p (now (s .entry))) ⌝ }
 {
     if v.flagged {
-        return Read::Wrong(d, 0x32);
+        return Read::Wrong(d, Results::DATA_NOT_UNDERSTOOD);
     }
     if !all_stand(v.devices, v.own, v.further) {
-        return Read::Wrong(d, 0x36);
+        return Read::Wrong(d, Results::VALUES_MISSING);
     }
     if v.misfit {
-        return Read::Wrong(d, 0x32);
+        return Read::Wrong(d, Results::DATA_NOT_UNDERSTOOD);
     }
     settle(s, d, plan, v)
 }
@@ -491,10 +493,10 @@ fn read_unknown(s: &[u8], d: Details) -> Read
     let stop = walk(s);
     let ending = stop.ending;
     match ending {
-        Ending::End => Read::Wrong(d, 0x31),
-        Ending::BadTag => Read::Wrong(d, 0x32),
-        Ending::BadLength => Read::Wrong(d, 0x32),
-        Ending::CutValue => Read::Wrong(d, 0x32),
+        Ending::End => Read::Wrong(d, Results::TYPE_NOT_UNDERSTOOD),
+        Ending::BadTag => Read::Wrong(d, Results::DATA_NOT_UNDERSTOOD),
+        Ending::BadLength => Read::Wrong(d, Results::DATA_NOT_UNDERSTOOD),
+        Ending::CutValue => Read::Wrong(d, Results::DATA_NOT_UNDERSTOOD),
     }
 }
 
@@ -505,10 +507,10 @@ fn read_planned(profile: &[u16], s: &[u8], d: Details, plan: Plan, first: usize)
 {
     let v = go_through(s, plan.row, first);
     if !v.whole {
-        return Read::Wrong(d, 0x32);
+        return Read::Wrong(d, Results::DATA_NOT_UNDERSTOOD);
     }
     if !allowed(profile, plan.place) {
-        return Read::Wrong(d, 0x30);
+        return Read::Wrong(d, Results::BEYOND_CAPABILITIES);
     }
     read_known(s, d, plan, v)
 }
@@ -547,20 +549,20 @@ fn first_object(s: &[u8]) -> First
     ensures { λ r. ⌜ Firsts r (now (s .entry)) ⌝ }
 {
     if s.len() == 0 {
-        return First::Absent(0x36);
+        return First::Absent(Results::VALUES_MISSING);
     }
     let c = Cursor { at: 0 };
     match c.object(s) {
         Found::Object(number, _, start, len, _) => {
             if number != DETAILS {
-                return First::Absent(0x36);
+                return First::Absent(Results::VALUES_MISSING);
             }
             if len != 3 {
-                return First::Absent(0x36);
+                return First::Absent(Results::VALUES_MISSING);
             }
             First::Told(details_at(s, start), start)
         }
-        Found::Fault(_) => First::Absent(0x32),
+        Found::Fault(_) => First::Absent(Results::DATA_NOT_UNDERSTOOD),
     }
 }
 
@@ -595,9 +597,7 @@ pub fn details_told(s: &[u8]) -> Details
     }
 }
 
-// The most bytes of a command, and the number that tells R2.
-const COMMAND_CAP: usize = 256;
-
+// The number that tells R2.
 const REFUSED_SIZE: u32 = 0x1000002;
 
 // What command is at hand: number, type and qualifier in one number, or R2.
@@ -607,7 +607,7 @@ pub fn at_hand(s: &[u8]) -> u32
     if s.len() == 0 {
         return REFUSED_SIZE;
     }
-    if COMMAND_CAP < s.len() {
+    if Limits::COMMAND < s.len() {
         return REFUSED_SIZE;
     }
     let d = details_told(s);

@@ -1,6 +1,7 @@
 // What command is at hand, as a line tool: the details of a command from a line, in three bytes.
 use command::details_told;
 use rules::Ended;
+use rules::Limits;
 use rules::Refusal;
 use text::Frame;
 use text::Line;
@@ -13,9 +14,6 @@ ghost use lib.ListN.{length};
 ghost use Rattle.text.specs.Prints.{Prints};
 ghost use Rattle.details.specs.Printed.{room, frameLine, detailsLine};
 
-// The most bytes of a command.
-const COMMAND_CAP: usize = 256;
-
 // Prints the details of the command in a frame, or R2.
 fn print_details(s: &[u8], out: &mut [u8], at: usize) -> usize
     requires { ⌜ at + room ≤ length (now out) ⌝ }
@@ -24,7 +22,7 @@ fn print_details(s: &[u8], out: &mut [u8], at: usize) -> usize
     if s.len() == 0 {
         return print_refusal(out, at, Refusal::CommandSize);
     }
-    if COMMAND_CAP < s.len() {
+    if Limits::COMMAND < s.len() {
         return print_refusal(out, at, Refusal::CommandSize);
     }
     let d = details_told(s);

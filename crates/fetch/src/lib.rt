@@ -1,11 +1,11 @@
 // Bytes as they come off the line: gathered in a lent record until they are a command, which is then handed on.
-use modem::LEAST_BUFFER;
 use modem::command_in;
 use objects::Sized;
 use objects::length_at;
 use octets;
 use pool::Pool;
 use rules::Ended;
+use rules::Limits;
 use rules::Refusal;
 use rules::Stage;
 use session::Ledger;
@@ -165,7 +165,7 @@ pub fn fetch_in(
     requires { ⌜ GoodIn (now ledger) (now pool) × Gathers (now gathered) ⌝ }
     ensures { λ r. ⌜ Fetches (fetch (shown (now (ledger .entry)) (now (pool .entry))) (lending (length (now (out .entry)))) (gatheredIn (now (gathered .entry))) (now (bytes .entry))) (now (ledger .exit)) (now (pool .exit)) (now (gathered .exit)) r (now (out .entry)) (now (out .exit)) ⌝ }
 {
-    if out.len() < LEAST_BUFFER {
+    if out.len() < Limits::RESPONSE {
         return Fetched {
             ended: Ended::Refused(Refusal::ShortBuffer),
             left: bytes.len(),

@@ -5,6 +5,7 @@ use command::Read;
 use command::Request;
 use command::frame_start;
 use command::read_objects;
+use opening::TCP;
 use opening::open;
 use own::close;
 use own::list_events;
@@ -15,7 +16,9 @@ use pool::Pool;
 use responses::tell_result;
 use rules::Details;
 use rules::Ended;
+use rules::Limits;
 use rules::Refusal;
+use rules::Results;
 use session::Answered;
 use session::Ledger;
 use session::Session;
@@ -30,14 +33,6 @@ ghost use Rattle.rules.specs.declared.Ended.the-variants.{Wrote};
 ghost use Rattle.session.specs.Picture.{Good, GoodIn, shown, view};
 ghost use Rattle.session.specs.Calls.{Answers};
 ghost use Rattle.modem.specs.Obeyed.{obeyed};
-
-// The least buffer for a response, and the longest command.
-pub const LEAST_BUFFER: usize = 255;
-
-const LONGEST: usize = 256;
-
-// The protocol of a channel whose transport level does not stand.
-const TCP: u8 = 0x02;
 
 // The size at a place, high byte first.
 fn size_at(s: &[u8], at: usize) -> u16
@@ -131,13 +126,13 @@ pub fn command_in(
     requires { ⌜ GoodIn (now ledger) (now pool) ⌝ }
     ensures { λ r. ⌜ Answers (command (shown (now (ledger .entry)) (now (pool .entry))) (lending (length (now (out .entry)))) (now (s .entry))) (now (ledger .exit)) (now (pool .exit)) r (now (out .entry)) (now (out .exit)) ⌝ }
 {
-    if out.len() < LEAST_BUFFER {
+    if out.len() < Limits::RESPONSE {
         return Ended::Refused(Refusal::ShortBuffer);
     }
     if s.len() < 1 {
         return Ended::Refused(Refusal::CommandSize);
     }
-    if LONGEST < s.len() {
+    if Limits::COMMAND < s.len() {
         return Ended::Refused(Refusal::CommandSize);
     }
     match frame_start(s) {
@@ -148,7 +143,7 @@ pub fn command_in(
                 kind: 0,
                 qualifier: 0,
             };
-            Ended::Wrote(tell_result(out, none, 0x32))
+            Ended::Wrote(tell_result(out, none, Results::DATA_NOT_UNDERSTOOD))
         }
     }
 }

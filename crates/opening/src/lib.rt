@@ -7,9 +7,11 @@ use responses::tell_opened;
 use responses::tell_problem;
 use responses::tell_result;
 use rules::Carries;
+use rules::Causes;
 use rules::ChannelNumber;
 use rules::Details;
 use rules::Link;
+use rules::Results;
 use session::Ledger;
 use session::entry;
 use session::free_cells;
@@ -33,7 +35,7 @@ ghost use Rattle.opening.specs.Unused.{openFrom};
 // The protocols that are served: UDP, which carries datagrams, and TCP, which carries a stream.
 const UDP: u8 = 0x01;
 
-const TCP: u8 = 0x02;
+pub const TCP: u8 = 0x02;
 
 // How many channels, of the first n, stand open before the first that does not; n where none is unused.
 fn open_before(ledger: &[u16; Ledger::SIZE], n: usize) -> usize
@@ -97,28 +99,28 @@ pub fn open(
     ensures { λ r. ⌜ Answers (told d (opening (shown (now (ledger .entry)) (now (pool .entry))) (d .qualifier) (bearerIn (now (bearer .entry))) size protocol ignored)) (now (ledger .exit)) (now (pool .exit)) (Wrote r) (now (out .entry)) (now (out .exit)) ⌝ }
 {
     if !serves(ledger, bearer[0]) {
-        return tell_result(out, d, 0x30);
+        return tell_result(out, d, Results::BEYOND_CAPABILITIES);
     }
     if !is_served(protocol) {
-        return tell_problem(out, d, 0x06);
+        return tell_problem(out, d, Causes::LEVEL_UNAVAILABLE);
     }
     if size < 1 {
-        return tell_problem(out, d, 0x04); // no size
+        return tell_problem(out, d, Causes::SIZE_UNAVAILABLE); // no size
     }
     let n = channels_of(ledger);
     let k = open_before(ledger, n);
     if k == n {
-        return tell_problem(out, d, 0x01); // no number
+        return tell_problem(out, d, Causes::NO_CHANNEL); // no number
     }
     let free = free_cells(ledger);
     if free < 2 {
-        return tell_problem(out, d, 0x04); // too few cells
+        return tell_problem(out, d, Causes::SIZE_UNAVAILABLE); // too few cells
     }
     let grant = Pool::grant(size, free);
     let number = ChannelNumber((k + 1) as u8);
     let link = link_by(d.qualifier);
     let carries = carried_by(protocol);
     open_channel(ledger, pool, number, grant, link, carries);
-    let result = short_or(grant < size, 0x07, ignored);
+    let result = short_or(grant < size, Results::MODIFIED, ignored);
     tell_opened(out, d, result, number, link, bearer, grant)
 }

@@ -6,10 +6,13 @@ use responses::tell_received;
 use responses::tell_result;
 use responses::tell_sent;
 use responses::tell_statuses;
+use rules::Causes;
 use rules::ChannelNumber;
 use rules::Details;
 use rules::Events;
+use rules::Limits;
 use rules::Link;
+use rules::Results;
 use rules::Way;
 use rules::lists;
 use session::Channel;
@@ -41,9 +44,6 @@ ghost use Rattle.session.specs.Book.{entryIn};
 ghost use Rattle.session.specs.Changed.{Numbered, chanIn};
 ghost use Rattle.own.specs.Replies.{told, sentEntry, sentWhole};
 
-// The most bytes that an answer to RECEIVE DATA carries.
-const DATA_CAP: usize = 237;
-
 // The type of GET CHANNEL STATUS.
 const GET_CHANNEL_STATUS: u8 = 0x44;
 
@@ -52,9 +52,9 @@ pub fn plain(ignored: bool) -> u8
     ensures { λ r. ⌜ r ≡ plain ignored ⌝ }
 {
     if ignored {
-        return 0x01;
+        return Results::PARTLY_UNDERSTOOD;
     }
-    0x00
+    Results::PERFORMED
 }
 
 // The result of a command that was done: that for less than asked, if so, else the plain one.
@@ -112,7 +112,7 @@ pub fn list_events(
     ensures { λ r. ⌜ Answers (told d (listing (shown (now (ledger .entry)) (now (pool .entry))) (now (events .entry)) ignored)) (now (ledger .exit)) (now (pool .entry)) (Wrote r) (now (out .entry)) (now (out .exit)) ⌝ }
 {
     if !all_allowed(ledger, events) {
-        return tell_result(out, d, 0x30);
+        return tell_result(out, d, Results::BEYOND_CAPABILITIES);
     }
     let listed = Events {
         available: lists(events, 0x09),
@@ -136,7 +136,7 @@ pub fn close(
 {
     let c = entry(ledger, n);
     if c.grant < 1 {
-        return tell_problem(out, d, 0x03);
+        return tell_problem(out, d, Causes::CHANNEL_INVALID);
     }
     close_channel(ledger, pool, n, c.grant);
     tell_result(out, d, plain(ignored))
@@ -157,12 +157,17 @@ pub fn receive(
 {
     let c = entry(ledger, n);
     if c.grant < 1 {
-        return tell_problem(out, d, 0x03);
+        return tell_problem(out, d, Causes::CHANNEL_INVALID);
     }
     let held = c.rx as usize;
     let most = at_once(ledger, pool, n, c, Way::Receive);
-    let handed = least(request as usize, least(most, DATA_CAP));
-    let result = short_or(handed < request as usize, 0x02, ignored);
+    let handed = least(request as usize, least(most, Limits::DATA));
+    let result = short_or(
+        handed < request as usize,
+        Results::MISSING_INFORMATION,
+        ignored,
+    );
+    // The count that is told is the one behind the bytes, and they are told before they go, since they go from the pool to the buffer.
     let left = capped(held - handed);
     let at = start_of(ledger, n, c.grant, Way::Receive);
     let count = tell_received(out, d, result, pool, at, handed as u8, left);
@@ -245,19 +250,20 @@ pub fn send(
 {
     let c = entry(ledger, n);
     if c.grant < 1 {
-        return tell_problem(out, d, 0x03);
+        return tell_problem(out, d, Causes::CHANNEL_INVALID);
     }
     let link = c.link;
     if is_dropped(link) {
-        return tell_problem(out, d, 0x02);
+        return tell_problem(out, d, Causes::CHANNEL_CLOSED);
     }
     let room = (c.grant - c.tx) as usize;
     if room < bytes.len() {
-        return tell_problem(out, d, 0x04);
+        return tell_problem(out, d, Causes::SIZE_UNAVAILABLE);
     }
     if lacks_place(ledger, pool, n, c, bytes) {
-        return tell_problem(out, d, 0x04);
+        return tell_problem(out, d, Causes::SIZE_UNAVAILABLE);
     }
+    // The room that is told is the one behind the bytes; it is told before they are stored because the call is shorter so.
     let left = capped(room - bytes.len());
     let count = tell_sent(out, d, plain(ignored), left);
     let joined = sent_entry(c, d.qualifier, bytes.len());

@@ -3,6 +3,7 @@ use octets;
 use pool::Pool;
 use rules::ChannelNumber;
 use rules::Ended;
+use rules::Limits;
 use rules::Refusal;
 use rules::Way;
 use session::Answered;
@@ -34,12 +35,7 @@ ghost use Rattle.session.specs.Picture.{Good, GoodIn, carriesOf, shown, view};
 ghost use Rattle.session.specs.Calls.{Answers};
 ghost use Rattle.radio.specs.Permits.{permitIn, Usable, arrivalTold, dropTold};
 
-// The least buffer that an arrival or a drop is lent.
-const LEAST_BUFFER: usize = 16;
-
-// How many bytes event 09 has, and event 0A.
-const ARRIVAL_SIZE: usize = 16;
-
+// How many bytes event 0A has; event 09 has as many as the least buffer.
 const DROP_SIZE: usize = 13;
 
 // The entry of a channel that may be used by the radio, or R3, R4 or R5.
@@ -151,7 +147,7 @@ fn accept(
         return Ended::Wrote(0);
     }
     tell_arrival(out, n, bytes.len());
-    Ended::Wrote(ARRIVAL_SIZE)
+    Ended::Wrote(Limits::EVENT)
 }
 
 // The arrival call over the record's two arrays.
@@ -165,7 +161,7 @@ pub fn arrival_in(
     requires { ⌜ GoodIn (now ledger) (now pool) ⌝ }
     ensures { λ r. ⌜ Answers (arrival (shown (now (ledger .entry)) (now (pool .entry))) (length (now (out .entry))) n (now (bytes .entry))) (now (ledger .exit)) (now (pool .exit)) r (now (out .entry)) (now (out .exit)) ⌝ }
 {
-    if out.len() < LEAST_BUFFER {
+    if out.len() < Limits::EVENT {
         return Ended::Refused(Refusal::ShortBuffer);
     }
     match permitted(ledger, n) {
@@ -254,7 +250,7 @@ pub fn dropping_in(
     requires { ⌜ GoodIn (now ledger) (now pool) ⌝ }
     ensures { λ r. ⌜ Answers (dropping (shown (now (ledger .entry)) (now (pool .entry))) (length (now (out .entry))) n) (now (ledger .exit)) (now (pool .entry)) r (now (out .entry)) (now (out .exit)) ⌝ }
 {
-    if out.len() < LEAST_BUFFER {
+    if out.len() < Limits::EVENT {
         return Ended::Refused(Refusal::ShortBuffer);
     }
     match permitted(ledger, n) {

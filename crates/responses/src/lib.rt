@@ -4,6 +4,7 @@ use octets;
 use rules::ChannelNumber;
 use rules::Details;
 use rules::Link;
+use rules::Results;
 use session::Ledger;
 use session::entry;
 use session::link_of;
@@ -59,7 +60,7 @@ pub fn tell_problem(out: &mut [u8], d: Details, cause: u8) -> usize
         0x81,
         0x83,
         0x02,
-        0x3A,
+        Results::CHANNEL_PROBLEM,
         cause,
     ];
     octets::put(out, 0, &head);

@@ -7,6 +7,7 @@ use lib.ListN.{length}
 use lib.Dec.{ltb}
 use Rattle.rules.specs.declared.Details.{Details}
 use Rattle.rules.specs.Checks.{_⇒_else_, isEmpty}
+use Rattle.rules.specs.Results.{commandCap}
 use Rattle.rules.specs.Frames.{Object, ObjectRead, object, faulty, longLength, lengthAt, longTag, tagAt, valueAfter, afterTag, objectAt, fills, following, framed, contents}
 use Rattle.rules.specs.Table.{valueOf}
 use Rattle.rules.specs.Reading.{zeros, detailsIn, startsWithDetails}
@@ -30,7 +31,7 @@ packedDetails d = 0x10000 * d .number + 0x100 * d .kind + d .qualifier
 
 -- and R2, for bytes that are none or over 256
 unfoldable pub atHand : List ℕ → ℕ
-atHand s = isEmpty s || ltb 256 (length s) ⇒ 0x1000002 else packedDetails (detailsTold s)
+atHand s = isEmpty s || ltb commandCap (length s) ⇒ 0x1000002 else packedDetails (detailsTold s)
 
 -- RECEIVE DATA, number 1, qualifier 5; no byte; an outer length that says one more; no object; a first one that is cut, of length 2, of another number; a fault behind it
 pub at-hand-of :

@@ -10,8 +10,10 @@ use Rattle.rules.specs.declared.Link.the-variants.{NotYet, Established, 
 use Rattle.rules.specs.declared.Refusal.{Refusal}
 use Rattle.rules.specs.declared.Refusal.the-variants.{ShortBuffer, UnfitRecord, NoResponse}
 use Rattle.rules.specs.Checks.{_⇒_else_, isEmpty, member, same}
+use Rattle.rules.specs.Results.{performed, partlyUnderstood, missingInformation, modified, beyondCapabilities, typeNotUnderstood, dataNotUnderstood, valuesMissing, channelProblem, noChannel, channelClosed, channelInvalid, sizeUnavailable, levelUnavailable, commandCap, dataCap, valueCap, countCap}
 use Rattle.rules.specs.Frames.{Object, walk, frame}
 use Rattle.rules.specs.Table.{known}
+use Rattle.rules.specs.Pool.{grantCap}
 use Rattle.rules.specs.State.{isDropped}
 use Rattle.rules.specs.Reading.{Bearer, Transport, Body, Command, bare, eventList, openChannel, closeChannel, receiveData, sendData, kindOf, detailsOf, detailsIn, pairIn, bearerIn, addressed}
 use Rattle.rules.specs.Own.{bareTypes, Status, Report, Further, Result, statuses, nothing, opened, received, sent, reports, error, problem, done}
@@ -26,11 +28,11 @@ bearerProper b =
 -- the values are such as the bench writes
 unfoldable pub bodyProper : Body → Bool
 bodyProper (bare t) = member t bareTypes
-bodyProper (eventList es) = leb (length es) 241
+bodyProper (eventList es) = leb (length es) valueCap
 bodyProper (openChannel b size t) = bearerProper b
 bodyProper closeChannel = true
 bodyProper (receiveData n) = true
-bodyProper (sendData s) = leb (length s) 241
+bodyProper (sendData s) = leb (length s) valueCap
 
 -- a transport level as an object, flag clear, where there is one
 unfoldable pub transportObjects : Option Transport → List Object
@@ -56,7 +58,7 @@ commandObjects c =
 -- the bench writer, with a buffer of so many bytes
 unfoldable pub benchWrite : ℕ → Command → Outcome
 benchWrite buffer c =
-    ltb buffer 256 ⇒ refused ShortBuffer else
+    ltb buffer commandCap ⇒ refused ShortBuffer else
     not (addressed (kindOf (c .body)) (c .source) (c .destination)) ⇒ refused UnfitRecord else
     not (bodyProper (c .body)) ⇒ refused UnfitRecord else
     wrote (frame (commandObjects c))
@@ -64,26 +66,26 @@ benchWrite buffer c =
 -- results by type: 30 for the seven; 31 for others; 32 any; 36 for the seven or zero details
 unfoldable pub errorProper : Details → ℕ → Bool
 errorProper d e =
-    eqb e 0x30 ⇒ known (d .kind) else
-    eqb e 0x31 ⇒ not (known (d .kind)) else
-    eqb e 0x32 ⇒ true else
-    eqb e 0x36 ⇒ known (d .kind) || same (detailsBytes d) (0 ∷ 0 ∷ 0 ∷ []) else
+    eqb e beyondCapabilities ⇒ known (d .kind) else
+    eqb e typeNotUnderstood ⇒ not (known (d .kind)) else
+    eqb e dataNotUnderstood ⇒ true else
+    eqb e valuesMissing ⇒ known (d .kind) || same (detailsBytes d) (0 ∷ 0 ∷ 0 ∷ []) else
     false
 
 -- causes: 40 has 01, 04, 06; 41 and 42 have 03; 43 has 02, 03, 04
 unfoldable pub causeProper : ℕ → ℕ → Bool
 causeProper t cause =
-    eqb t 0x40 ⇒ member cause (0x01 ∷ 0x04 ∷ 0x06 ∷ []) else
-    eqb t 0x41 || eqb t 0x42 ⇒ eqb cause 0x03 else
-    eqb t 0x43 ⇒ member cause (0x02 ∷ 0x03 ∷ 0x04 ∷ []) else
+    eqb t 0x40 ⇒ member cause (noChannel ∷ sizeUnavailable ∷ levelUnavailable ∷ []) else
+    eqb t 0x41 || eqb t 0x42 ⇒ eqb cause channelInvalid else
+    eqb t 0x43 ⇒ member cause (channelClosed ∷ channelInvalid ∷ sizeUnavailable ∷ []) else
     false
 
 -- 00 and 01 for the seven; 02 only for 42; 07 only for 40
 unfoldable pub successProper : ℕ → ℕ → Bool
 successProper t r =
-    eqb r 0x00 || eqb r 0x01 ⇒ known t else
-    eqb r 0x02 ⇒ eqb t 0x42 else
-    eqb r 0x07 ⇒ eqb t 0x40 else
+    eqb r performed || eqb r partlyUnderstood ⇒ known t else
+    eqb r missingInformation ⇒ eqb t 0x42 else
+    eqb r modified ⇒ eqb t 0x40 else
     false
 
 -- the statuses rise, above n and up to 7
@@ -102,9 +104,9 @@ reportProper t (statuses ss) = eqb t 0x44 && rising 0 ss
 unfoldable pub furtherProper : ℕ → Further → Bool
 furtherProper t nothing = member t unfollowed
 furtherProper t (opened s b g) =
-    eqb t 0x40 && rising 0 (s ∷ []) && not (isDropped (s .link)) && bearerProper b && leb 1 g && leb g 1500
-furtherProper t (received s left) = eqb t 0x42 && leb (length s) 237 && leb left 255
-furtherProper t (sent room) = eqb t 0x43 && leb room 255
+    eqb t 0x40 && rising 0 (s ∷ []) && not (isDropped (s .link)) && bearerProper b && leb 1 g && leb g grantCap
+furtherProper t (received s left) = eqb t 0x42 && leb (length s) dataCap && leb left countCap
+furtherProper t (sent room) = eqb t 0x43 && leb room countCap
 furtherProper t (reports r) = reportProper t r
 
 unfoldable pub resultProper : Details → Result → Bool
@@ -146,8 +148,8 @@ furtherIn t os =
 -- what the result's bytes and the objects after it say
 unfoldable pub resultIn : ℕ → List ℕ → List Object → Result
 resultIn t v os =
-    eqb (getD v 0 0) 0x3A ⇒ problem (getD v 1 0) else
-    member (getD v 0 0) (0x00 ∷ 0x01 ∷ 0x02 ∷ 0x07 ∷ []) ⇒ done (getD v 0 0) (furtherIn t os) else
+    eqb (getD v 0 0) channelProblem ⇒ problem (getD v 1 0) else
+    member (getD v 0 0) (performed ∷ partlyUnderstood ∷ missingInformation ∷ modified ∷ []) ⇒ done (getD v 0 0) (furtherIn t os) else
     error (getD v 0 0)
 
 -- the only response whose form the bytes can be

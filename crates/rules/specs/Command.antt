@@ -9,6 +9,7 @@ use Rattle.rules.specs.declared.Ended.the-variants.{Wrote, Refused}
 use Rattle.rules.specs.declared.Refusal.{Refusal}
 use Rattle.rules.specs.declared.Refusal.the-variants.{ShortBuffer, CommandSize}
 use Rattle.rules.specs.Checks.{_⇒_else_, isEmpty}
+use Rattle.rules.specs.Results.{responseCap, commandCap}
 use Rattle.rules.specs.State.{State}
 use Rattle.rules.specs.Reading.{Reading, wrong, asked, reading, detailsOf}
 use Rattle.rules.specs.Own.{error, own}
@@ -63,6 +64,6 @@ lending n = record { buffer = n }
 unfoldable pub command : State → Terms → List ℕ → Answer
 command a terms s =
     let m = meantBy a (reading (a .profile) s) in
-    ltb (terms .buffer) 255 ⇒ refusal a ShortBuffer else
-    isEmpty s || ltb 256 (length s) ⇒ refusal a CommandSize else
+    ltb (terms .buffer) responseCap ⇒ refusal a ShortBuffer else
+    isEmpty s || ltb commandCap (length s) ⇒ refusal a CommandSize else
     answered (m .state) (responseBytes (m .response))

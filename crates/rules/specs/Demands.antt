@@ -7,6 +7,7 @@ use mathlib.Core.Option.{Option, none, some}
 use lib.ListN.{length}
 use lib.Dec.{leb, eqb}
 use Rattle.rules.specs.Checks.{_⇒_else_, isEmpty, member}
+use Rattle.rules.specs.Results.{responseCap, commandCap}
 use Rattle.rules.specs.declared.ChannelNumber.{ChannelNumber}
 use Rattle.rules.specs.declared.Events.{Events}
 use Rattle.rules.specs.declared.Way.{Way}
@@ -125,8 +126,8 @@ crowdedBy h Send s = not (isStream (h .carries)) && not (isEmpty s) && isEmpty (
 
 -- a command passed steps 1 to 8: the buffer and the bytes have their sizes, and with that profile the bytes are read as the command c
 pub record Passed (p : List ℕ) (terms : Terms) (s : List ℕ) (c : Command) (ignored : Bool) : Type 0 where
-  pub roomy : 255 ≤ terms .buffer
-  pub few : length s ≤ 256
+  pub roomy : responseCap ≤ terms .buffer
+  pub few : length s ≤ commandCap
   pub read : reading p s ≡ asked c ignored
 
 -- the cells that the grants told promise, both ways, to so many channels from number k on

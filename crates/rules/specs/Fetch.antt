@@ -9,6 +9,7 @@ use Rattle.rules.specs.declared.Refusal.the-variants.{ShortBuffer, Comma
 use Rattle.rules.specs.declared.Stage.{Stage}
 use Rattle.rules.specs.declared.Stage.the-variants.{Lacks, Overlong, Decided}
 use Rattle.rules.specs.Checks.{_⇒_else_, isEmpty, same}
+use Rattle.rules.specs.Results.{responseCap, commandCap}
 use Rattle.rules.specs.Words.{numberOf}
 use Rattle.rules.specs.Frames.{LengthRead, len, noLength, longLength, lengthAt, framed}
 use Rattle.rules.specs.State.{State}
@@ -22,7 +23,7 @@ lengthToCome s = isEmpty s || same s (0x81 ∷ [])
 unfoldable pub lackingBy : ℕ → ℕ → Stage
 lackingBy k m =
     eqb m 0 ⇒ Decided else
-    ltb 256 (k + m) ⇒ Overlong else
+    ltb commandCap (k + m) ⇒ Overlong else
     Lacks m
 
 -- k bytes with this length
@@ -62,7 +63,7 @@ stage-of = refl
 pub record Lacking (n : ℕ) (s : List ℕ) : Type 0 where
   pub further : List ℕ
   pub whole : framed (s ++ further) ≡ true
-  pub within : length (s ++ further) ≤ 256
+  pub within : length (s ++ further) ≤ commandCap
   pub some : 1 ≤ n
   pub least : (t : List ℕ) → length t < n → framed (s ++ t) ≡ false
 
@@ -70,7 +71,7 @@ pub record Lacking (n : ℕ) (s : List ℕ) : Type 0 where
 pub record TooLong (s : List ℕ) : Type 0 where
   pub further : List ℕ
   pub whole : framed (s ++ further) ≡ true
-  pub past : (t : List ℕ) → framed (s ++ t) ≡ true → 256 < length (s ++ t)
+  pub past : (t : List ℕ) → framed (s ++ t) ≡ true → commandCap < length (s ++ t)
 
 -- what a stage means; where it is decided, these bytes with any behind them are no command
 abbrev pub Means : Stage → List ℕ → Type 0
@@ -112,7 +113,7 @@ burst a terms g (b ∷ s) = goesOn (oneMore a terms g b) s (λ (h : List ℕ). b
 -- the fetch call; with R1 the burst is not taken
 unfoldable pub fetch : State → Terms → List ℕ → List ℕ → Fetched
 fetch a terms g s =
-    ltb (terms .buffer) 255 ⇒ record { answer = refusal a ShortBuffer; gathered = g; left = s } else
+    ltb (terms .buffer) responseCap ⇒ record { answer = refusal a ShortBuffer; gathered = g; left = s } else
     burst a terms g s
 
 -- a turn of the host: the terms of its burst, and how many of the bytes not yet taken it hands in

@@ -1,5 +1,6 @@
 -- The rules of document 01, a file for each of its sections, in its order.
 pub mod Checks
+pub mod Results
 pub mod Words
 pub mod Frames
 pub mod TagForms

@@ -13,6 +13,7 @@ use Rattle.rules.specs.declared.Link.{Link}
 use Rattle.rules.specs.declared.Link.the-variants.{NotYet, Established}
 use Rattle.rules.specs.declared.Way.the-variants.{Receive, Send}
 use Rattle.rules.specs.Checks.{_⇒_else_, every, member}
+use Rattle.rules.specs.Results.{performed, partlyUnderstood, missingInformation, modified, beyondCapabilities, noChannel, channelClosed, channelInvalid, sizeUnavailable, levelUnavailable, dataCap, countCap}
 use Rattle.rules.specs.Words.{channelOf}
 use Rattle.rules.specs.Profile.{allowsEvent, allowsBearer, channels}
 use Rattle.rules.specs.State.{State, Chan, closed, isDropped, isOpen, chan, withChan, held, room, atOnce, fresh, appended, removed, readied, crowded}
@@ -60,11 +61,11 @@ bit1-of = refl
 
 -- counts are told up to FF
 unfoldable pub capped : ℕ → ℕ
-capped n = min n 255
+capped n = min n countCap
 
 -- 01 if an unexpected object was ignored, else 00
 unfoldable pub plain : Bool → ℕ
-plain ignored = ignored ⇒ 0x01 else 0x00
+plain ignored = ignored ⇒ partlyUnderstood else performed
 
 -- the state with another event list
 unfoldable pub listed : State → List ℕ → State
@@ -74,7 +75,7 @@ listed a es =
 -- 05: each value is 09 or 0A and allowed, or the list stays; it replaces the old one
 unfoldable pub listing : State → List ℕ → Bool → Reply
 listing a es ignored =
-    not (every (allowsEvent (a .profile)) es) ⇒ reply a (error 0x30) else
+    not (every (allowsEvent (a .profile)) es) ⇒ reply a (error beyondCapabilities) else
     reply (listed a es) (done (plain ignored) nothing)
 
 -- the protocol of a channel: that of its transport level, or TCP, 02, where none stands
@@ -103,29 +104,29 @@ opening a q b size protocol ignored =
     let g = grantFor size (unpromised a) in
     let number : ChannelNumber = record { 0 = k + 1 } in
     let link = bit1 q ⇒ Established else NotYet in
-    not (allowsBearer (a .profile) (b .kind)) ⇒ reply a (error 0x30) else
-    not (served protocol) ⇒ reply a (problem 0x06) else
-    eqb size 0 ⇒ reply a (problem 0x04) else
-    eqb k n ⇒ reply a (problem 0x01) else
-    ltb (unpromised a) 2 ⇒ reply a (problem 0x04) else
+    not (allowsBearer (a .profile) (b .kind)) ⇒ reply a (error beyondCapabilities) else
+    not (served protocol) ⇒ reply a (problem levelUnavailable) else
+    eqb size 0 ⇒ reply a (problem sizeUnavailable) else
+    eqb k n ⇒ reply a (problem noChannel) else
+    ltb (unpromised a) 2 ⇒ reply a (problem sizeUnavailable) else
     reply (withChan a number (fresh g link (carriedBy protocol)))
-    (done (ltb g size ⇒ 0x07 else plain ignored) (opened (record { number = number; link = link }) b g))
+    (done (ltb g size ⇒ modified else plain ignored) (opened (record { number = number; link = link }) b g))
 
 -- 41: the channel ends, held bytes are discarded
 unfoldable pub closing : State → ChannelNumber → Bool → Reply
 closing a n ignored =
-    not (isOpen (chan a n)) ⇒ reply a (problem 0x03) else
+    not (isOpen (chan a n)) ⇒ reply a (problem channelInvalid) else
     reply (withChan a n closed) (done (plain ignored) nothing)
 
 -- 42: hands out the least of the request, what may be handed out at once and 237; 02 if fewer than asked
 unfoldable pub receiving : State → ChannelNumber → ℕ → Bool → Reply
 receiving a n request ignored =
     let c = chan a n in
-    let k = min request (min (atOnce c Receive) 237) in
+    let k = min request (min (atOnce c Receive) dataCap) in
     let after = removed c Receive k in
-    not (isOpen c) ⇒ reply a (problem 0x03) else
+    not (isOpen c) ⇒ reply a (problem channelInvalid) else
     reply (withChan a n after)
-    (done (ltb k request ⇒ 0x02 else plain ignored) (received (take k (held c Receive)) (capped (length (held after Receive)))))
+    (done (ltb k request ⇒ missingInformation else plain ignored) (received (take k (held c Receive)) (capped (length (held after Receive)))))
 
 -- 43: stores; with qualifier bit 1 set all bytes held are ready and the link is established
 unfoldable pub sending : State → ℕ → ChannelNumber → List ℕ → Bool → Reply
@@ -133,10 +134,10 @@ sending a q n s ignored =
     let c = chan a n in
     let joins = appended c Send s in
     let after = bit1 q ⇒ readied joins else joins in
-    not (isOpen c) ⇒ reply a (problem 0x03) else
-    isDropped (c .link) ⇒ reply a (problem 0x02) else
-    ltb (room c Send) (length s) ⇒ reply a (problem 0x04) else
-    crowded c Send s ⇒ reply a (problem 0x04) else
+    not (isOpen c) ⇒ reply a (problem channelInvalid) else
+    isDropped (c .link) ⇒ reply a (problem channelClosed) else
+    ltb (room c Send) (length s) ⇒ reply a (problem sizeUnavailable) else
+    crowded c Send s ⇒ reply a (problem sizeUnavailable) else
     reply (withChan a n after) (done (plain ignored) (sent (capped (room after Send))))
 
 -- a status for each open channel, rising; numbers are counted from n

@@ -8,6 +8,7 @@ use Rattle.rules.specs.declared.ChannelNumber.{ChannelNumber}
 use Rattle.rules.specs.declared.Refusal.the-variants.{ShortBuffer, NoChannel, Unopened, Unlinked, Overfull, NoPlace, Undersized}
 use Rattle.rules.specs.declared.Way.the-variants.{Receive, Send}
 use Rattle.rules.specs.Checks.{_⇒_else_, isEmpty}
+use Rattle.rules.specs.Results.{eventCap}
 use Rattle.rules.specs.State.{State, isEstablished, isStream, isOpen, chan, withChan, held, room, atOnce, appended, arrived, removed, dropped, crowded}
 use Rattle.rules.specs.Own.{capped}
 use Rattle.rules.specs.Written.{unflagged, statusObject, eventBytes}
@@ -28,7 +29,7 @@ arrivalEvent a n s =
 unfoldable pub arrival : State → ℕ → ChannelNumber → List ℕ → Answer
 arrival a buffer n s =
     let c = chan a n in
-    ltb buffer 16 ⇒ refusal a ShortBuffer else
+    ltb buffer eventCap ⇒ refusal a ShortBuffer else
     not (numbered n) ⇒ refusal a NoChannel else
     not (isOpen c) ⇒ refusal a Unopened else
     not (isEstablished (c .link)) ⇒ refusal a Unlinked else
@@ -58,7 +59,7 @@ dropEvent a n =
 unfoldable pub dropping : State → ℕ → ChannelNumber → Answer
 dropping a buffer n =
     let c = chan a n in
-    ltb buffer 16 ⇒ refusal a ShortBuffer else
+    ltb buffer eventCap ⇒ refusal a ShortBuffer else
     not (numbered n) ⇒ refusal a NoChannel else
     not (isOpen c) ⇒ refusal a Unopened else
     not (isEstablished (c .link)) ⇒ refusal a Unlinked else

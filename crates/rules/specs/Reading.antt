@@ -10,6 +10,7 @@ use Rattle.rules.specs.declared.DeviceIdentity.{DeviceIdentity}
 use Rattle.rules.specs.declared.Ending.{Ending}
 use Rattle.rules.specs.declared.Ending.the-variants.{End, BadTag, BadLength, CutValue}
 use Rattle.rules.specs.Checks.{_⇒_else_, isEmpty, some-of, member}
+use Rattle.rules.specs.Results.{beyondCapabilities, typeNotUnderstood, dataNotUnderstood, valuesMissing}
 use Rattle.rules.specs.Frames.{Object, walk, framed, contents}
 use Rattle.rules.specs.Table.{rowOf, known, sift, present, valueOf, complete, measured}
 use Rattle.rules.specs.Profile.{allowsType}
@@ -133,25 +134,25 @@ readObjects p s =
     let o = sift r [] (w .objects) in
     let c = commandIn d (o .counting) in
     -- 3
-    isEmpty s ⇒ wrong zeros 0x36 else
-    isEmpty (w .objects) ⇒ wrong zeros 0x32 else
-    not (startsWithDetails (w .objects)) ⇒ wrong zeros 0x36 else
+    isEmpty s ⇒ wrong zeros valuesMissing else
+    isEmpty (w .objects) ⇒ wrong zeros dataNotUnderstood else
+    not (startsWithDetails (w .objects)) ⇒ wrong zeros valuesMissing else
     -- 4
-    isFault (w .ending) ⇒ wrong d 0x32 else
+    isFault (w .ending) ⇒ wrong d dataNotUnderstood else
     -- 5
-    not (known (d .kind)) ⇒ wrong d 0x31 else
-    not (allowsType p d) ⇒ wrong d 0x30 else
+    not (known (d .kind)) ⇒ wrong d typeNotUnderstood else
+    not (allowsType p d) ⇒ wrong d beyondCapabilities else
     -- 6
-    some-of (λ (x : Object). x .flag) (o .unexpected) ⇒ wrong d 0x32 else
+    some-of (λ (x : Object). x .flag) (o .unexpected) ⇒ wrong d dataNotUnderstood else
     -- 7
-    not (complete r (o .counting)) ⇒ wrong d 0x36 else
-    not (measured (o .counting)) ⇒ wrong d 0x32 else
+    not (complete r (o .counting)) ⇒ wrong d valuesMissing else
+    not (measured (o .counting)) ⇒ wrong d dataNotUnderstood else
     -- 8
-    not (addressed (d .kind) (c .source) (c .destination)) ⇒ wrong d 0x32 else
+    not (addressed (d .kind) (c .source) (c .destination)) ⇒ wrong d dataNotUnderstood else
     asked c (not (isEmpty (o .unexpected)))
 
 -- step 2, and then the objects
 unfoldable pub reading : List ℕ → List ℕ → Reading
 reading p s =
-    not (framed s) ⇒ wrong zeros 0x32 else
+    not (framed s) ⇒ wrong zeros dataNotUnderstood else
     readObjects p (contents s)

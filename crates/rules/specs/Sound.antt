@@ -6,6 +6,7 @@ use mathlib.Core.List.{List, [], _∷_}
 use lib.ListN.{length}
 use Rattle.rules.specs.declared.Way.{Way}
 use Rattle.rules.specs.declared.Way.the-variants.{Send}
+use Rattle.rules.specs.Results.{responseCap, eventCap}
 use Rattle.rules.specs.State.{State, Chan, isStream, queue, held, due, placesUsed}
 use Rattle.rules.specs.Profile.{profileSize}
 use Rattle.rules.specs.Datagrams.{placeCount, total}
@@ -42,13 +43,13 @@ pub record Sound (a : State) : Type 0 where
 
 -- the most bytes that a call writes: 255 for a response, 16 for an event, as many as are asked for by a take
 abbrev pub radioMost : ℕ → RadioAct → ℕ
-radioMost buffer (arrives s) = 16
+radioMost buffer (arrives s) = eventCap
 radioMost buffer takes = buffer
-radioMost buffer drops = 16
+radioMost buffer drops = eventCap
 
 abbrev pub most : Call → ℕ
 most (starting p) = 0
-most (commanding terms s) = 255
+most (commanding terms s) = responseCap
 most (radio buffer n act) = radioMost buffer act
 
 -- an outcome of at most so many bytes

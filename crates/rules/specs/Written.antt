@@ -7,6 +7,7 @@ use Rattle.rules.specs.declared.ChannelNumber.{ChannelNumber}
 use Rattle.rules.specs.declared.Details.{Details}
 use Rattle.rules.specs.declared.Link.{Link}
 use Rattle.rules.specs.declared.Link.the-variants.{NotYet, Established, Dropped}
+use Rattle.rules.specs.Results.{channelProblem}
 use Rattle.rules.specs.Frames.{Object, written, lengthBytes}
 use Rattle.rules.specs.Reading.{Bearer}
 use Rattle.rules.specs.Own.{Status, Report, Further, Result, statuses, nothing, opened, received, sent, reports, error, problem, done}
@@ -57,7 +58,7 @@ furtherObjects (reports r) = reportObjects r
 -- the result's own bytes: 3A has its cause
 unfoldable pub resultBytes : Result → List ℕ
 resultBytes (error e) = e ∷ []
-resultBytes (problem cause) = 0x3A ∷ cause ∷ []
+resultBytes (problem cause) = channelProblem ∷ cause ∷ []
 resultBytes (done r f) = r ∷ []
 
 unfoldable pub resultObjects : Result → List Object

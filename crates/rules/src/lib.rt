@@ -12,6 +12,59 @@ pub struct Details {
     pub qualifier: u8,
 }
 
+// The results that a response tells, by the names of TS 102 223.
+pub struct Results {}
+
+impl Results {
+    pub const PERFORMED: u8 = 0x00;
+
+    pub const PARTLY_UNDERSTOOD: u8 = 0x01;
+
+    pub const MISSING_INFORMATION: u8 = 0x02;
+
+    pub const MODIFIED: u8 = 0x07;
+
+    pub const BEYOND_CAPABILITIES: u8 = 0x30;
+
+    pub const TYPE_NOT_UNDERSTOOD: u8 = 0x31;
+
+    pub const DATA_NOT_UNDERSTOOD: u8 = 0x32;
+
+    pub const VALUES_MISSING: u8 = 0x36;
+
+    pub const CHANNEL_PROBLEM: u8 = 0x3A;
+}
+
+// The causes of a problem, result 3A.
+pub struct Causes {}
+
+impl Causes {
+    pub const NO_CHANNEL: u8 = 0x01;
+
+    pub const CHANNEL_CLOSED: u8 = 0x02;
+
+    pub const CHANNEL_INVALID: u8 = 0x03;
+
+    pub const SIZE_UNAVAILABLE: u8 = 0x04;
+
+    pub const LEVEL_UNAVAILABLE: u8 = 0x06;
+}
+
+// The sizes that the paper sets, in bytes: the least buffer of a response and of an event, and the most of a command, of data handed out and of a value that the bench writes.
+pub struct Limits {}
+
+impl Limits {
+    pub const RESPONSE: usize = 255;
+
+    pub const EVENT: usize = 16;
+
+    pub const COMMAND: usize = 256;
+
+    pub const DATA: usize = 237;
+
+    pub const VALUE: usize = 241;
+}
+
 // The refusals R1 to R9, R11 and R12, by their numbers.
 pub enum Refusal {
     ShortBuffer,
