@@ -329,7 +329,7 @@ struct Sorted {
 }
 
 // What was found, from where the first value of each slot starts.
-fn gather(starts: &[u16; 72], row: Row, survey: Survey, whole: bool) -> Sorted
+fn sum_up(starts: &[u16; 72], row: Row, survey: Survey, whole: bool) -> Sorted
     requires { ⌜ (length (now starts) ≡ slots) × (row .own < slots) × (row .further < slots) ⌝ }
     ensures { λ r. ⌜ r ≡ sortedBy (now (starts .entry)) row survey whole ⌝ }
 {
@@ -378,7 +378,7 @@ fn go_through(s: &[u8], row: Row, first: usize) -> Sorted
             Found::Fault(_) => break false,
         }
     };
-    gather(&starts, row, survey, whole)
+    sum_up(&starts, row, survey, whole)
 }
 
 // Where a command's objects start, or that its outer frame is wrong.

@@ -32,7 +32,7 @@ use Rattle.command.specs.declared.Request.{Request}
 use Rattle.command.specs.Plans.{handles}
 use Rattle.command.specs.Requests as requests
 use Rattle.command.specs.Requests.{AskedFor, Opens, BodyIs, sizeAt, protocolAt, theDetails, theObjects, theCommand}
-use Rattle.responses.specs.Stands.{response, Stands}
+use Rattle.responses.specs.Filled.{response, Filled}
 use Rattle.own.specs.Replies.{told}
 use Rattle.own.proofs.Replies.{left-answers}
 use Rattle.modem.specs.Obeyed.{obeyed}
@@ -45,7 +45,7 @@ as-obeyed x y t p e before after q w = subst (λ (z : Answer). Answers z t p e b
 -- an error of the reading is told with its details
 pub wrong-answers :
     (t p s : List ℕ) (d : Details) (e k : ℕ) (before after : List ℕ) → GoodIn t p → readObjects (part 0 profileSize t) s ≡ wrong d e →
-    Stands (response d (error e)) k before after → Answers (obeyed (shown t p) s) t p (Wrote k) before after
+    Filled (response d (error e)) k before after → Answers (obeyed (shown t p) s) t p (Wrote k) before after
 unfolding obeyed shown meantBy
 wrong-answers t p s d e k before after g h w =
     as-obeyed (obeyed (shown t p) s) (told d (reply (shown t p) (error e))) t p (Wrote k) before after

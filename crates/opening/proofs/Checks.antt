@@ -32,7 +32,7 @@ use Rattle.session.specs.Picture.{GoodIn, shown}
 use Rattle.session.specs.Calls.{Answers}
 use Rattle.session.specs.Changed.{Numbered, chanIn, Changed}
 use Rattle.session.proofs.Facts.{place, unpromised-kept}
-use Rattle.responses.specs.Stands.{response, Stands}
+use Rattle.responses.specs.Filled.{response, Filled}
 use Rattle.own.specs.Replies.{told}
 use Rattle.opening.specs.Unused.{openFrom}
 use Rattle.opening.proofs.Unused.{open-shown}
@@ -129,12 +129,12 @@ module _ (t p : List ℕ) (g : GoodIn t p) (d : Details) (v : List ℕ) (size pr
   unfolding shown bearerIn
   served-is = ap not (front-bearer t (getD v 0 0) ∙ sym bearer)
 
-  pub unserved : not x ≡ true → Stands (response d (error 0x30)) count before after → answer t p
+  pub unserved : not x ≡ true → Filled (response d (error 0x30)) count before after → answer t p
   unfolding opening
   unserved e w = left-answers d all (error 0x30) t p count before after (stop _ _ _ (served-is ∙ e)) g w
 
   module _ (s : not x ≡ false) where
-    pub uncarried : (y₁ : Bool) → y₁ ≡ served protocol → not y₁ ≡ true → Stands (response d (problem 0x06)) count before after → answer t p
+    pub uncarried : (y₁ : Bool) → y₁ ≡ served protocol → not y₁ ≡ true → Filled (response d (problem 0x06)) count before after → answer t p
     unfolding opening
     uncarried y₁ q e w = left-answers d all (problem 0x06) t p count before after (skip _ _ _ (served-is ∙ s) ∙ stop _ _ _ (ap not (sym q) ∙ e)) g w
 
@@ -142,7 +142,7 @@ module _ (t p : List ℕ) (g : GoodIn t p) (d : Details) (v : List ℕ) (size pr
       carried : not (served protocol) ≡ false
       carried = ap not (sym q) ∙ c
 
-      pub sizeless : size < 1 → Stands (response d (problem 0x04)) count before after → answer t p
+      pub sizeless : size < 1 → Filled (response d (problem 0x04)) count before after → answer t p
       unfolding opening
       sizeless e w =
           left-answers d all (problem 0x04) t p count before after
@@ -152,7 +152,7 @@ module _ (t p : List ℕ) (g : GoodIn t p) (d : Details) (v : List ℕ) (size pr
         asked : eqb size 0 ≡ false
         asked = ne-eqb size 0 (λ e. omega arith)
 
-        pub numberless : k ≡ n → Stands (response d (problem 0x01)) count before after → answer t p
+        pub numberless : k ≡ n → Filled (response d (problem 0x01)) count before after → answer t p
         unfolding opening
         numberless e w =
             left-answers d all (problem 0x01) t p count before after
@@ -160,7 +160,7 @@ module _ (t p : List ℕ) (g : GoodIn t p) (d : Details) (v : List ℕ) (size pr
             ∙ stop _ _ _ (eq-eqb _ _ (sym (number-is t p g n k en ek) ∙ e ∙ channels-is t p g n k en ek))) g w
 
         module _ (u : k ≡ n → ⊥) (f : ℕ) (ef : f ≡ freeIn t) where
-          pub cellless : f < 2 → Stands (response d (problem 0x04)) count before after → answer t p
+          pub cellless : f < 2 → Filled (response d (problem 0x04)) count before after → answer t p
           unfolding opening
           cellless e w =
               left-answers d all (problem 0x04) t p count before after
@@ -186,7 +186,7 @@ module _ (t p : List ℕ) (g : GoodIn t p) (d : Details) (v : List ℕ) (size pr
 
             pub open-done :
                 (m r : List ℕ) (j : Carries) → 2 ≤ f → j ≡ carriedBy protocol → Changed t p (record { 0 = k + 1 }) (fresh w link j) m r →
-                Stands (response d (done y (opened (record { number = record { 0 = k + 1 }; link = link }) (bearerIn v) w))) count before after →
+                Filled (response d (done y (opened (record { number = record { 0 = k + 1 }; link = link }) (bearerIn v) w))) count before after →
                 answer m r
             open-done m r j e kind h stands =
                 let grant = granted t p g f ef size w ew in

@@ -20,7 +20,7 @@ use Rattle.session.specs.Picture.{Shows, GoodIn, shown}
 use Rattle.session.specs.Calls.{Answers}
 use Rattle.session.specs.Changed.{withEvents}
 use Rattle.session.proofs.Facts.{list-law}
-use Rattle.responses.specs.Stands.{response, Stands}
+use Rattle.responses.specs.Filled.{response, Filled}
 use Rattle.own.specs.Replies.{told}
 use Rattle.own.proofs.Replies.{told-answers, left-answers, plain-stands}
 
@@ -35,13 +35,13 @@ module _ (t p es : List ℕ) (i : Bool) (all : Bool) (f : all ≡ every (allowsE
   unfolding shown
   allowed-is = f ∙ sym (ap (λ (h : ℕ → Bool). every h es) (λ j e. front-event t e j))
 
-  pub list-forbidden : all ≡ false → Stands (response d (error 0x30)) k before after → Answers (told d (listing (shown t p) es i)) t p (Wrote k) before after
+  pub list-forbidden : all ≡ false → Filled (response d (error 0x30)) k before after → Answers (told d (listing (shown t p) es i)) t p (Wrote k) before after
   unfolding listing
   list-forbidden e w = left-answers d _ (error 0x30) t p k before after (stop _ _ _ (ap not (sym allowed-is ∙ e))) g w
 
   pub list-done :
       (x : ℕ) (e : Events) (u : List ℕ) → all ≡ true → e .available ≡ member 0x09 es → e .status ≡ member 0x0A es →
-      u ≡ withList t e → x ≡ plain i → Stands (response d (error x)) k before after →
+      u ≡ withList t e → x ≡ plain i → Filled (response d (error x)) k before after →
       Answers (told d (listing (shown t p) es i)) u p (Wrote k) before after
   unfolding listing listed
   list-done x e u q y z s m w =

@@ -28,13 +28,13 @@ use Rattle.session.specs.Calls.{Answers}
 use Rattle.session.specs.Changed.{Numbered, Changed}
 use Rattle.session.proofs.Facts.{place, entry-is, held-read}
 use Rattle.session.proofs.Views.{shows-good}
-use Rattle.responses.specs.Stands.{response, Stands}
+use Rattle.responses.specs.Filled.{response, Filled}
 use Rattle.own.specs.Replies.{told}
 
 -- a reply with this state, which is sound and shown by the session, and this result, which stands in the buffer
 pub told-answers :
     (d : Details) (r : Reply) (b : State) (x : Result) (t p : List ℕ) (k : ℕ) (before after : List ℕ) → r ≡ reply b x →
-    Sound b → Shows b t p → Stands (response d x) k before after → Answers (told d r) t p (Wrote k) before after
+    Sound b → Shows b t p → Filled (response d x) k before after → Answers (told d r) t p (Wrote k) before after
 unfolding endedOf writtenBy
 told-answers d r b x t p k before after e h s w =
     subst (λ (y : Reply). Answers (told d y) t p (Wrote k) before after) (sym e)
@@ -43,21 +43,21 @@ told-answers d r b x t p k before after e h s w =
 -- a reply that leaves the session
 pub left-answers :
     (d : Details) (r : Reply) (x : Result) (t p : List ℕ) (k : ℕ) (before after : List ℕ) → r ≡ reply (shown t p) x → GoodIn t p →
-    Stands (response d x) k before after → Answers (told d r) t p (Wrote k) before after
+    Filled (response d x) k before after → Answers (told d r) t p (Wrote k) before after
 left-answers d r x t p k before after e g w = told-answers d r (shown t p) x t p k before after e (g .sound) (g .shows) w
 
 -- a result that nothing follows has the bytes of an error
 pub plain-stands :
-    (d : Details) (x : ℕ) (i : Bool) (k : ℕ) (before after : List ℕ) → x ≡ plain i → Stands (response d (error x)) k before after →
-    Stands (response d (done (plain i) nothing)) k before after
+    (d : Details) (x : ℕ) (i : Bool) (k : ℕ) (before after : List ℕ) → x ≡ plain i → Filled (response d (error x)) k before after →
+    Filled (response d (done (plain i) nothing)) k before after
 unfolding responseBytes responseObjects resultBytes resultObjects furtherObjects
-plain-stands d x i k before after e w = subst (λ (y : ℕ). Stands (response d (done y nothing)) k before after) e w
+plain-stands d x i k before after e w = subst (λ (y : ℕ). Filled (response d (done y nothing)) k before after) e w
 
 -- a result in front of what follows it
 pub result-stands :
     (d : Details) (x y : ℕ) (f : Further) (k : ℕ) (before after : List ℕ) → x ≡ y →
-    Stands (response d (done x f)) k before after → Stands (response d (done y f)) k before after
-result-stands d x y f k before after e w = subst (λ (z : ℕ). Stands (response d (done z f)) k before after) e w
+    Filled (response d (done x f)) k before after → Filled (response d (done y f)) k before after
+result-stands d x y f k before after e w = subst (λ (z : ℕ). Filled (response d (done z f)) k before after) e w
 
 -- at the entry that was found
 module _ (t p : List ℕ) (n : ChannelNumber) (h : Numbered t p n) (e : Channel) (q : e ≡ entryIn t n) where
@@ -85,12 +85,12 @@ module _ (t p : List ℕ) (n : ChannelNumber) (h : Numbered t p n) (e : Channel)
 
   -- CLOSE CHANNEL
   module _ (d : Details) (i : Bool) (k : ℕ) (before after : List ℕ) where
-    pub close-unopened : e .grant < 1 → Stands (response d (problem 0x03)) k before after → Answers (told d (closing a n i)) t p (Wrote k) before after
+    pub close-unopened : e .grant < 1 → Filled (response d (problem 0x03)) k before after → Answers (told d (closing a n i)) t p (Wrote k) before after
     unfolding closing
     close-unopened o w = left-answers d (closing a n i) (problem 0x03) t p k before after (stop _ _ _ (unopened o)) (h .good) w
 
     pub close-done :
-        (x : ℕ) (u r : List ℕ) → 1 ≤ e .grant → Changed t p n closed u r → x ≡ plain i → Stands (response d (error x)) k before after →
+        (x : ℕ) (u r : List ℕ) → 1 ≤ e .grant → Changed t p n closed u r → x ≡ plain i → Filled (response d (error x)) k before after →
         Answers (told d (closing a n i)) u r (Wrote k) before after
     unfolding closing
     close-done x u r o s m w =
@@ -99,7 +99,7 @@ module _ (t p : List ℕ) (n : ChannelNumber) (h : Numbered t p n) (e : Channel)
 
   -- RECEIVE DATA
   module _ (d : Details) (w : ℕ) (i : Bool) (count : ℕ) (before after : List ℕ) where
-    pub receive-unopened : e .grant < 1 → Stands (response d (problem 0x03)) count before after → Answers (told d (receiving a n w i)) t p (Wrote count) before after
+    pub receive-unopened : e .grant < 1 → Filled (response d (problem 0x03)) count before after → Answers (told d (receiving a n w i)) t p (Wrote count) before after
     unfolding receiving
     receive-unopened o s = left-answers d (receiving a n w i) (problem 0x03) t p count before after (stop _ _ _ (unopened o)) (h .good) s
 
@@ -126,7 +126,7 @@ module _ (t p : List ℕ) (n : ChannelNumber) (h : Numbered t p n) (e : Channel)
     pub receive-done :
         (d : Details) (i : Bool) (count x left at : ℕ) (u r before after : List ℕ) → 1 ≤ e .grant → at ≡ startIn t n (e .grant) Receive →
         Changed t p n (removed c Receive k) u r → x ≡ (ltb k w ⇒ 0x02 else plain i) → left ≡ capped (e .rx - k) →
-        Stands (response d (done x (received (part at (at + k) p) left))) count before after →
+        Filled (response d (done x (received (part at (at + k) p) left))) count before after →
         Answers (told d (receiving a n w i)) u r (Wrote count) before after
     unfolding receiving removed withQueue
     receive-done d i count x left at u r before after o l s v g f =
@@ -141,4 +141,4 @@ module _ (t p : List ℕ) (n : ChannelNumber) (h : Numbered t p n) (e : Channel)
         (done (ltb j w ⇒ 0x02 else plain i) (received (take j (held c Receive)) (capped (length (held (removed c Receive j) Receive))))))
         (sym handed-is))
         (same-sound a n (removed c Receive k) (h .good .sound) (not-not _ (unclosed o)) (removed-sound c (chan-sound a n (h .good .sound)) Receive k handed-once) refl)
-        s (subst (λ (b : List ℕ). Stands b count before after) (λ j. response d (done (v j) (received (data-is j) ((g ∙ left-is) j)))) f)
+        s (subst (λ (b : List ℕ). Filled b count before after) (λ j. response d (done (v j) (received (data-is j) ((g ∙ left-is) j)))) f)

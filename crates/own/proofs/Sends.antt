@@ -29,7 +29,7 @@ use Rattle.session.specs.Calls.{Answers}
 use Rattle.session.specs.Changed.{Numbered, chanIn, Changed, Marks}
 use Rattle.session.proofs.Facts.{bounds}
 use Rattle.session.proofs.Views.{link-back}
-use Rattle.responses.specs.Stands.{response, Stands}
+use Rattle.responses.specs.Filled.{response, Filled}
 use Rattle.own.specs.Replies.{told, sentEntry, sentWhole}
 use Rattle.own.proofs.Replies.{told-answers, left-answers, found, unopened, unclosed}
 
@@ -131,11 +131,11 @@ module _ (t p : List ℕ) (n : ChannelNumber) (h : Numbered t p n) (e : Channel)
   unfolding entry
   link-found = ap (λ (x : Channel). linkOf (x .link)) (found t p n h e q) ∙ link-back (c .link)
 
-  pub send-unopened : e .grant < 1 → Stands (response d (problem 0x03)) k before after → answer t p
+  pub send-unopened : e .grant < 1 → Filled (response d (problem 0x03)) k before after → answer t p
   unfolding sending
   send-unopened o w = left-answers d _ (problem 0x03) t p k before after (stop _ _ _ (unopened t p n h e q o)) (h .good) w
 
-  pub send-dropped : (b : Bool) → 1 ≤ e .grant → b ≡ isDropped (linkOf (e .link)) → b ≡ true → Stands (response d (problem 0x02)) k before after → answer t p
+  pub send-dropped : (b : Bool) → 1 ≤ e .grant → b ≡ isDropped (linkOf (e .link)) → b ≡ true → Filled (response d (problem 0x02)) k before after → answer t p
   unfolding sending
   send-dropped b o x y w =
       left-answers d _ (problem 0x02) t p k before after
@@ -146,14 +146,14 @@ module _ (t p : List ℕ) (n : ChannelNumber) (h : Numbered t p n) (e : Channel)
     undropped : isDropped (c .link) ≡ false
     undropped = ap isDropped (sym link-found) ∙ sym x ∙ y
 
-    pub send-overfull : e .grant - e .tx < length s → Stands (response d (problem 0x04)) k before after → answer t p
+    pub send-overfull : e .grant - e .tx < length s → Filled (response d (problem 0x04)) k before after → answer t p
     unfolding sending
     send-overfull f w =
         left-answers d _ (problem 0x04) t p k before after
         (skip _ _ _ (unclosed t p n h e q o) ∙ skip _ _ _ undropped ∙ stop _ _ _ (lt-ltb (room c Send) (length s) (subst (λ (r : ℕ). r < length s) (room-found t p n h e q) f))) (h .good) w
 
     pub send-crowded :
-        (v : Bool) → length s ≤ e .grant - e .tx → v ≡ crowded c Send s → v ≡ true → Stands (response d (problem 0x04)) k before after → answer t p
+        (v : Bool) → length s ≤ e .grant - e .tx → v ≡ crowded c Send s → v ≡ true → Filled (response d (problem 0x04)) k before after → answer t p
     unfolding sending
     send-crowded v f z l w =
         left-answers d _ (problem 0x04) t p k before after
@@ -240,11 +240,11 @@ module _ (t p : List ℕ) (n : ChannelNumber) (h : Numbered t p n) (e : Channel)
       pub send-done :
           (m left len : ℕ) (v : Channel) (u r : List ℕ) → v ≡ sentEntry e (d .qualifier) (length s) → len ≡ sentWhole e (d .qualifier) (length s) →
           Changed t p n (whole (appended (marked c (linkOf (v .link)) (v .ready)) Send s) Send len) u r → m ≡ plain i → left ≡ capped (e .grant - e .tx - length s) →
-          Stands (response d (done m (sent left))) k before after → answer u r
+          Filled (response d (done m (sent left))) k before after → answer u r
       unfolding sending
       send-done m left len v u r z y₀ w j l g =
           told-answers d _ (withChan a n after-send) (done (plain i) (sent (capped (room after-send Send)))) u r k before after
           (skip _ _ _ (unclosed t p n h e q o) ∙ skip _ _ _ undropped ∙ skip _ _ _ (le-ltb (room c Send) (length s) fit) ∙ skip _ _ _ uncrowded)
           (same-sound a n after-send (h .good .sound) (not-not _ (unclosed t p n h e q o)) after-sound after-grant)
           (subst (λ (y : Chan). Changed t p n y u r) (sent-is v len z y₀) w)
-          (subst (λ (y : List ℕ). Stands y k before after) (λ i. response d (done (j i) (sent ((l ∙ ap capped after-room) i)))) g)
+          (subst (λ (y : List ℕ). Filled y k before after) (λ i. response d (done (j i) (sent ((l ∙ ap capped after-room) i)))) g)

@@ -11,7 +11,7 @@ use Rattle.rules.specs.Own.{reply, error, done, nothing, statuses, reports, sta
 use Rattle.rules.proofs.Laws.{stop, skip}
 use Rattle.session.specs.Picture.{GoodIn, shown}
 use Rattle.session.specs.Calls.{Answers}
-use Rattle.responses.specs.Stands.{response, Stands, statusesIn}
+use Rattle.responses.specs.Filled.{response, Filled, statusesIn}
 use Rattle.responses.proofs.Statuses.{statuses-shown}
 use Rattle.own.specs.Replies.{told}
 use Rattle.own.proofs.Replies.{left-answers, plain-stands}
@@ -20,13 +20,13 @@ module _ (t p : List ℕ) (g : GoodIn t p) (d : Details) (i : Bool) (x k : ℕ) 
   abbrev tells : Type 0
   tells = Answers (told d (reply (shown t p) (telling (shown t p) (d .kind) i))) t p (Wrote k) before after
 
-  pub tell-status : d .kind ≡ 0x44 → Stands (response d (done x (reports (statuses (statusesIn t 0 7))))) k before after → tells
+  pub tell-status : d .kind ≡ 0x44 → Filled (response d (done x (reports (statuses (statusesIn t 0 7))))) k before after → tells
   unfolding telling
   tell-status e w =
       left-answers d _ (done (plain i) (reports (statuses (statusesFrom 1 (shown t p .chans))))) t p k before after (ap (reply (shown t p)) (stop _ _ _ (eq-eqb (d .kind) 0x44 e))) g
-      (subst (λ (y : List ℕ). Stands y k before after) (λ j. response d (done (m j) (reports (statuses (statuses-shown t p g j))))) w)
+      (subst (λ (y : List ℕ). Filled y k before after) (λ j. response d (done (m j) (reports (statuses (statuses-shown t p g j))))) w)
 
-  pub tell-nothing : (d .kind ≡ 0x44 → ⊥) → Stands (response d (error x)) k before after → tells
+  pub tell-nothing : (d .kind ≡ 0x44 → ⊥) → Filled (response d (error x)) k before after → tells
   unfolding telling
   tell-nothing e w =
       left-answers d _ (done (plain i) nothing) t p k before after (ap (reply (shown t p)) (skip _ _ _ (ne-eqb (d .kind) 0x44 e))) g (plain-stands d x i k before after m w)

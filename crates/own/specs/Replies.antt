@@ -7,7 +7,7 @@ use Rattle.rules.specs.Own.{Reply, bit1}
 use Rattle.rules.specs.Command.{Answer, answered}
 use Rattle.session.specs.declared.Channel.{Channel}
 use Rattle.session.specs.Picture.{linkNumber}
-use Rattle.responses.specs.Stands.{response}
+use Rattle.responses.specs.Filled.{response}
 
 -- the state of the reply, and the bytes of its response
 abbrev pub told : Details → Reply → Answer

@@ -28,7 +28,7 @@ use Rattle.session.specs.Book.{entryAt, entryFrom}
 use Rattle.session.specs.Picture.{linkOf, ledgerOf, shown, GoodIn}
 use Rattle.session.proofs.Ledgers.{grant-read, link-read}
 use Rattle.session.proofs.Views.{link-back}
-use Rattle.responses.specs.Stands.{response, Stands, statusesIn}
+use Rattle.responses.specs.Filled.{response, Filled, statusesIn}
 use Rattle.responses.proofs.Writes.{behind-head, head-size, more}
 
 -- a status as bytes: four of them
@@ -165,35 +165,35 @@ told-none (s ∷ ss) h = absurd (let z : suc _ ≡ 0 = h in omega arith)
 
 -- the text that was put behind the head is that of the statuses
 module _ (d : Details) (x : ℕ) (t : List ℕ) (before : List ℕ) (head : ℕ) (begun : List ℕ) (at : ℕ) (out : List ℕ)
-    (b : Stands (response d (error x)) head before begun) (h : Sofar t head begun 7 at out) (w : 40 ≤ length before) where
+    (b : Filled (response d (error x)) head before begun) (h : Sofar t head begun 7 at out) (w : 40 ≤ length before) where
   abbrev ss : List Status
   ss = statusesIn t 0 7
 
-  text-stands : Stands (response d (error x) ++ bytesOf ss) at before out
+  text-stands : Filled (response d (error x) ++ bytesOf ss) at before out
   text-stands =
       let z = b .counted ∙ head-size d x in
       let f = h .few in
-      subst (λ (u : List ℕ). Stands (response d (error x) ++ u) at before out) (all-told t head begun at out h)
+      subst (λ (u : List ℕ). Filled (response d (error x) ++ u) at before out) (all-told t head begun at out h)
       (more (response d (error x)) (h .text) head at before begun out b (h .counted) (omega arith) (h .is))
 
   text-size : at ≡ head + length (bytesOf ss)
   text-size = h .counted ∙ ap (λ (u : List ℕ). head + length u) (all-told t head begun at out h)
 
-  pub some-stand : head < at → Stands (response d (done x (reports (statuses ss)))) at before out
+  pub some-stand : head < at → Filled (response d (done x (reports (statuses ss)))) at before out
   some-stand g =
       let z = text-size in
-      subst (λ (u : List ℕ). Stands u at before out)
+      subst (λ (u : List ℕ). Filled u at before out)
       (ap (λ (u : List ℕ). response d (error x) ++ u) (sym (told-some ss (omega arith))) ∙ sym (behind-head d x (reports (statuses ss))))
       text-stands
 
   pub none-stands :
       at ≤ head → (after : List ℕ) → after ≡ pasted out at (0x38 ∷ 0x02 ∷ 0x00 ∷ 0x00 ∷ []) →
-      Stands (response d (done x (reports (statuses ss)))) (at + 4) before after
+      Filled (response d (done x (reports (statuses ss)))) (at + 4) before after
   none-stands g after e =
       let z = text-size in
       let c = b .counted ∙ head-size d x in
       let n : bytesOf ss ≡ [] = length-nil (bytesOf ss) (omega arith) in
-      subst (λ (u : List ℕ). Stands u (at + 4) before after)
+      subst (λ (u : List ℕ). Filled u (at + 4) before after)
       (ap (λ (u : List ℕ). (response d (error x) ++ u) ++ (0x38 ∷ 0x02 ∷ 0x00 ∷ 0x00 ∷ [])) n
       ∙ ap (λ (u : List ℕ). u ++ (0x38 ∷ 0x02 ∷ 0x00 ∷ 0x00 ∷ [])) (append-nil (response d (error x)))
       ∙ ap (λ (u : List ℕ). response d (error x) ++ u) (sym (told-none ss (omega arith)))

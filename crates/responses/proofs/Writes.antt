@@ -19,20 +19,20 @@ use Rattle.rules.proofs.Sizes.{length-bytes}
 use Rattle.octets.specs.Parts.{part, pasted}
 use Rattle.octets.proofs.Pastes.{paste-after, length-pasted, front-over}
 use Rattle.objects.proofs.Writing.{short-length}
-use Rattle.responses.specs.Stands.{response, Stands}
+use Rattle.responses.specs.Filled.{response, Filled}
 
 -- the head of a response, and that of one with a cause
 pub head-stands :
     (d : Details) (x : ℕ) (out after : List ℕ) →
     after ≡ pasted out 0 (0x81 ∷ 0x03 ∷ d .number ∷ d .kind ∷ d .qualifier ∷ 0x82 ∷ 0x02 ∷ 0x82 ∷ 0x81 ∷ 0x83 ∷ 0x01 ∷ x ∷ []) →
-    Stands (response d (error x)) 12 out after
+    Filled (response d (error x)) 12 out after
 unfolding responseBytes responseObjects resultBytes resultObjects detailsBytes written objectBytes lengthBytes _⇒_else_
 head-stands d x out after e = record { lent = e ∙ front-over out _; counted = refl }
 
 pub problem-stands :
     (d : Details) (x : ℕ) (out after : List ℕ) →
     after ≡ pasted out 0 (0x81 ∷ 0x03 ∷ d .number ∷ d .kind ∷ d .qualifier ∷ 0x82 ∷ 0x02 ∷ 0x82 ∷ 0x81 ∷ 0x83 ∷ 0x02 ∷ 0x3A ∷ x ∷ []) →
-    Stands (response d (problem x)) 13 out after
+    Filled (response d (problem x)) 13 out after
 unfolding responseBytes responseObjects resultBytes resultObjects detailsBytes written objectBytes lengthBytes _⇒_else_
 problem-stands d x out after e = record { lent = e ∙ front-over out _; counted = refl }
 
@@ -48,8 +48,8 @@ behind-head d x f = refl
 
 -- more bytes, put behind those that stand
 pub more :
-    (t s : List ℕ) (n m : ℕ) (before out after : List ℕ) → Stands t n before out → m ≡ n + length s → m ≤ length before →
-    after ≡ pasted out n s → Stands (t ++ s) m before after
+    (t s : List ℕ) (n m : ℕ) (before out after : List ℕ) → Filled t n before out → m ≡ n + length s → m ≤ length before →
+    after ≡ pasted out n s → Filled (t ++ s) m before after
 more t s n m before out after h c w e =
     let l = h .counted in
     record {
@@ -64,7 +64,7 @@ more t s n m before out after h c w e =
 
 -- what fits behind them in the buffer as it was still fits
 pub fits-behind :
-    (t : List ℕ) (n k : ℕ) (before out : List ℕ) → Stands t n before out → n + k ≤ length before → n + k ≤ length out
+    (t : List ℕ) (n k : ℕ) (before out : List ℕ) → Filled t n before out → n + k ≤ length before → n + k ≤ length out
 fits-behind t n k before out h w =
     let l = h .counted in
     let e = ap length (h .lent ∙ sym (front-over before t)) ∙ length-pasted before 0 t (omega arith) in
@@ -72,7 +72,7 @@ fits-behind t n k before out h w =
 
 -- the head has twelve bytes, so many fit behind it
 pub after-head :
-    (d : Details) (x n : ℕ) (before out : List ℕ) (k : ℕ) → Stands (response d (error x)) n before out → 12 + k ≤ length before →
+    (d : Details) (x n : ℕ) (before out : List ℕ) (k : ℕ) → Filled (response d (error x)) n before out → 12 + k ≤ length before →
     n + k ≤ length out
 after-head d x n before out k h w =
     let z = h .counted ∙ head-size d x in
@@ -80,28 +80,28 @@ after-head d x n before out k h w =
 
 -- the room behind the head of an answer to SEND DATA
 pub sent-stands :
-    (d : Details) (x room n : ℕ) (before out after : List ℕ) → Stands (response d (error x)) n before out → 15 ≤ length before →
-    after ≡ pasted out n (0x37 ∷ 0x01 ∷ room ∷ []) → Stands (response d (done x (sent room))) (n + 3) before after
+    (d : Details) (x room n : ℕ) (before out after : List ℕ) → Filled (response d (error x)) n before out → 15 ≤ length before →
+    after ≡ pasted out n (0x37 ∷ 0x01 ∷ room ∷ []) → Filled (response d (done x (sent room))) (n + 3) before after
 unfolding furtherObjects written objectBytes lengthBytes _⇒_else_
 sent-stands d x room n before out after h w e =
     let z = h .counted ∙ head-size d x in
-    subst (λ (t : List ℕ). Stands t (n + 3) before after) (sym (behind-head d x (sent room)))
+    subst (λ (t : List ℕ). Filled t (n + 3) before after) (sym (behind-head d x (sent room)))
     (more (response d (error x)) (0x37 ∷ 0x01 ∷ room ∷ []) n (n + 3) before out after h refl (omega arith) e)
 
 -- three pieces behind a head: a up to m, then s of k bytes, then z
-module _ (d : Details) (x n m k : ℕ) (a s z before out after : List ℕ) (h : Stands (response d (error x)) n before out) (y : length s ≡ k)
+module _ (d : Details) (x n m k : ℕ) (a s z before out after : List ℕ) (h : Filled (response d (error x)) n before out) (y : length s ≡ k)
     (w : 12 + length a + k + length z ≤ length before) (c : m ≡ n + length a) (e : after ≡ pasted out n a) where
   pub first-end : m ≡ 12 + length a
   first-end = c ∙ ap (λ (j : ℕ). j + length a) (h .counted ∙ head-size d x)
 
-  first-stands : Stands (response d (error x) ++ a) m before after
+  first-stands : Filled (response d (error x) ++ a) m before after
   first-stands = let i = first-end in more (response d (error x)) a n m before out after h c (omega arith) e
 
   pub second-fits : m + k ≤ length after
   second-fits = let i = first-end in fits-behind (response d (error x) ++ a) m k before after first-stands (omega arith)
 
   module _ (filled : List ℕ) (f : filled ≡ pasted after m s) where
-    second-stands : Stands ((response d (error x) ++ a) ++ s) (m + k) before filled
+    second-stands : Filled ((response d (error x) ++ a) ++ s) (m + k) before filled
     second-stands =
         let i = first-end in
         more (response d (error x) ++ a) s m (m + k) before after filled first-stands (ap (λ (j : ℕ). m + j) (sym y)) (omega arith) f
@@ -113,10 +113,10 @@ module _ (d : Details) (x n m k : ℕ) (a s z before out after : List ℕ) (h : 
 
     pub three-stand :
         (last t : List ℕ) → last ≡ pasted filled (m + k) z → t ≡ response d (error x) ++ (a ++ (s ++ z)) →
-        Stands t (m + k + length z) before last
+        Filled t (m + k + length z) before last
     three-stand last t g b =
         let i = first-end in
-        subst (λ (l : List ℕ). Stands l (m + k + length z) before last)
+        subst (λ (l : List ℕ). Filled l (m + k + length z) before last)
         (append-assoc (response d (error x) ++ a) s z ∙ append-assoc (response d (error x)) a (s ++ z) ∙ sym b)
         (more ((response d (error x) ++ a) ++ s) z (m + k) (m + k + length z) before filled last second-stands refl (omega arith) g)
 

@@ -18,12 +18,12 @@ ghost use Rattle.rules.specs.Own.{error, problem, done, opened, received, sent,
 ghost use Rattle.rules.specs.Written.{statusBytes, statusObject};
 ghost use Rattle.session.specs.Book.{ledgerSize};
 ghost use Rattle.session.specs.Picture.{linkOf};
-ghost use Rattle.responses.specs.Stands.{response, Stands, statusesIn};
+ghost use Rattle.responses.specs.Filled.{response, Filled, statusesIn};
 
 // Writes a result that nothing follows, and tells the count of bytes.
 pub fn tell_result(out: &mut [u8], d: Details, result: u8) -> usize
     requires { ⌜ 12 ≤ length (now out) ⌝ }
-    ensures { λ r. ⌜ Stands (response d (error result)) r (now (out .entry)) (now (out .exit)) ⌝ }
+    ensures { λ r. ⌜ Filled (response d (error result)) r (now (out .entry)) (now (out .exit)) ⌝ }
 {
     let head = [
         0x81u8,
@@ -46,7 +46,7 @@ pub fn tell_result(out: &mut [u8], d: Details, result: u8) -> usize
 // Writes the result 3A with its cause, and tells the count of bytes.
 pub fn tell_problem(out: &mut [u8], d: Details, cause: u8) -> usize
     requires { ⌜ 13 ≤ length (now out) ⌝ }
-    ensures { λ r. ⌜ Stands (response d (problem cause)) r (now (out .entry)) (now (out .exit)) ⌝ }
+    ensures { λ r. ⌜ Filled (response d (problem cause)) r (now (out .entry)) (now (out .exit)) ⌝ }
 {
     let head = [
         0x81u8,
@@ -70,7 +70,7 @@ pub fn tell_problem(out: &mut [u8], d: Details, cause: u8) -> usize
 // Writes the answer to SEND DATA: a result and the room that is left.
 pub fn tell_sent(out: &mut [u8], d: Details, result: u8, room: u8) -> usize
     requires { ⌜ 15 ≤ length (now out) ⌝ }
-    ensures { λ r. ⌜ Stands (response d (done result (sent room))) r (now (out .entry)) (now (out .exit)) ⌝ }
+    ensures { λ r. ⌜ Filled (response d (done result (sent room))) r (now (out .entry)) (now (out .exit)) ⌝ }
 {
     let at = tell_result(out, d, result);
     let further = [0x37u8, 0x01, room];
@@ -89,7 +89,7 @@ pub fn tell_received(
     left: u8,
 ) -> usize
     requires { ⌜ (18 + count ≤ length (now out)) × (from + count ≤ length (now pool)) ⌝ }
-    ensures { λ r. ⌜ Stands (response d (done result (received (part from (from + count) (now (pool .entry))) left))) r (now (out .entry)) (now (out .exit)) ⌝ }
+    ensures { λ r. ⌜ Filled (response d (done result (received (part from (from + count) (now (pool .entry))) left))) r (now (out .entry)) (now (out .exit)) ⌝ }
 {
     let head = tell_result(out, d, result);
     let at = objects::write_length(out, head, 0x36, count);
@@ -124,7 +124,7 @@ pub fn tell_opened(
     grant: u16,
 ) -> usize
     requires { ⌜ (n .0 ≤ 7) × (length (now bearer) < 128) × (22 + length (now bearer) ≤ length (now out)) × (1 ≤ length (now bearer)) ⌝ }
-    ensures { λ r. ⌜ Stands (response d (done result (opened (record { number = n; link = link }) (bearerIn (now (bearer .entry))) grant))) r (now (out .entry)) (now (out .exit)) ⌝ }
+    ensures { λ r. ⌜ Filled (response d (done result (opened (record { number = n; link = link }) (bearerIn (now (bearer .entry))) grant))) r (now (out .entry)) (now (out .exit)) ⌝ }
 {
     let head = tell_result(out, d, result);
     let pair = status(n, link);
@@ -153,7 +153,7 @@ fn tell_status(out: &mut [u8], at: usize, n: ChannelNumber, link: u16) -> usize
 // Writes the answer to GET CHANNEL STATUS: a result and a status for each open channel, rising; none open: 00 00.
 pub fn tell_statuses(out: &mut [u8], d: Details, result: u8, ledger: &[u16; Ledger::SIZE]) -> usize
     requires { ⌜ (length (now ledger) ≡ ledgerSize) × (40 ≤ length (now out)) ⌝ }
-    ensures { λ r. ⌜ Stands (response d (done result (reports (statuses (statusesIn (now (ledger .entry)) 0 7))))) r (now (out .entry)) (now (out .exit)) ⌝ }
+    ensures { λ r. ⌜ Filled (response d (done result (reports (statuses (statusesIn (now (ledger .entry)) 0 7))))) r (now (out .entry)) (now (out .exit)) ⌝ }
 {
     let head = tell_result(out, d, result);
     let mut at = head;

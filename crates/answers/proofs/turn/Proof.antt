@@ -16,7 +16,7 @@ slice-aggregate-write-all : tie.Need-slice-aggregate-write-all
 slice-aggregate-write-all c =
     let a : tie.After-perform = search in
     let s : tie.Start = search in
-    sym (length-take-le _ _ (omega (arith, a .perform .ensures, s .pre .1)))
+    sym (length-take-le _ _ (omega (arith, a .perform .ensures)))
 
 pub turn-spec : {M : Type 1} → statement M
 turn-spec =

@@ -61,7 +61,7 @@ loop-again c =
     let z : tie.Start Inv-loop μ-loop = search in
     sorting-on (l .loop .inv) (object-told (n .number .given .1) (o .object .ensures)) (z .pre .2) _ _ _ _ _ (k .slot .ensures .0) (a .first-of .ensures) (t .times .ensures) (f .fits2 .ensures) (c .note .ensures)
 
-gather-requires : tie.Need-gather-requires Inv-loop μ-loop
+gather-requires : tie.Need-sum-up-requires Inv-loop μ-loop
 gather-requires c κs =
     let l : tie.At-loop Inv-loop μ-loop = search in
     let z : tie.Start Inv-loop μ-loop = search in
@@ -73,9 +73,9 @@ returns c =
     let j : tie.Joined1 Inv-loop μ-loop = search in
     let l : tie.At-loop Inv-loop μ-loop = search in
     let z : tie.Start Inv-loop μ-loop = search in
-    ⊎-elim (λ w. sorted-end (l .loop .inv) (z .pre .1) (z .pre .2) (c .gather .ensures) (w .1) (w .0 .taken))
+    ⊎-elim (λ w. sorted-end (l .loop .inv) (z .pre .1) (z .pre .2) (c .sum-up .ensures) (w .1) (w .0 .taken))
     (λ w.
-    sorted-fault (l .loop .inv) (z .pre .1) (z .pre .2) (c .gather .ensures) (w .4) _ (w .0 .left)
+    sorted-fault (l .loop .inv) (z .pre .1) (z .pre .2) (c .sum-up .ensures) (w .4) _ (w .0 .left)
     (object-missed _ _ (w .3 .given .1) (w .1 .ensures))) (j .if1 .came)
 
 pub go-through-spec : {M : Type 1} → statement M

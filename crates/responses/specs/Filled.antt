@@ -17,7 +17,7 @@ abbrev pub response : Details → Result → List ℕ
 response d r = responseBytes (record { details = d; result = r })
 
 -- these bytes stand at the front of the buffer, the others are as they were, and the count is told
-pub record Stands (t : List ℕ) (count : ℕ) (before after : List ℕ) : Type 0 where
+pub record Filled (t : List ℕ) (count : ℕ) (before after : List ℕ) : Type 0 where
   pub lent : after ≡ overlaid t before
   pub counted : count ≡ length t
 
