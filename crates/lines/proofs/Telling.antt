@@ -18,7 +18,7 @@ use Rattle.rules.specs.Command.{Outcome, wrote, refused, endedOf, writtenBy}
 use Rattle.rules.specs.Run.{Call, starting, commanding, arriving, takingOut, droppingLink, step}
 use Rattle.rules.specs.Reading.{pairIn}
 use Rattle.rules.specs.Lines.{printed, frameOf, callIn, callOf, perform, lineStep}
-use Rattle.rules.specs.Input.{Fed, lineBytes, between, begins, goes}
+use Rattle.rules.specs.Input.{Said, lineBytes, begins, goes}
 use Rattle.rules.proofs.Laws.{branch, both-right}
 use Rattle.rules.proofs.Soundness.{start-sound, step-sound}
 use Rattle.rules.specs.Pool.{poolSize}
@@ -38,7 +38,7 @@ use Rattle.text.specs.declared.Spoken.the-variants.{Command, Arrival, Take, Dro
 use Rattle.text.specs.Calls.{callSpoken}
 use Rattle.text.specs.Frames.{frameTold}
 use Rattle.text.specs.Prints.{countOf, outcomeOf, lineOf}
-use Rattle.text.proofs.Stores.{paste-none}
+use Rattle.octets.proofs.Stores.{paste-none}
 use Rattle.text.proofs.Bounds.{count-within}
 use Rattle.lines.specs.Says.{answerTo, Replies, Says}
 
@@ -98,13 +98,13 @@ unfolding goes lineStep
 line-says a l t p e reply out at k after h w =
     let x = answerTo a (callIn (frameOf l)) in
     let same = ap lineOf (h .outcome) in
-    let f : Fed = record { reader = between (x .state); out = lineBytes (printed (x .outcome)) } in
+    let f : Said State = record { kept = x .state; out = lineBytes (printed (x .outcome)) } in
     let says : Says f t p k out at after =
     record { good = h .good; state = h .state; stands = w .0 ∙ ap (pasted out at) same; place = w .1 ∙ ap (λ (s : List ℕ). at + length s) same } in
     rw (line-is a (callIn (frameOf l))) says
 
 -- a line that is whole, by what it comes to
-pub ends-says : (f g : Fed) (t p : List ℕ) (k : ℕ) (out : List ℕ) (at : ℕ) (after : List ℕ) → f ≡ g → Says g t p k out at after → Says f t p k out at after
+pub ends-says : (f g : Said State) (t p : List ℕ) (k : ℕ) (out : List ℕ) (at : ℕ) (after : List ℕ) → f ≡ g → Says g t p k out at after → Says f t p k out at after
 ends-says f g t p k out at after e w = rw e w
 
 -- a fresh session
@@ -117,12 +117,12 @@ module _ (s t pool p u : List ℕ) (g : GoodIn u pool) (c : p ≡ cleared pool 0
   fresh-shows = record { ledger = m; pool = c ∙ over-all pool (replicate poolSize 0) (pool-size ∙ sym (length-replicate {A = ℕ} poolSize 0)) ∙ empty-pool s }
 
   fresh-says :
-      (f : Fed) (before : List ℕ) (at k : ℕ) (after : List ℕ) → f .reader ≡ between (start s) → after ≡ pasted before at (f .out) → k ≡ at + length (f .out) →
+      (f : Said State) (before : List ℕ) (at k : ℕ) (after : List ℕ) → f .kept ≡ start s → after ≡ pasted before at (f .out) → k ≡ at + length (f .out) →
       Says f t p k before at after
   fresh-says f before at k after e w z =
       record {
         good = shows-good (start s) t p (start-sound s) fresh-shows;
-        state = shows-back (start s) t p (start-sound s) fresh-shows ∙ ap (λ r. r .state) (sym e);
+        state = shows-back (start s) t p (start-sound s) fresh-shows ∙ sym e;
         stands = w;
         place = z;
       }

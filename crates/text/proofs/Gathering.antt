@@ -15,7 +15,7 @@ use Rattle.octets.specs.Parts.{pasted}
 use Rattle.text.specs.Sizes.{keptCap}
 use Rattle.text.specs.declared.Gathered.{Gathered}
 use Rattle.text.specs.Gathers.{beforeFeed, piece, fitting, Gathers}
-use Rattle.text.proofs.Stores.{paste-one, paste-none}
+use Rattle.octets.proofs.Stores.{paste-one, paste-none}
 
 -- what is read by its first byte: that is a line feed and ends it, or another
 record Ends (c : ℕ) (s : List ℕ) : Type 0 where

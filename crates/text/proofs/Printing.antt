@@ -16,7 +16,7 @@ use Rattle.rules.specs.declared.Ended.{Ended}
 use Rattle.rules.specs.declared.Ended.the-variants.{Wrote, Refused}
 use Rattle.text.specs.Sizes.{shortLine}
 use Rattle.text.specs.Prints.{lineOf, countOf, outcomeOf}
-use Rattle.text.proofs.Stores.{store-after}
+use Rattle.octets.proofs.Stores.{store-after}
 use Rattle.octets.specs.Parts.{pasted}
 use Rattle.octets.proofs.Copies.{Copied, copied-none, copied-more, copied-all}
 

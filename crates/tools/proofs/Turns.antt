@@ -1,0 +1,66 @@
+-- Before the first byte the code may go on and holds what is kept then; each call of `fill` is a turn, and `finish` is the last.
+-- Assumes nothing.
+use Prim.Native.Nat.{ℕ, _≤_}
+use mathlib.Core.Path.{_≡_, refl, sym, subst, _∙_}
+use mathlib.Core.Bool.{false}
+use mathlib.Core.List.{List, []}
+use native.Mathlib.Omega.{arith}
+use lib.ListN.{length, take, replicate}
+use contract.Lifetimes.{Lfts}
+use denote.Ref.{now}
+use denote.Triple.Clauses.{Lasts, atExit}
+use borrow.Fn.Kinds.{Dens, resT, endedOf}
+use Rattle.rules.specs.Pool.{poolSize}
+use Rattle.rules.specs.Fetch.{stage}
+use Rattle.rules.specs.Checks.{_⇒_else_, isEmpty}
+use Rattle.rules.specs.State.{start}
+use Rattle.rules.proofs.Soundness.{start-sound}
+use Rattle.octets.specs.Parts.{pad}
+use Rattle.session.specs.Picture.{Shows, ledgerOf}
+use Rattle.session.proofs.Starts.{empty-pool}
+use Rattle.session.proofs.Views.{shows-good, shows-back}
+use Rattle.fetch.specs.Gathers.{gatheredOf, gatheredIn, isLacking, Gathers}
+use Rattle.flow.specs.declared.Running.{Running}
+use Rattle.flow.specs.Flow.{keptSize, printedSize, between, finishes}
+use Rattle.flow.specs.Holds.{Ready, readerIn, Turned}
+use Rattle.flow.proofs.Turns.{filled-turned, filled-last}
+use Rattle.tools.specs.Tools.{memory, first, GoodMemory, keptIn, ends}
+use Rattle.tools.proofs.fill.Kinds as fill-kinds
+use Rattle.tools.proofs.fill.Reads as fill-reads
+use Rattle.tools.proofs.finish.Kinds as finish-kinds
+use Rattle.tools.proofs.finish.Reads as finish-reads
+
+-- a call of `fill` is a turn, from the reader that the code holds to the one that it holds then
+pub fill-turned :
+    (κs : Lfts 6) (a : Dens κs fill-kinds.ps) (r : resT fill-kinds.r κs .Denot) (v : Lasts (endedOf 6 fill-kinds.ps fill-kinds.r) κs a) →
+    fill-reads.Post κs a r (atExit (endedOf 6 fill-kinds.ps fill-kinds.r) κs a v) →
+    Turned (ends (a .0)) (readerIn keptIn (a .1 .0) (memory (now (a .1 .1 .0)) (now (a .1 .1 .1 .0)) (now (a .1 .1 .1 .1 .0))) (now (a .1 .1 .1 .1 .1 .0)))
+    (record { read = take (r .next) (now (a .1 .1 .1 .1 .1 .1 .0)); wrote = take (r .at) (v .1 .1 .1 .1 .1 .1 .1 .0) })
+    (readerIn keptIn (r .running) (memory (v .1 .1 .0) (v .1 .1 .1 .0) (v .1 .1 .1 .1 .0)) (v .1 .1 .1 .1 .1 .0))
+fill-turned κs a r v h = filled-turned h
+
+-- what a call of `finish` gives to be written is what is printed at the end of the input
+pub finish-last :
+    (κs : Lfts 5) (a : Dens κs finish-kinds.ps) (r : resT finish-kinds.r κs .Denot) (v : Lasts (endedOf 5 finish-kinds.ps finish-kinds.r) κs a) →
+    finish-reads.Post κs a r (atExit (endedOf 5 finish-kinds.ps finish-kinds.r) κs a v) → printedSize ≤ length (now (a .1 .1 .1 .1 .1 .1 .0)) →
+    take (r .at) (v .1 .1 .1 .1 .1 .1 .0) ≡ finishes (ends (a .0)) (readerIn keptIn (a .1 .0) (memory (now (a .1 .1 .0)) (now (a .1 .1 .1 .0)) (now (a .1 .1 .1 .1 .0))) (now (a .1 .1 .1 .1 .1 .0)))
+finish-last κs a r v h room = filled-last h room
+
+none-gathered : (g : List ℕ) → g ≡ gatheredOf [] → Gathers g
+unfolding gatheredOf gatheredIn isLacking stage isEmpty _⇒_else_ pad
+none-gathered g e = subst Gathers (sym e) (record { is = refl; lacks = refl })
+
+none-held : (g : List ℕ) → g ≡ gatheredOf [] → gatheredIn g ≡ []
+unfolding gatheredOf gatheredIn pad
+none-held g e = rw e refl
+
+module _ (t p g line : List ℕ) (e : t ≡ ledgerOf (start [])) (f : p ≡ replicate poolSize 0) (h : g ≡ gatheredOf []) where
+  fresh : Shows (start []) t p
+  fresh = record { ledger = e; pool = f ∙ empty-pool [] }
+
+  pub first-ready : (c : Running) → c ≡ record { begun = false; len = 0 } → length line ≡ keptSize → Ready GoodMemory c (memory t p g) line
+  first-ready c q n =
+      rw q (record { good = record { session = shows-good (start []) t p (start-sound []) fresh; gathers = none-gathered g h }; size = n; kept = omega arith })
+
+  pub first-held : readerIn keptIn (record { begun = false; len = 0 }) (memory t p g) line ≡ between first
+  first-held = λ i. record { kept = record { begun = false; state = shows-back (start []) t p (start-sound []) fresh i; gathered = none-held g h i }; pending = [] }
