@@ -8,7 +8,6 @@ use lib.ListN.{length-take}
 use borrow.Author.Tests.{lt-ltb, le-ltb}
 use Rattle.rules.specs.declared.ChannelNumber.{ChannelNumber}
 use Rattle.rules.specs.declared.Refusal.{Refusal}
-use Rattle.rules.specs.declared.Refusal.the-variants.{ShortBuffer, CommandSize, NoChannel, Unopened, Unlinked, Overfull, UnfitRecord, NoResponse, Unreadable, NoPlace, Undersized}
 use Rattle.rules.specs.declared.Way.the-variants.{Send}
 use Rattle.rules.specs.Words.{numberOf, refusalOf}
 use Rattle.rules.specs.Pool.{grantCap}
@@ -20,7 +19,7 @@ use Rattle.rules.specs.Radio.{taking}
 use Rattle.rules.specs.Run.{Call, starting, commanding, arriving, takingOut, droppingLink, step}
 use Rattle.rules.specs.Sound.{Sound, Within}
 use Rattle.rules.proofs.Laws.{stop, skip}
-use Rattle.rules.proofs.Told.{refusal-back}
+use Rattle.rules.proofs.Told.{refusal-back, number-small}
 use Rattle.rules.proofs.Cases.{taking-cases}
 use Rattle.rules.proofs.Fetch.{fetch-within}
 use Rattle.rules.proofs.Sizes.{written-within}
@@ -113,19 +112,6 @@ burst-packs f t p r x before after n h e =
     }
 
 -- the number of a call that ended so fits the lower half
-number-small : (r : Refusal) → numberOf r ≤ 12
-number-small ShortBuffer = omega arith
-number-small CommandSize = omega arith
-number-small NoChannel = omega arith
-number-small Unopened = omega arith
-number-small Unlinked = omega arith
-number-small Overfull = omega arith
-number-small UnfitRecord = omega arith
-number-small NoResponse = omega arith
-number-small Unreadable = omega arith
-number-small NoPlace = omega arith
-number-small Undersized = omega arith
-
 packed-small : (e : Ended) → Fits e → packed e < 0x100000000
 unfolding packed Fits
 packed-small (Wrote count) h = omega (arith, h)

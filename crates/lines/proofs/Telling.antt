@@ -37,13 +37,14 @@ use Rattle.text.specs.declared.Spoken.{Spoken}
 use Rattle.text.specs.declared.Spoken.the-variants.{Command, Arrival, Take, Drop, Nothing}
 use Rattle.text.specs.Calls.{callSpoken}
 use Rattle.text.specs.Frames.{frameTold}
-use Rattle.text.specs.Prints.{countOf, outcomeOf, lineOf}
+use Rattle.text.specs.Prints.{countOf, outcomeOf, lineOf, Prints}
 use Rattle.octets.proofs.Stores.{paste-none}
+use Rattle.text.proofs.Printing.{prints-as}
 use Rattle.text.proofs.Bounds.{count-within}
 use Rattle.lines.specs.Says.{answerTo, Replies, Says}
 
 -- the bytes that a call wrote stand at the front of its buffer
-front-back : (o : Outcome) (d : List ℕ) → outcomeOf (endedOf o) (overlaid (writtenBy o) d) ≡ o
+pub front-back : (o : Outcome) (d : List ℕ) → outcomeOf (endedOf o) (overlaid (writtenBy o) d) ≡ o
 unfolding outcomeOf endedOf overlaid writtenBy
 front-back (wrote s) d = ap wrote (take-append-seam s (drop (length s) d))
 front-back (refused r) d = refl
@@ -93,14 +94,14 @@ line-is a (some c) = refl
 
 pub line-says :
     (a : State) (l t p : List ℕ) (e : Ended) (reply out : List ℕ) (at k : ℕ) (after : List ℕ) → Replies (answerTo a (callIn (frameOf l))) t p e reply →
-    (after ≡ pasted out at (lineOf (outcomeOf e reply))) × (k ≡ at + length (lineOf (outcomeOf e reply))) → Says (goes a l) t p k out at after
+    Prints (lineOf (outcomeOf e reply)) k out at after → Says (goes a l) t p k out at after
 unfolding goes lineStep
 line-says a l t p e reply out at k after h w =
     let x = answerTo a (callIn (frameOf l)) in
-    let same = ap lineOf (h .outcome) in
+    let q = prints-as (ap lineOf (h .outcome)) w in
     let f : Said State = record { kept = x .state; out = lineBytes (printed (x .outcome)) } in
     let says : Says f t p k out at after =
-    record { good = h .good; state = h .state; stands = w .0 ∙ ap (pasted out at) same; place = w .1 ∙ ap (λ (s : List ℕ). at + length s) same } in
+    record { good = h .good; state = h .state; stands = q .stands; place = q .place } in
     rw (line-is a (callIn (frameOf l))) says
 
 -- a line that is whole, by what it comes to
@@ -140,10 +141,10 @@ frame-unread (some s) f t e = absurd (let z : _≡_ {A = ℕ} 0 1 = cc in omega 
 -- an unreadable first line is a blank one, and R9
 pub first-unread :
     (t pool p u : List ℕ) → GoodIn u pool → p ≡ cleared pool 0 poolSize → t ≡ ledgerOf (start []) → (o : Option (List ℕ)) (before : List ℕ) (at k : ℕ) (after : List ℕ) →
-    o ≡ none → (after ≡ pasted before at (lineBytes (printed (refused R9)))) × (k ≡ at + length (lineBytes (printed (refused R9)))) →
+    o ≡ none → Prints (lineBytes (printed (refused R9))) k before at after →
     Says (begins o) t p k before at after
 unfolding begins
-first-unread t pool p u g c m o before at k after e w = rw e (fresh-says [] t pool p u g c m _ before at k after refl (w .0) (w .1))
+first-unread t pool p u g c m o before at k after e w = rw e (fresh-says [] t pool p u g c m _ before at k after refl (w .stands) (w .place))
 
 -- the front of a reply
 pub front-size : (k : ℕ) (z : List ℕ) → length z ≡ takeCap → k ≤ takeCap → k ≡ length (take k z)

@@ -9,7 +9,6 @@ use native.Mathlib.Numerals.{add-one}
 use lib.ListN.{length, take, drop, set, take-append-drop}
 use lib.Seq.{take-suc-set, drop-set-lt, append-snoc}
 use Rattle.octets.specs.Parts.{pasted}
-use Rattle.octets.proofs.Pastes.{paste-after, length-pasted}
 
 -- a byte that is set, and a paste behind it
 pub paste-one : (d : List ℕ) (k c : ℕ) (s : List ℕ) → k < length d → pasted (set d k c) (k + 1) s ≡ pasted d k (c ∷ s)
@@ -26,10 +25,6 @@ pub paste-none : (d : List ℕ) (k : ℕ) → d ≡ pasted d k []
 unfolding pasted
 paste-none d k = sym (take-append-drop k d) ∙ ap (λ (j : ℕ). take k d ++ drop j d) (sym (add-zero k))
 
--- a byte behind a paste
-pub store-after :
-    (d : List ℕ) (at : ℕ) (s : List ℕ) (k c : ℕ) (e : List ℕ) → e ≡ pasted d at s → k ≡ at + length s → k < length d →
-    set e k c ≡ pasted d at (s ++ c ∷ [])
-store-after d at s k c e p q h =
-    let l = ap length p ∙ length-pasted d at s (omega arith) in
-    paste-none (set e k c) (k + 1) ∙ paste-one e k c [] (omega arith) ∙ (λ i. pasted (p i) (q i) (c ∷ [])) ∙ paste-after d at s (omega arith) (c ∷ [])
+-- a byte alone
+pub store-one : (d : List ℕ) (k c : ℕ) → k < length d → set d k c ≡ pasted d k (c ∷ [])
+store-one d k c h = paste-none (set d k c) (k + 1) ∙ paste-one d k c [] h

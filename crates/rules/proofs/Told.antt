@@ -41,6 +41,20 @@ refusal-back Unreadable = refl
 refusal-back NoPlace = refl
 refusal-back Undersized = refl
 
+-- the numbers of refusals are small
+pub number-small : (r : Refusal) → numberOf r ≤ 12
+number-small ShortBuffer = omega arith
+number-small CommandSize = omega arith
+number-small NoChannel = omega arith
+number-small Unopened = omega arith
+number-small Unlinked = omega arith
+number-small Overfull = omega arith
+number-small UnfitRecord = omega arith
+number-small NoResponse = omega arith
+number-small Unreadable = omega arith
+number-small NoPlace = omega arith
+number-small Undersized = omega arith
+
 -- a channel's number and its identity, there and back
 pub number-back : (c : ChannelNumber) → c .0 < 256 → channelOf (identityOf c) ≡ c
 number-back c h = let e : ((c .0 + 0x20) % 256 + 0xE0) % 256 ≡ c .0 = omega arith in λ i. record { 0 = e i }

@@ -61,9 +61,17 @@ unfoldable pub hex : List ℕ → List ℕ
 hex [] = []
 hex (b ∷ s) = digitOf (b / 16) ∷ digitOf (b % 16) ∷ hex s
 
--- a number below 100 in decimal
-abbrev pub decimal : ℕ → List ℕ
-decimal n = ltb n 10 ⇒ (n + 48) ∷ [] else (n / 10 + 48) ∷ (n % 10 + 48) ∷ []
+-- a number's last decimal digit
+abbrev pub lastDigit : ℕ → ℕ
+lastDigit n = n % 10 + 48
+
+-- a number below 10000 in decimal, without zeros in front
+unfoldable pub decimal : ℕ → List ℕ
+decimal n =
+    ltb n 10 ⇒ lastDigit n ∷ [] else
+    ltb n 100 ⇒ lastDigit (n / 10) ∷ lastDigit n ∷ [] else
+    ltb n 1000 ⇒ lastDigit (n / 100) ∷ lastDigit (n / 10) ∷ lastDigit n ∷ [] else
+    lastDigit (n / 1000) ∷ lastDigit (n / 100) ∷ lastDigit (n / 10) ∷ lastDigit n ∷ []
 
 -- the bytes written, in capitals; "--" if none; or R and the number
 unfoldable pub printed : Outcome → List ℕ

@@ -8,8 +8,8 @@ use native.Mathlib.Omega.{arith}
 use lib.ListN.{length, take, drop, length-append, length-take, length-drop}
 use lib.Seq.{take-append-seam}
 use Rattle.rules.specs.Command.{Outcome, wrote, refused, endedOf, writtenBy}
-use Rattle.rules.specs.Lines.{hex, printed}
-use Rattle.rules.proofs.Laws.{branch}
+use Rattle.rules.specs.Words.{numberOf}
+use Rattle.rules.specs.Lines.{hex, decimal, printed}
 use Rattle.octets.specs.Parts.{overlaid}
 use Rattle.rules.specs.declared.Ended.{Ended}
 use Rattle.rules.specs.declared.Ended.the-variants.{Wrote, Refused}
@@ -20,7 +20,7 @@ use Rattle.text.specs.declared.Gathered.{Gathered}
 use Rattle.text.specs.Frames.{frameTold, frameBytes}
 use Rattle.text.specs.Gathers.{beforeFeed, fitting, Gathers}
 use Rattle.text.specs.Prints.{countOf, outcomeOf, lineOf}
-use Rattle.text.proofs.Printing.{hex-size}
+use Rattle.text.proofs.Printing.{hex-size, refusal-few}
 use Rattle.text.proofs.Gathering.{piece-some, piece-few}
 
 -- a frame that was read: its bytes stand at the front of the buffer
@@ -63,7 +63,10 @@ written-few (b ∷ t) n h =
 line-few : (x : Ended) (s : List ℕ) → Few (lineOf (outcomeOf x s)) (length s)
 unfolding outcomeOf printed
 line-few (Wrote k) s = written-few (take k s) (length s) (let e = length-take k s in omega arith)
-line-few (Refused r) s = branch (λ (l : List ℕ). Few (82 ∷ l ++ 10 ∷ []) (length s)) _ _ _ (λ _. (omega arith, omega arith)) (λ _. (omega arith, omega arith))
+line-few (Refused r) s =
+    let few = refusal-few r in
+    let l = length-append (decimal (numberOf r)) (10 ∷ []) in
+    (omega arith, omega arith)
 
 pub line-within :
     (x : Ended) (s : List ℕ) (r at : ℕ) → r ≡ at + length (lineOf (outcomeOf x s)) → (at < r) × (r ≤ at + 2 * length s + shortLine)

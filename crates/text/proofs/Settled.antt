@@ -13,6 +13,14 @@ use Rattle.text.proofs.read_frame.Kinds as read-frame-kinds
 use Rattle.text.proofs.read_frame.Reads as read-frame-reads
 use Rattle.text.proofs.read_call.Kinds as read-call-kinds
 use Rattle.text.proofs.read_call.Reads as read-call-reads
+use Rattle.text.proofs.print_char.Kinds as print-char-kinds
+use Rattle.text.proofs.print_char.Reads as print-char-reads
+use Rattle.text.proofs.print_bytes.Kinds as print-bytes-kinds
+use Rattle.text.proofs.print_bytes.Reads as print-bytes-reads
+use Rattle.text.proofs.print_decimal.Kinds as print-decimal-kinds
+use Rattle.text.proofs.print_decimal.Reads as print-decimal-reads
+use Rattle.text.proofs.print_refusal.Kinds as print-refusal-kinds
+use Rattle.text.proofs.print_refusal.Reads as print-refusal-reads
 use Rattle.text.proofs.print.Kinds as print-kinds
 use Rattle.text.proofs.print.Reads as print-reads
 use Rattle.text.proofs.gather.Kinds as gather-kinds
@@ -41,8 +49,21 @@ read-frame-settled κs a _ x y v w p q = (p .0 ∙ sym (q .0), λ i. (tt, ((p .1
 pub read-call-settled : Determined 1 read-call-kinds.ps read-call-kinds.r read-call-reads.Pre read-call-reads.Post
 read-call-settled κs a _ x y v w p q = (sym (spoken-back x _) ∙ ap spoken-in (sym p ∙ q) ∙ spoken-back y _, refl)
 
+-- what is printed, and the place behind it
+pub print-char-settled : Determined 1 print-char-kinds.ps print-char-kinds.r print-char-reads.Pre print-char-reads.Post
+print-char-settled κs a _ x y v w p q = (p .place ∙ sym (q .place), λ i. ((p .stands ∙ sym (q .stands)) i, v .1))
+
+pub print-bytes-settled : Determined 2 print-bytes-kinds.ps print-bytes-kinds.r print-bytes-reads.Pre print-bytes-reads.Post
+print-bytes-settled κs a _ x y v w p q = (p .place ∙ sym (q .place), λ i. ((p .stands ∙ sym (q .stands)) i, v .1))
+
+pub print-decimal-settled : Determined 1 print-decimal-kinds.ps print-decimal-kinds.r print-decimal-reads.Pre print-decimal-reads.Post
+print-decimal-settled κs a _ x y v w p q = (p .place ∙ sym (q .place), λ i. ((p .stands ∙ sym (q .stands)) i, v .1))
+
+pub print-refusal-settled : Determined 1 print-refusal-kinds.ps print-refusal-kinds.r print-refusal-reads.Pre print-refusal-reads.Post
+print-refusal-settled κs a _ x y v w p q = (p .place ∙ sym (q .place), λ i. ((p .stands ∙ sym (q .stands)) i, v .1))
+
 pub print-settled : Determined 2 print-kinds.ps print-kinds.r print-reads.Pre print-reads.Post
-print-settled κs a _ x y v w p q = (p .1 ∙ sym (q .1), λ i. ((p .0 ∙ sym (q .0)) i, v .1))
+print-settled κs a _ x y v w p q = (p .place ∙ sym (q .place), λ i. ((p .stands ∙ sym (q .stands)) i, v .1))
 
 pub gather-settled : Determined 2 gather-kinds.ps gather-kinds.r gather-reads.Pre gather-reads.Post
 gather-settled κs a _ x y v w p q = (

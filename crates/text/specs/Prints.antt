@@ -1,9 +1,11 @@
 -- How a call ended, read back from what it left in the lent buffer, and the line that is printed.
-use Prim.Native.Nat.{ℕ}
+use Prim.Native.Nat.{ℕ, _+_}
+use mathlib.Core.Path.{_≡_}
 use mathlib.Core.List.{List, [], _∷_, _++_}
-use lib.ListN.{take}
+use lib.ListN.{length, take}
 use Rattle.rules.specs.Command.{Outcome, wrote, refused}
 use Rattle.rules.specs.Lines.{printed}
+use Rattle.octets.specs.Parts.{pasted}
 use Rattle.rules.specs.declared.Ended.{Ended}
 use Rattle.rules.specs.declared.Ended.the-variants.{Wrote, Refused}
 
@@ -20,3 +22,8 @@ outcomeOf (Refused r) s = refused r
 -- the printed line, and its line feed
 abbrev pub lineOf : Outcome → List ℕ
 lineOf o = printed o ++ 10 ∷ []
+
+-- what is printed stands in the output from its place on, and the place behind it is told
+pub record Prints (s : List ℕ) (end : ℕ) (before : List ℕ) (at : ℕ) (after : List ℕ) : Type 0 where
+  pub stands : after ≡ pasted before at s
+  pub place : end ≡ at + length s

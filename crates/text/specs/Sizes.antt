@@ -27,3 +27,7 @@ shortLine = 4
 
 abbrev pub lineCap : ℕ
 lineCap = 3004
+
+-- numbers below it have a decimal
+abbrev pub decimalCap : ℕ
+decimalCap = 10000

@@ -5,15 +5,16 @@ use rules::Ended;
 use rules::Refusal;
 ghost use mathlib.Core.Path.{_≡_};
 ghost use mathlib.Core.Bool.{true};
+ghost use mathlib.Core.List.{[], _∷_};
 ghost use Prim.Native.Nat.{_+_, _*_, _≤_, _<_};
 ghost use lib.ListN.{length, getD};
 ghost use Rattle.rules.specs.Command.{wrote, refused};
-ghost use Rattle.rules.specs.Lines.{isDigit, digitValue, digitOf, bytesOf, frameOf, callOf, hex};
-ghost use Rattle.octets.specs.Parts.{pasted, overlaid};
-ghost use Rattle.text.specs.Sizes.{frameCap, keptCap, shortLine};
+ghost use Rattle.rules.specs.Lines.{isDigit, digitValue, digitOf, bytesOf, frameOf, callOf, hex, lastDigit, decimal};
+ghost use Rattle.octets.specs.Parts.{overlaid};
+ghost use Rattle.text.specs.Sizes.{frameCap, keptCap, shortLine, decimalCap};
 ghost use Rattle.text.specs.Frames.{readable, frameTold, frameBytes};
 ghost use Rattle.text.specs.Calls.{callSpoken};
-ghost use Rattle.text.specs.Prints.{countOf, outcomeOf, lineOf};
+ghost use Rattle.text.specs.Prints.{countOf, outcomeOf, lineOf, Prints};
 ghost use Rattle.text.specs.Gathers.{Gathers};
 
 // The numbers of lines.
@@ -35,10 +36,8 @@ impl Line {
 
     pub const TAKEN: usize = 1500;
 
-    // The least printed line, the longest without bytes, and the longest of all.
+    // The least printed line, and the longest of all.
     pub const LEAST: usize = 3;
-
-    pub const SHORT: usize = 4;
 
     pub const PRINTED: usize = 3004;
 }
@@ -189,10 +188,19 @@ fn digit(n: u8) -> u8
     n + 55
 }
 
-// Prints bytes in capitals, two digits for each, into `out` from `at` on.
-fn print_bytes(out: &mut [u8], at: usize, bytes: &[u8])
+// Prints a character, and tells the place behind it.
+pub fn print_char(out: &mut [u8], at: usize, c: u8) -> usize
+    requires { ⌜ at < length (now out) ⌝ }
+    ensures { λ r. ⌜ Prints (c ∷ []) r (now (out .entry)) at (now (out .exit)) ⌝ }
+{
+    out[at] = c;
+    at + 1
+}
+
+// Prints bytes in capitals, two digits for each, and tells the place behind them.
+pub fn print_bytes(out: &mut [u8], at: usize, bytes: &[u8]) -> usize
     requires { ⌜ at + 2 * length (now bytes) ≤ length (now out) ⌝ }
-    ensures { λ _. ⌜ now (out .exit) ≡ pasted (now (out .entry)) at (hex (now (bytes .entry))) ⌝ }
+    ensures { λ r. ⌜ Prints (hex (now (bytes .entry))) r (now (out .entry)) at (now (out .exit)) ⌝ }
 {
     let mut i: usize = 0;
     while i < bytes.len() {
@@ -201,47 +209,71 @@ fn print_bytes(out: &mut [u8], at: usize, bytes: &[u8])
         out[at + (k + 1)] = digit(bytes[i] % 16);
         i += 1;
     }
+    at + 2 * bytes.len()
+}
+
+// The last decimal digit of a number.
+fn last_digit(n: usize) -> u8
+    ensures { λ r. ⌜ r ≡ lastDigit n ⌝ }
+{
+    (n % 10) as u8 + 48
+}
+
+// Prints a number in decimal, without zeros in front, and tells the place behind it.
+pub fn print_decimal(out: &mut [u8], at: usize, n: usize) -> usize
+    requires { ⌜ (n < decimalCap) × (at + length (decimal n) ≤ length (now out)) ⌝ }
+    ensures { λ r. ⌜ Prints (decimal n) r (now (out .entry)) at (now (out .exit)) ⌝ }
+{
+    let ones = last_digit(n);
+    if n < 10 {
+        let digits = [ones];
+        octets::put(out, at, &digits);
+        return at + 1;
+    }
+    let tens = last_digit(n / 10);
+    if n < 100 {
+        let digits = [tens, ones];
+        octets::put(out, at, &digits);
+        return at + 2;
+    }
+    let hundreds = last_digit(n / 100);
+    if n < 1000 {
+        let digits = [hundreds, tens, ones];
+        octets::put(out, at, &digits);
+        return at + 3;
+    }
+    let digits = [last_digit(n / 1000), hundreds, tens, ones];
+    octets::put(out, at, &digits);
+    at + 4
 }
 
 // Prints the line for bytes that were written, and tells the place behind it.
 fn print_written(out: &mut [u8], at: usize, bytes: &[u8]) -> usize
     requires { ⌜ at + 2 * length (now bytes) + shortLine ≤ length (now out) ⌝ }
-    ensures { λ r. ⌜ now (out .exit) ≡ pasted (now (out .entry)) at (lineOf (wrote (now (bytes .entry)))) ⌝ }
-    ensures { λ r. ⌜ r ≡ at + length (lineOf (wrote (now (bytes .entry)))) ⌝ }
+    ensures { λ r. ⌜ Prints (lineOf (wrote (now (bytes .entry)))) r (now (out .entry)) at (now (out .exit)) ⌝ }
 {
     if bytes.len() == 0 {
-        let none = [45u8, 45, 10];
-        octets::put(out, at, &none);
+        octets::put(out, at, b"--\n");
         return at + Line::LEAST;
     }
-    print_bytes(out, at, bytes);
-    let end = at + 2 * bytes.len();
-    out[end] = 10;
-    end + 1
+    let end = print_bytes(out, at, bytes);
+    print_char(out, end, b'\n')
 }
 
-// Prints the line for a refusal, its number in decimal, and tells the place behind it.
-fn print_refusal(out: &mut [u8], at: usize, refusal: Refusal) -> usize
+// Prints the line for a refusal, R and its number, and tells the place behind it.
+pub fn print_refusal(out: &mut [u8], at: usize, refusal: Refusal) -> usize
     requires { ⌜ at + shortLine ≤ length (now out) ⌝ }
-    ensures { λ r. ⌜ now (out .exit) ≡ pasted (now (out .entry)) at (lineOf (refused refusal)) ⌝ }
-    ensures { λ r. ⌜ r ≡ at + length (lineOf (refused refusal)) ⌝ }
+    ensures { λ r. ⌜ Prints (lineOf (refused refusal)) r (now (out .entry)) at (now (out .exit)) ⌝ }
 {
-    let number = refusal.number();
-    if number < 10 {
-        let line = [82u8, number + 48, 10];
-        octets::put(out, at, &line);
-        return at + Line::LEAST;
-    }
-    let line = [82u8, number / 10 + 48, number % 10 + 48, 10];
-    octets::put(out, at, &line);
-    at + Line::SHORT
+    let start = print_char(out, at, b'R');
+    let end = print_decimal(out, start, refusal.number() as usize);
+    print_char(out, end, b'\n')
 }
 
 // Prints a line into `out` from `at` on: the bytes written, in capitals, "--" if none, or R and the number; tells the place behind it.
 pub fn print(out: &mut [u8], at: usize, ended: Ended, bytes: &[u8]) -> usize
     requires { ⌜ (countOf ended ≤ length (now bytes)) × (at + 2 * length (now bytes) + shortLine ≤ length (now out)) ⌝ }
-    ensures { λ r. ⌜ now (out .exit) ≡ pasted (now (out .entry)) at (lineOf (outcomeOf ended (now (bytes .entry)))) ⌝ }
-    ensures { λ r. ⌜ r ≡ at + length (lineOf (outcomeOf ended (now (bytes .entry)))) ⌝ }
+    ensures { λ r. ⌜ Prints (lineOf (outcomeOf ended (now (bytes .entry)))) r (now (out .entry)) at (now (out .exit)) ⌝ }
 {
     match ended {
         Ended::Wrote(count) => print_written(out, at, &bytes[..count]),

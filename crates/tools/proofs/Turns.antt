@@ -1,7 +1,7 @@
 -- Before the first byte the code may go on and holds what is kept then; each call of `fill` is a turn, and `finish` is the last.
 -- Assumes nothing.
 use Prim.Native.Nat.{ℕ, _≤_}
-use mathlib.Core.Path.{_≡_, refl, sym, subst, _∙_}
+use mathlib.Core.Path.{_≡_, ap, _∙_}
 use mathlib.Core.Bool.{false}
 use mathlib.Core.List.{List, []}
 use native.Mathlib.Omega.{arith}
@@ -11,15 +11,13 @@ use denote.Ref.{now}
 use denote.Triple.Clauses.{Lasts, atExit}
 use borrow.Fn.Kinds.{Dens, resT, endedOf}
 use Rattle.rules.specs.Pool.{poolSize}
-use Rattle.rules.specs.Fetch.{stage}
-use Rattle.rules.specs.Checks.{_⇒_else_, isEmpty}
 use Rattle.rules.specs.State.{start}
 use Rattle.rules.proofs.Soundness.{start-sound}
-use Rattle.octets.specs.Parts.{pad}
 use Rattle.session.specs.Picture.{Shows, ledgerOf}
 use Rattle.session.proofs.Starts.{empty-pool}
 use Rattle.session.proofs.Views.{shows-good, shows-back}
-use Rattle.fetch.specs.Gathers.{gatheredOf, gatheredIn, isLacking, Gathers}
+use Rattle.fetch.specs.Gathers.{gatheredOf, gatheredIn}
+use Rattle.fetch.proofs.Records.{none-lacks, gathered-back, gathers-of}
 use Rattle.flow.specs.declared.Running.{Running}
 use Rattle.flow.specs.Flow.{keptSize, printedSize, between, finishes}
 use Rattle.flow.specs.Holds.{Ready, readerIn, Turned}
@@ -46,21 +44,13 @@ pub finish-last :
     take (r .at) (v .1 .1 .1 .1 .1 .1 .0) ≡ finishes (ends (a .0)) (readerIn keptIn (a .1 .0) (memory (now (a .1 .1 .0)) (now (a .1 .1 .1 .0)) (now (a .1 .1 .1 .1 .0))) (now (a .1 .1 .1 .1 .1 .0)))
 finish-last κs a r v h room = filled-last h room
 
-none-gathered : (g : List ℕ) → g ≡ gatheredOf [] → Gathers g
-unfolding gatheredOf gatheredIn isLacking stage isEmpty _⇒_else_ pad
-none-gathered g e = subst Gathers (sym e) (record { is = refl; lacks = refl })
-
-none-held : (g : List ℕ) → g ≡ gatheredOf [] → gatheredIn g ≡ []
-unfolding gatheredOf gatheredIn pad
-none-held g e = rw e refl
-
 module _ (t p g line : List ℕ) (e : t ≡ ledgerOf (start [])) (f : p ≡ replicate poolSize 0) (h : g ≡ gatheredOf []) where
   fresh : Shows (start []) t p
   fresh = record { ledger = e; pool = f ∙ empty-pool [] }
 
   pub first-ready : (c : Running) → c ≡ record { begun = false; len = 0 } → length line ≡ keptSize → Ready GoodMemory c (memory t p g) line
   first-ready c q n =
-      rw q (record { good = record { session = shows-good (start []) t p (start-sound []) fresh; gathers = none-gathered g h }; size = n; kept = omega arith })
+      rw q (record { good = record { session = shows-good (start []) t p (start-sound []) fresh; gathers = gathers-of g [] h none-lacks }; size = n; kept = omega arith })
 
   pub first-held : readerIn keptIn (record { begun = false; len = 0 }) (memory t p g) line ≡ between first
-  first-held = λ i. record { kept = record { begun = false; state = shows-back (start []) t p (start-sound []) fresh i; gathered = none-held g h i }; pending = [] }
+  first-held = λ i. record { kept = record { begun = false; state = shows-back (start []) t p (start-sound []) fresh i; gathered = (ap gatheredIn h ∙ gathered-back [] (omega arith)) i }; pending = [] }

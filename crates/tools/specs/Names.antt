@@ -2,16 +2,20 @@
 use Prim.Native.Nat.{ℕ}
 use mathlib.Core.List.{List, [], _∷_}
 use Rattle.rules.specs.Checks.{_⇒_else_, same}
-use Rattle.tools.specs.declared.Tool.the-variants.{Lines}
+use Rattle.tools.specs.declared.Tool.the-variants.{Lines, Fetch}
 use Rattle.tools.specs.declared.Named.{Named}
 use Rattle.tools.specs.declared.Named.the-variants.{One, Unknown}
 
--- lines
-abbrev linesName : List ℕ
+-- "lines", "fetch"
+abbrev pub linesName : List ℕ
 linesName = 108 ∷ 105 ∷ 110 ∷ 101 ∷ 115 ∷ []
+
+abbrev pub fetchName : List ℕ
+fetchName = 102 ∷ 101 ∷ 116 ∷ 99 ∷ 104 ∷ []
 
 -- the tool that a word names
 unfoldable pub toolNamed : List ℕ → Named
 toolNamed w =
     same w linesName ⇒ One Lines else
+    same w fetchName ⇒ One Fetch else
     Unknown

@@ -6,10 +6,11 @@ use Rattle.rules.specs.State.{State, start}
 use Rattle.rules.specs.Input.{Said, lineEnds}
 use Rattle.session.specs.Picture as session
 use Rattle.fetch.specs.Gathers.{gatheredIn, Gathers}
+use Rattle.bursts.specs.Bursts.{Awaits, burstEnds}
 use Rattle.flow.specs.Flow.{Ends}
 use Rattle.flow.specs.Holds.{View}
 use Rattle.tools.specs.declared.Tool.{Tool}
-use Rattle.tools.specs.declared.Tool.the-variants.{Lines}
+use Rattle.tools.specs.declared.Tool.the-variants.{Lines, Fetch}
 
 -- what is kept: whether the first line was read, the session's state, and the bytes gathered of a command
 pub record Kept : Type 0 where
@@ -43,6 +44,11 @@ keptIn b m = record { begun = b; state = session.shown (m .ledger) (m .pool); ga
 abbrev pub inSession : Kept → Said State → Said Kept
 inSession k f = record { kept = record { begun = true; state = f .kept; gathered = k .gathered }; out = f .out }
 
+-- one that concerns the gathered bytes, too
+abbrev pub inBursts : Said Awaits → Said Kept
+inBursts f = record { kept = record { begun = true; state = f .kept .state; gathered = f .kept .gathered }; out = f .out }
+
 -- what a tool says of a line
 unfoldable pub ends : Tool → Ends Kept
 ends Lines k l = inSession k (lineEnds (k .begun) (k .state) l)
+ends Fetch k l = inBursts (burstEnds (k .begun) (record { state = k .state; gathered = k .gathered }) l)

@@ -1,4 +1,5 @@
 // The line tools, the match that picks one, and the loop over a piece of its input.
+use bursts::tell_burst;
 use check;
 use fetch::Gathered;
 use fetch::start_gathered;
@@ -25,9 +26,10 @@ ghost use Rattle.flow.specs.Holds.{Ready, readerIn, Says, Goes, Keeps, Fills};
 ghost use Rattle.tools.specs.Names.{toolNamed};
 ghost use Rattle.tools.specs.Tools.{memory, GoodMemory, keptIn, ends};
 
-// The tools: document 01's program.
+// The tools: document 01's program, and bytes as they come off the line.
 pub enum Tool {
     Lines,
+    Fetch,
 }
 
 // A word as the name of a tool.
@@ -42,6 +44,9 @@ pub fn tool_named(word: &[u8]) -> Named
 {
     if check::same(word, b"lines") {
         return Named::One(Tool::Lines);
+    }
+    if check::same(word, b"fetch") {
+        return Named::One(Tool::Fetch);
     }
     Named::Unknown
 }
@@ -62,6 +67,7 @@ fn answer(
 {
     match tool {
         Tool::Lines => end_line(begun, ledger, pool, line, out, at),
+        Tool::Fetch => tell_burst(begun, ledger, pool, gathered, line, out, at),
     }
 }
 

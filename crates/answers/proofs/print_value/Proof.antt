@@ -15,7 +15,7 @@ print-requires c κs = (omega arith, omega arith)
 returns : tie.Need-returns
 returns c =
     let s : tie.Start = search in
-    line-within _ (now (s .args .value)) _ _ (c .before .before .print .ensures .1)
+    line-within _ (now (s .args .value)) _ _ (c .before .before .print .ensures .place)
 
 pub print-value-spec : {M : Type 1} → statement M
 print-value-spec =

@@ -13,14 +13,14 @@ returns c =
     let w : tie.After-print-written = search in
     let e : tie.After-ended = search in
     let s : tie.Start = search in
-    written-printed _ _ _ _ (now (s .args .bytes)) _ _ (e .ended .given .1) (w .print-written .ensures)
+    written-printed (now (s .args .bytes)) _ (e .ended .given .1) (w .print-written .ensures)
 
 returns-2 : tie.Need-returns-2
 returns-2 c =
     let w : tie.After-print-refusal = search in
     let e : tie.After-ended2 = search in
     let s : tie.Start = search in
-    refusal-printed _ _ _ _ (now (s .args .bytes)) _ _ (e .ended2 .given .1) (w .print-refusal .ensures)
+    refusal-printed (now (s .args .bytes)) _ (e .ended2 .given .1) (w .print-refusal .ensures)
 
 pub print-spec : {M : Type 1} → statement M
 print-spec =

@@ -39,4 +39,6 @@ print-bytes-spec =
     (λ c. omega arith)
     (λ c. search hexed-more)
     (λ c. omega arith)
+    (λ c. omega arith)
+    (λ c. omega arith)
     (λ c. search hexed-all))

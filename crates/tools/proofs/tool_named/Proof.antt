@@ -17,5 +17,18 @@ returns-2 : tie.Need-returns-2
 unfolding toolNamed
 returns-2 c = search names
 
+returns-3 : tie.Need-returns-3
+unfolding toolNamed
+returns-3 c = search names
+
 pub tool-named-spec : {M : Type 1} → statement M
-tool-named-spec = tie.close (tie.spec (λ c. search needs) (λ c κs. search needs) returns returns-2)
+tool-named-spec =
+    tie.close
+    (tie.spec
+    (λ c. search needs)
+    (λ c κs. search needs)
+    returns
+    (λ c. search needs)
+    (λ c κs. search needs)
+    returns-2
+    returns-3)
