@@ -12,12 +12,13 @@ import os
 import shutil
 import sys
 
+import details
 import fetch
 import generate
 
 PROGRAM = os.path.join("crates", "pomerassol")      # both below the root of the tree
 NOTES = os.path.join("vectors", "notes")
-TOOLS = {"fetch": fetch}
+TOOLS = {"details": details, "fetch": fetch}
 
 
 def write_file(root, name, content):

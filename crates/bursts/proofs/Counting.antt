@@ -23,9 +23,8 @@ use Rattle.session.specs.Picture.{GoodIn, shown}
 use Rattle.session.proofs.Views.{shows-back}
 use Rattle.text.specs.Sizes.{responseSize, frameCap, lineCap, shortLine, decimalCap}
 use Rattle.text.specs.Prints.{countOf, outcomeOf, lineOf, Prints}
-use Rattle.text.proofs.Bounds.{count-within}
+use Rattle.text.proofs.Bounds.{front-back, count-within}
 use Rattle.text.proofs.Printing.{prints-after, prints-as, decimal-few}
-use Rattle.lines.proofs.Telling.{front-back}
 use Rattle.fetch.specs.declared.Fetched.{Fetched}
 use Rattle.fetch.specs.Gathers.{gatheredIn, Gathers, Fetches}
 use Rattle.fetch.proofs.Records.{lacking-few, gathered-back, gathers-of}

@@ -5,6 +5,8 @@ use Rattle.outcomes.specs.Determined.{Determined}
 use Rattle.command.proofs.Alike.{framed-alike, read-alike}
 use Rattle.command.proofs.at_hand.Kinds as at-hand-kinds
 use Rattle.command.proofs.at_hand.Reads as at-hand-reads
+use Rattle.command.proofs.details_told.Kinds as details-told-kinds
+use Rattle.command.proofs.details_told.Reads as details-told-reads
 use Rattle.command.proofs.frame_start.Kinds as frame-start-kinds
 use Rattle.command.proofs.frame_start.Reads as frame-start-reads
 use Rattle.command.proofs.read_objects.Kinds as read-objects-kinds
@@ -18,3 +20,6 @@ read-objects-settled κs a _ x y v w p q = (read-alike x y _ _ p q, refl)
 
 pub at-hand-settled : Determined 1 at-hand-kinds.ps at-hand-kinds.r at-hand-reads.Pre at-hand-reads.Post
 at-hand-settled κs a _ x y v w p q = (p ∙ sym q, refl)
+
+pub details-told-settled : Determined 1 details-told-kinds.ps details-told-kinds.r details-told-reads.Pre details-told-reads.Post
+details-told-settled κs a _ x y v w p q = (p ∙ sym q, refl)

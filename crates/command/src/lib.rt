@@ -638,7 +638,7 @@ pub fn read_objects(profile: &[u16], s: &[u8]) -> Read
 }
 
 // The details that the outer head and the first object tell; zeros where they tell none.
-fn details_told(s: &[u8]) -> Details
+pub fn details_told(s: &[u8]) -> Details
     ensures { λ r. ⌜ r ≡ detailsTold (now (s .entry)) ⌝ }
 {
     let Framed::At(start) = frame_start(s) else {

@@ -62,6 +62,11 @@ module _ {M K : Type 0} {G : M → Type 0} {view : View M K} {e : Ends K} {r : R
       Turned e r (record { read = take (c .next) chunk; wrote = take (c .at) after }) (readerIn view (c .running) m line)
   filled-turned h = record { wrote = filled-front h; reader = h .goes .holds }
 
+  -- where there is something to read and room for the longest answer, something is read
+  pub filled-advances : Fills G view e r chunk c m line before after → 1 ≤ length chunk → printedSize ≤ length before → 1 ≤ c .next
+  filled-advances h some room = let k = read-some e r chunk (length before) some room in omega (arith, h .next)
+
+-- what is to be written at the end of an input is what is printed there
 pub filled-last :
     {M K : Type 0} {G : M → Type 0} {view : View M K} {e : Ends K} {r : Reader K} {c : Progress} {m : M} {line before after : List ℕ} →
     Fills G view e r (lastPiece r) c m line before after → printedSize ≤ length before → take (c .at) after ≡ finishes e r

@@ -31,25 +31,16 @@ use Rattle.session.proofs.Facts.{bounds}
 use Rattle.session.proofs.Starts.{empty-pool, over-all}
 use Rattle.session.proofs.Views.{shows-back, shows-good}
 use Rattle.text.specs.Sizes.{responseSize, eventSize, takeCap}
-use Rattle.text.specs.declared.Frame.{Frame}
-use Rattle.text.specs.declared.Frame.the-variants.{Unreadable}
 use Rattle.text.specs.declared.Spoken.{Spoken}
 use Rattle.text.specs.declared.Spoken.the-variants.{Command, Arrival, Take, Drop, Nothing}
 use Rattle.text.specs.Calls.{callSpoken}
-use Rattle.text.specs.Frames.{frameTold}
 use Rattle.text.specs.Prints.{countOf, outcomeOf, lineOf, Prints}
 use Rattle.octets.proofs.Stores.{paste-none}
 use Rattle.text.proofs.Printing.{prints-as}
-use Rattle.text.proofs.Bounds.{count-within}
+use Rattle.text.proofs.Bounds.{front-back, count-within}
 use Rattle.lines.specs.Says.{answerTo, Replies, Says}
 
--- the bytes that a call wrote stand at the front of its buffer
-pub front-back : (o : Outcome) (d : List ℕ) → outcomeOf (endedOf o) (overlaid (writtenBy o) d) ≡ o
-unfolding outcomeOf endedOf overlaid writtenBy
-front-back (wrote s) d = ap wrote (take-append-seam s (drop (length s) d))
-front-back (refused r) d = refl
-
--- and of every buffer in front of which that stands
+-- what a call wrote stands in every buffer in front of which its own stands
 outcome-front : (e : Ended) (s w : List ℕ) → countOf e ≤ length s → outcomeOf e (s ++ w) ≡ outcomeOf e s
 unfolding outcomeOf countOf
 outcome-front (Wrote k) s w h = ap wrote (take-append-le k s w h)
@@ -131,12 +122,6 @@ module _ (s t pool p u : List ℕ) (g : GoodIn u pool) (c : p ≡ cleared pool 0
   pub first-read : (o : Option (List ℕ)) (out : List ℕ) (at : ℕ) → o ≡ some s → Says (begins o) t p at out at out
   unfolding begins
   first-read o out at e = rw e (fresh-says _ out at at out refl (paste-none out at) (omega arith))
-
--- a line that was not read has no frame
-pub frame-unread : (o : Option (List ℕ)) (f : Frame) → f ≡ frameTold o → f ≡ Unreadable → o ≡ none
-unfolding frameTold
-frame-unread none f t e = refl
-frame-unread (some s) f t e = absurd (let z : _≡_ {A = ℕ} 0 1 = cc in omega arith)
 
 -- an unreadable first line is a blank one, and R9
 pub first-unread :

@@ -49,7 +49,7 @@ result-named (error e) = tt
 result-named (problem cause) = tt
 result-named (done r f) = further-named f
 
-response-named : (r : Response) → Each Named (responseObjects r)
+pub response-named : (r : Response) → Each Named (responseObjects r)
 unfolding responseObjects
 response-named r = (omega arith, (omega arith, (omega arith, result-named (r .result))))
 

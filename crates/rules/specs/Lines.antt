@@ -65,13 +65,17 @@ hex (b ∷ s) = digitOf (b / 16) ∷ digitOf (b % 16) ∷ hex s
 abbrev pub lastDigit : ℕ → ℕ
 lastDigit n = n % 10 + 48
 
+-- how many of the four digits of a number below 10000 are zeros in front
+unfoldable pub zerosBefore : ℕ → ℕ
+zerosBefore n =
+    ltb n 10 ⇒ 3 else
+    ltb n 100 ⇒ 2 else
+    ltb n 1000 ⇒ 1 else
+    0
+
 -- a number below 10000 in decimal, without zeros in front
 unfoldable pub decimal : ℕ → List ℕ
-decimal n =
-    ltb n 10 ⇒ lastDigit n ∷ [] else
-    ltb n 100 ⇒ lastDigit (n / 10) ∷ lastDigit n ∷ [] else
-    ltb n 1000 ⇒ lastDigit (n / 100) ∷ lastDigit (n / 10) ∷ lastDigit n ∷ [] else
-    lastDigit (n / 1000) ∷ lastDigit (n / 100) ∷ lastDigit (n / 10) ∷ lastDigit n ∷ []
+decimal n = drop (zerosBefore n) (lastDigit (n / 1000) ∷ lastDigit (n / 100) ∷ lastDigit (n / 10) ∷ lastDigit n ∷ [])
 
 -- the bytes written, in capitals; "--" if none; or R and the number
 unfoldable pub printed : Outcome → List ℕ

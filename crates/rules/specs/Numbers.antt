@@ -21,7 +21,7 @@ use Rattle.rules.specs.Written.{pairBytes, detailsBytes, bearerBytes, st
 use Rattle.rules.specs.Command.{Outcome, wrote, refused, meantBy, command}
 use Rattle.rules.specs.Radio.{numbered, arrivalEvent, arrival, taking, dropEvent, dropping}
 use Rattle.rules.specs.Run.{Call, commanding, arriving, step, after}
-use Rattle.rules.specs.Lines.{isDigit, digitValue, with-byte, bytesOf, frameOf, callOf, digitOf, hex, decimal, printed, callIn, perform, lineStep, linesFrom, profileThen, program}
+use Rattle.rules.specs.Lines.{isDigit, digitValue, with-byte, bytesOf, frameOf, callOf, digitOf, hex, zerosBefore, decimal, printed, callIn, perform, lineStep, linesFrom, profileThen, program}
 
 -- a row: the calls before, from the start, the call, how it ends, and how many bytes it writes
 pub record Number : Type 0 where
@@ -138,7 +138,7 @@ listingOut =
     []
 
 pub listing-printed : program (map chars listingIn) ≡ map chars listingOut
-unfolding listingIn listingOut chars _⇒_else_ isEmpty every some-of occurrences member same longLength lengthAt lengthBytes longTag tagAt valueAfter afterTag objectAt onward walkUpTo walk objectBytes written fills following framed contents frame table known rowAmong rowOf times sift present valueOf complete bearerFits lengthFits measured bit kept allowsType allowsEvent allowsBearer channels isEstablished isDropped establish closed isOpen start chan withChan queue withQueue isStream room due atOnce joined without counting marked fresh appended whole arrived removed unfinished readied dropped placesUsed crowded another lessened served carriedBy kindOf detailsOf zeros detailsIn pairIn bearerIn transportIn bodyIn commandIn toModem addressed isFault startsWithDetails readObjects reading bit1 capped plain listed listing protocolOf openBefore opening closing receiving sending statusesFrom own cells promisedTo promised unpromised grantFor pairBytes detailsBytes bearerBytes statusBytes statusObject statusObjects furtherObjects resultBytes resultObjects responseObjects responseBytes eventBytes meantBy command numbered arrivalEvent arrival taking dropEvent dropping step after isDigit digitValue with-byte bytesOf frameOf callOf digitOf hex decimal printed callIn perform lineStep linesFrom profileThen program
+unfolding listingIn listingOut chars _⇒_else_ isEmpty every some-of occurrences member same longLength lengthAt lengthBytes longTag tagAt valueAfter afterTag objectAt onward walkUpTo walk objectBytes written fills following framed contents frame table known rowAmong rowOf times sift present valueOf complete bearerFits lengthFits measured bit kept allowsType allowsEvent allowsBearer channels isEstablished isDropped establish closed isOpen start chan withChan queue withQueue isStream room due atOnce joined without counting marked fresh appended whole arrived removed unfinished readied dropped placesUsed crowded another lessened served carriedBy kindOf detailsOf zeros detailsIn pairIn bearerIn transportIn bodyIn commandIn toModem addressed isFault startsWithDetails readObjects reading bit1 capped plain listed listing protocolOf openBefore opening closing receiving sending statusesFrom own cells promisedTo promised unpromised grantFor pairBytes detailsBytes bearerBytes statusBytes statusObject statusObjects furtherObjects resultBytes resultObjects responseObjects responseBytes eventBytes meantBy command numbered arrivalEvent arrival taking dropEvent dropping step after isDigit digitValue with-byte bytesOf frameOf callOf digitOf hex zerosBefore decimal printed callIn perform lineStep linesFrom profileThen program
 listing-printed = refl
 
 -- a script: the lines that go in, and the lines that come out
@@ -176,5 +176,5 @@ edges =
 
 -- every script prints what it must
 pub edges-printed : map (λ (s : Script). program (map chars (s .given))) edges ≡ map (λ (s : Script). map chars (s .prints)) edges
-unfolding script edges chars _⇒_else_ isEmpty every some-of occurrences member same longLength lengthAt lengthBytes longTag tagAt valueAfter afterTag objectAt onward walkUpTo walk objectBytes written fills following framed contents frame table known rowAmong rowOf times sift present valueOf complete bearerFits lengthFits measured bit kept allowsType allowsEvent allowsBearer channels isEstablished isDropped establish closed isOpen start chan withChan queue withQueue isStream room due atOnce joined without counting marked fresh appended whole arrived removed unfinished readied dropped placesUsed crowded another lessened served carriedBy kindOf detailsOf zeros detailsIn pairIn bearerIn transportIn bodyIn commandIn toModem addressed isFault startsWithDetails readObjects reading bit1 capped plain listed listing protocolOf openBefore opening closing receiving sending statusesFrom own cells promisedTo promised unpromised grantFor pairBytes detailsBytes bearerBytes statusBytes statusObject statusObjects furtherObjects resultBytes resultObjects responseObjects responseBytes eventBytes meantBy command numbered arrivalEvent arrival taking dropEvent dropping step after isDigit digitValue with-byte bytesOf frameOf callOf digitOf hex decimal printed callIn perform lineStep linesFrom profileThen program
+unfolding script edges chars _⇒_else_ isEmpty every some-of occurrences member same longLength lengthAt lengthBytes longTag tagAt valueAfter afterTag objectAt onward walkUpTo walk objectBytes written fills following framed contents frame table known rowAmong rowOf times sift present valueOf complete bearerFits lengthFits measured bit kept allowsType allowsEvent allowsBearer channels isEstablished isDropped establish closed isOpen start chan withChan queue withQueue isStream room due atOnce joined without counting marked fresh appended whole arrived removed unfinished readied dropped placesUsed crowded another lessened served carriedBy kindOf detailsOf zeros detailsIn pairIn bearerIn transportIn bodyIn commandIn toModem addressed isFault startsWithDetails readObjects reading bit1 capped plain listed listing protocolOf openBefore opening closing receiving sending statusesFrom own cells promisedTo promised unpromised grantFor pairBytes detailsBytes bearerBytes statusBytes statusObject statusObjects furtherObjects resultBytes resultObjects responseObjects responseBytes eventBytes meantBy command numbered arrivalEvent arrival taking dropEvent dropping step after isDigit digitValue with-byte bytesOf frameOf callOf digitOf hex zerosBefore decimal printed callIn perform lineStep linesFrom profileThen program
 edges-printed = refl

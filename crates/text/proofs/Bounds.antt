@@ -6,26 +6,26 @@ use mathlib.Core.List.{List, [], _∷_, _++_}
 use mathlib.Core.Option.{Option, none, some}
 use native.Mathlib.Omega.{arith}
 use lib.ListN.{length, take, drop, length-append, length-take, length-drop}
-use lib.Seq.{take-append-seam}
+use lib.Seq.{take-append-seam, length-take-le}
 use Rattle.rules.specs.Command.{Outcome, wrote, refused, endedOf, writtenBy}
-use Rattle.rules.specs.Words.{numberOf}
-use Rattle.rules.specs.Lines.{hex, decimal, printed}
+use Rattle.rules.specs.Lines.{printed}
 use Rattle.octets.specs.Parts.{overlaid}
 use Rattle.rules.specs.declared.Ended.{Ended}
 use Rattle.rules.specs.declared.Ended.the-variants.{Wrote, Refused}
 use Rattle.text.specs.Sizes.{keptCap, shortLine}
 use Rattle.text.specs.declared.Frame.{Frame}
-use Rattle.text.specs.declared.Frame.the-variants.{Bytes}
+use Rattle.text.specs.declared.Frame.the-variants.{Bytes, Unreadable}
 use Rattle.text.specs.declared.Gathered.{Gathered}
 use Rattle.text.specs.Frames.{frameTold, frameBytes}
 use Rattle.text.specs.Gathers.{beforeFeed, fitting, Gathers}
 use Rattle.text.specs.Prints.{countOf, outcomeOf, lineOf}
-use Rattle.text.proofs.Printing.{hex-size, refusal-few}
+use Rattle.text.proofs.Printing.{value-few, refused-few}
 use Rattle.text.proofs.Gathering.{piece-some, piece-few}
 
 -- a frame that was read: its bytes stand at the front of the buffer
 pub record Read (o : Option (List ℕ)) (n : ℕ) (buffer : List ℕ) : Type 0 where
   pub fits : n ≤ length buffer
+  pub size : n ≡ length (take n buffer)
   pub bytes : o ≡ some (take n buffer)
 
 pub frame-read :
@@ -35,7 +35,14 @@ frame-read none f n before after t e = absurd (let z : _≡_ {A = ℕ} 0 1 = cc 
 frame-read (some s) f n before after t e =
     let size : n ≡ length s = cc in
     let long = ap length (t .1) ∙ length-append s (drop (length s) before) in
-    record { fits = omega arith; bytes = sym (ap some ((λ i. take (size i) (t .1 i)) ∙ take-append-seam s (drop (length s) before))) }
+    let fits : n ≤ length after = omega arith in
+    record { fits = fits; size = sym (length-take-le n after fits); bytes = sym (ap some ((λ i. take (size i) (t .1 i)) ∙ take-append-seam s (drop (length s) before))) }
+
+-- a line that was not read has no frame
+pub frame-unread : (o : Option (List ℕ)) (f : Frame) → f ≡ frameTold o → f ≡ Unreadable → o ≡ none
+unfolding frameTold
+frame-unread none f t e = refl
+frame-unread (some s) f t e = absurd (let z : _≡_ {A = ℕ} 0 1 = cc in omega arith)
 
 -- the bytes that a call wrote stand at the front of its buffer
 front-within : (o : Outcome) (d : List ℕ) → countOf (endedOf o) ≤ length (overlaid (writtenBy o) d)
@@ -43,34 +50,28 @@ unfolding countOf endedOf overlaid writtenBy
 front-within (wrote s) d = simp length-append (omega arith)
 front-within (refused r) d = omega arith
 
+pub front-back : (o : Outcome) (d : List ℕ) → outcomeOf (endedOf o) (overlaid (writtenBy o) d) ≡ o
+unfolding outcomeOf endedOf overlaid writtenBy
+front-back (wrote s) d = ap wrote (take-append-seam s (drop (length s) d))
+front-back (refused r) d = refl
+
 pub count-within : (o : Outcome) (x : Ended) (before after : List ℕ) → (x ≡ endedOf o) × (after ≡ overlaid (writtenBy o) before) → countOf x ≤ length after
 count-within o x before after t =
     subst (λ (y : Ended). countOf y ≤ length after) (sym (t .0)) (subst (λ (s : List ℕ). countOf (endedOf o) ≤ length s) (sym (t .1)) (front-within o before))
 
 -- a printed line has its line feed, and at most two digits for each byte of the buffer, or three characters
-abbrev Few : List ℕ → ℕ → Type 0
-Few l n = (1 ≤ length l) × (length l ≤ 2 * n + shortLine)
-
-written-few : (t : List ℕ) (n : ℕ) → length t ≤ n → Few (lineOf (wrote t)) n
-unfolding printed
-written-few [] n h = (omega arith, omega arith)
-written-few (b ∷ t) n h =
-    let e = hex-size (b ∷ t) in
-    let l = length-append (hex (b ∷ t)) (10 ∷ []) in
-    let one : length {A = ℕ} (10 ∷ []) ≡ 1 = refl in
-    (omega arith, omega arith)
-
-line-few : (x : Ended) (s : List ℕ) → Few (lineOf (outcomeOf x s)) (length s)
-unfolding outcomeOf printed
-line-few (Wrote k) s = written-few (take k s) (length s) (let e = length-take k s in omega arith)
-line-few (Refused r) s =
-    let few = refusal-few r in
-    let l = length-append (decimal (numberOf r)) (10 ∷ []) in
-    (omega arith, omega arith)
+printed-few : (x : Ended) (s : List ℕ) → length (printed (outcomeOf x s)) ≤ 2 * length s + 3
+unfolding outcomeOf
+printed-few (Wrote k) s = let e = length-take k s in let v = value-few (take k s) in omega arith
+printed-few (Refused r) s = let few = refused-few r in omega arith
 
 pub line-within :
     (x : Ended) (s : List ℕ) (r at : ℕ) → r ≡ at + length (lineOf (outcomeOf x s)) → (at < r) × (r ≤ at + 2 * length s + shortLine)
-line-within x s r at e = let few = line-few x s in (omega (arith, few .0), omega (arith, few .1))
+line-within x s r at e =
+    let few = printed-few x s in
+    let l = length-append (printed (outcomeOf x s)) (10 ∷ []) in
+    let one : length {A = ℕ} (10 ∷ []) ≡ 1 = refl in
+    (omega arith, omega arith)
 
 -- what was read of a chunk: not more than there is, and something where there is anything
 module _ (g : Gathered) (had : ℕ) (chunk : List ℕ) (from : ℕ) (before after : List ℕ) (h : Gathers g had chunk from before after) where

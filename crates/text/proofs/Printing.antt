@@ -1,25 +1,25 @@
 -- The printed line: two digits for each byte, "--", or R and the number, and the line feed.
 -- Assumes nothing.
-use Prim.Native.Nat.{ℕ, zero, suc, _+_, _*_, _/_, _%_, _≤_, _<_}
+use Prim.Native.Nat.{ℕ, zero, suc, _+_, _-_, _*_, _/_, _%_, _≤_, _<_}
 use mathlib.Core.Path.{_≡_, refl, sym, ap, subst, _∙_}
 use mathlib.Core.List.{List, [], _∷_, _++_}
 use native.Mathlib.Omega.{arith}
-use lib.ListN.{length, getD, set, take, length-append}
+use lib.ListN.{length, getD, set, take, drop, length-append, length-drop}
 use lib.Seq.{length-take-le}
-use lib.Dec.{ltb}
-use borrow.Author.Tests.{lt-ltb, le-ltb}
+use borrow.Rule.Slice.PartAt.{part-to-end}
+use borrow.Author.Tests.{lt-ltb}
 use Rattle.rules.specs.declared.Refusal.{Refusal}
 use Rattle.rules.specs.Words.{numberOf}
 use Rattle.rules.specs.Command.{wrote, refused}
-use Rattle.rules.specs.Lines.{digitOf, hex, lastDigit, decimal, printed}
-use Rattle.rules.proofs.Laws.{branch, stop, skip}
+use Rattle.rules.specs.Lines.{digitOf, hex, lastDigit, zerosBefore, decimal, printed}
+use Rattle.rules.proofs.Laws.{branch, stop}
 use Rattle.rules.proofs.Told.{number-small}
 use Rattle.rules.specs.declared.Ended.{Ended}
 use Rattle.rules.specs.declared.Ended.the-variants.{Wrote, Refused}
-use Rattle.text.specs.Sizes.{shortLine}
+use Rattle.text.specs.Sizes.{leastValue, shortLine}
 use Rattle.text.specs.Prints.{lineOf, countOf, outcomeOf, Prints}
 use Rattle.octets.proofs.Stores.{store-one}
-use Rattle.octets.specs.Parts.{pasted}
+use Rattle.octets.specs.Parts.{part, pasted}
 use Rattle.octets.proofs.Pastes.{paste-after}
 use Rattle.octets.proofs.Copies.{Copied, copied-none, copied-more, copied-all}
 
@@ -65,17 +65,6 @@ hexed-all before at s i after c h =
     let z = hex-size s in
     record { stands = copied-all before at (hex s) (2 * i) after c (omega arith); place = omega arith }
 
--- the line of bytes that are there, and that of none
-written-line : (s : List ℕ) → (length s ≡ 0 → ⊥) → lineOf (wrote s) ≡ hex s ++ 10 ∷ []
-unfolding printed
-written-line [] n = absurd (n refl)
-written-line (b ∷ s) n = refl
-
-no-line : (s : List ℕ) → length s ≡ 0 → 45 ∷ 45 ∷ 10 ∷ [] ≡ lineOf (wrote s)
-unfolding printed
-no-line [] e = refl
-no-line (b ∷ s) e = absurd (let z : length (b ∷ s) ≡ 0 = e in omega arith)
-
 -- two prints in a row are one
 pub prints-after :
     {s t before middle after : List ℕ} {at m e : ℕ} → Prints s m before at middle → Prints t e middle m after → at + length s ≤ length before →
@@ -92,57 +81,72 @@ prints-as {before = before} {after} {at} {e} q p = subst (λ (l : List ℕ). Pri
 pub char-printed : (before : List ℕ) (at c : ℕ) → at < length before → Prints (c ∷ []) (at + 1) before at (set before at c)
 char-printed before at c h = record { stands = store-one before at c h; place = refl }
 
--- the digits of a number
-module _ (n a : ℕ) (e : a ≡ lastDigit n) where
-  pub one-digit : n < 10 → a ∷ [] ≡ decimal n
+-- zeros in front: at most three, and two below 100
+pub zeros-few : (n : ℕ) → zerosBefore n ≤ 3
+unfolding zerosBefore
+zeros-few n = branch P _ _ _ (λ _. omega arith) (λ _. branch P _ _ _ (λ _. omega arith) (λ _. branch P _ _ _ (λ _. omega arith) (λ _. omega arith)))
+  where
+    P : ℕ → Type 0
+    P k = k ≤ 3
+
+zeros-more : (n : ℕ) → n < 100 → 2 ≤ zerosBefore n
+unfolding zerosBefore
+zeros-more n h = branch (λ (k : ℕ). 2 ≤ k) _ _ _ (λ _. omega arith) (λ _. rw (stop {A = ℕ} _ 2 _ (lt-ltb n 100 h)) (omega arith))
+
+-- what stands behind the zeros of four digits
+module _ (n a b c d z : ℕ) (e : a ≡ lastDigit (n / 1000)) (f : b ≡ lastDigit (n / 100)) (g : c ≡ lastDigit (n / 10)) (h : d ≡ lastDigit n) (is : z ≡ zerosBefore n) where
+  digits : part z 4 (a ∷ b ∷ c ∷ d ∷ []) ≡ decimal n
   unfolding decimal
-  one-digit h = rw e (sym (stop _ _ _ (lt-ltb n 10 h)))
+  digits = part-to-end (a ∷ b ∷ c ∷ d ∷ []) z ∙ (λ i. drop (is i) (e i ∷ f i ∷ g i ∷ h i ∷ []))
 
-  module _ (b : ℕ) (f : b ≡ lastDigit (n / 10)) (h : 10 ≤ n) where
-    pub two-digits : n < 100 → b ∷ a ∷ [] ≡ decimal n
-    unfolding decimal
-    two-digits k = rw (e, f) (sym (skip _ _ _ (le-ltb n 10 h) ∙ stop _ _ _ (lt-ltb n 100 k)))
+  size : length (decimal n) ≡ 4 - z
+  unfolding decimal
+  size = length-drop (zerosBefore n) (lastDigit (n / 1000) ∷ lastDigit (n / 100) ∷ lastDigit (n / 10) ∷ lastDigit n ∷ []) ∙ ap (λ (k : ℕ). 4 - k) (sym is)
 
-    module _ (c : ℕ) (g : c ≡ lastDigit (n / 100)) (k : 100 ≤ n) where
-      pub three-digits : n < 1000 → c ∷ b ∷ a ∷ [] ≡ decimal n
-      unfolding decimal
-      three-digits m = rw (e, f, g) (sym (skip _ _ _ (le-ltb n 10 h) ∙ skip _ _ _ (le-ltb n 100 k) ∙ stop _ _ _ (lt-ltb n 1000 m)))
+  pub digits-room : (at l : ℕ) → at + length (decimal n) ≤ l → (z ≤ 4) × (4 ≤ length (a ∷ b ∷ c ∷ d ∷ [])) × (at + (4 - z) ≤ l)
+  digits-room at l k = let s = size in (let m = zeros-few n in omega arith, omega arith, omega arith)
 
-      pub four-digits : (d : ℕ) → d ≡ lastDigit (n / 1000) → 1000 ≤ n → d ∷ c ∷ b ∷ a ∷ [] ≡ decimal n
-      unfolding decimal
-      four-digits d i m = rw (e, f, g, i) (sym (skip _ _ _ (le-ltb n 10 h) ∙ skip _ _ _ (le-ltb n 100 k) ∙ skip _ _ _ (le-ltb n 1000 m)))
+  pub digits-printed :
+      {before after : List ℕ} {at : ℕ} → after ≡ pasted before at (part z 4 (a ∷ b ∷ c ∷ d ∷ [])) → Prints (decimal n) (at + (4 - z)) before at after
+  digits-printed {before} {at = at} w = record { stands = w ∙ ap (pasted before at) digits; place = let s = size in omega arith }
 
-pub digits-printed :
-    (n : ℕ) {s before after : List ℕ} {at : ℕ} → s ≡ decimal n → after ≡ pasted before at s → Prints (decimal n) (at + length s) before at after
-digits-printed n e w = prints-as e (record { stands = w; place = refl })
-
--- at most four digits, two below 100
+-- at most four digits, and two of a refusal
 pub decimal-few : (n : ℕ) → length (decimal n) ≤ 4
 unfolding decimal
-decimal-few n = branch P _ _ _ (λ _. omega arith) (λ _. branch P _ _ _ (λ _. omega arith) (λ _. branch P _ _ _ (λ _. omega arith) (λ _. omega arith)))
-  where
-    P : List ℕ → Type 0
-    P s = length s ≤ 4
+decimal-few n = let l = length-drop (zerosBefore n) (lastDigit (n / 1000) ∷ lastDigit (n / 100) ∷ lastDigit (n / 10) ∷ lastDigit n ∷ []) in omega arith
 
 pub refusal-few : (r : Refusal) → length (decimal (numberOf r)) ≤ 2
 unfolding decimal
 refusal-few r =
-    branch P _ _ _ (λ _. omega arith)
-    (λ _. subst P (sym (stop (ltb (numberOf r) 100) _ _ (lt-ltb (numberOf r) 100 (let k = number-small r in omega arith)))) (omega arith))
-  where
-    P : List ℕ → Type 0
-    P s = length s ≤ 2
+    let n = numberOf r in
+    let l = length-drop (zerosBefore n) (lastDigit (n / 1000) ∷ lastDigit (n / 100) ∷ lastDigit (n / 10) ∷ lastDigit n ∷ []) in
+    let two = zeros-more n (let k = number-small r in omega arith) in
+    omega arith
 
--- "--" and the line feed; the digits of bytes that are there, and the line feed; R, the number and the line feed
-pub nothing-line :
-    (s before : List ℕ) (at : ℕ) (after : List ℕ) → length s ≡ 0 → after ≡ pasted before at (45 ∷ 45 ∷ 10 ∷ []) → Prints (lineOf (wrote s)) (at + 3) before at after
-nothing-line s before at after e w = prints-as (no-line s e) (record { stands = w; place = refl })
+-- a value that has no bytes, and one that has
+pub none-printed : (s before : List ℕ) (at : ℕ) (after : List ℕ) → length s ≡ 0 → after ≡ pasted before at (45 ∷ 45 ∷ []) → Prints (printed (wrote s)) (at + 2) before at after
+unfolding printed
+none-printed [] before at after e w = record { stands = w; place = refl }
+none-printed (b ∷ s) before at after e w = absurd (let z : length (b ∷ s) ≡ 0 = e in omega arith)
 
-pub hexed-line :
-    (s : List ℕ) {before middle after : List ℕ} {at m e : ℕ} → (length s ≡ 0 → ⊥) → at + 2 * length s + shortLine ≤ length before →
-    Prints (hex s) m before at middle → Prints (10 ∷ []) e middle m after → Prints (lineOf (wrote s)) e before at after
-hexed-line s n h p q = prints-as (sym (written-line s n)) (prints-after p q (let z = hex-size s in omega arith))
+pub bytes-printed :
+    (s before : List ℕ) (at r : ℕ) (after : List ℕ) → (length s ≡ 0 → ⊥) → Prints (hex s) r before at after → Prints (printed (wrote s)) r before at after
+unfolding printed
+bytes-printed [] before at r after n w = absurd (n refl)
+bytes-printed (b ∷ s) before at r after n w = w
 
+-- two digits for each byte, or two dashes
+pub value-few : (s : List ℕ) → length (printed (wrote s)) ≤ 2 * length s + leastValue
+unfolding printed
+value-few [] = omega arith
+value-few (b ∷ s) = let e = hex-size (b ∷ s) in omega arith
+
+-- R and at most two digits
+pub refused-few : (r : Refusal) → length (printed (refused r)) ≤ 3
+unfolding printed
+refused-few r = let few = refusal-few r in omega arith
+
+-- R, the number and the line feed
 pub refused-line :
     (r : Refusal) (n : ℕ) {before x y z : List ℕ} {at k m e : ℕ} → n ≡ numberOf r → at + shortLine ≤ length before →
     Prints (82 ∷ []) k before at x → Prints (decimal n) m x k y → Prints (10 ∷ []) e y m z → Prints (lineOf (refused r)) e before at z

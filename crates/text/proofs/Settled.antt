@@ -17,6 +17,8 @@ use Rattle.text.proofs.print_char.Kinds as print-char-kinds
 use Rattle.text.proofs.print_char.Reads as print-char-reads
 use Rattle.text.proofs.print_bytes.Kinds as print-bytes-kinds
 use Rattle.text.proofs.print_bytes.Reads as print-bytes-reads
+use Rattle.text.proofs.print_value.Kinds as print-value-kinds
+use Rattle.text.proofs.print_value.Reads as print-value-reads
 use Rattle.text.proofs.print_decimal.Kinds as print-decimal-kinds
 use Rattle.text.proofs.print_decimal.Reads as print-decimal-reads
 use Rattle.text.proofs.print_refusal.Kinds as print-refusal-kinds
@@ -55,6 +57,9 @@ print-char-settled κs a _ x y v w p q = (p .place ∙ sym (q .place), λ i. ((p
 
 pub print-bytes-settled : Determined 2 print-bytes-kinds.ps print-bytes-kinds.r print-bytes-reads.Pre print-bytes-reads.Post
 print-bytes-settled κs a _ x y v w p q = (p .place ∙ sym (q .place), λ i. ((p .stands ∙ sym (q .stands)) i, v .1))
+
+pub print-value-settled : Determined 2 print-value-kinds.ps print-value-kinds.r print-value-reads.Pre print-value-reads.Post
+print-value-settled κs a _ x y v w p q = (p .place ∙ sym (q .place), λ i. ((p .stands ∙ sym (q .stands)) i, v .1))
 
 pub print-decimal-settled : Determined 1 print-decimal-kinds.ps print-decimal-kinds.r print-decimal-reads.Pre print-decimal-reads.Post
 print-decimal-settled κs a _ x y v w p q = (p .place ∙ sym (q .place), λ i. ((p .stands ∙ sym (q .stands)) i, v .1))

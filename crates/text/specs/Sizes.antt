@@ -21,6 +21,10 @@ eventSize = 16
 abbrev pub takeCap : ℕ
 takeCap = 1500
 
+-- the print of a value without bytes
+abbrev pub leastValue : ℕ
+leastValue = 2
+
 -- the longest printed line without bytes, R11 or R12, and the longest of all
 abbrev pub shortLine : ℕ
 shortLine = 4

@@ -9,9 +9,9 @@ ghost use mathlib.Core.List.{[], _∷_};
 ghost use Prim.Native.Nat.{_+_, _*_, _≤_, _<_};
 ghost use lib.ListN.{length, getD};
 ghost use Rattle.rules.specs.Command.{wrote, refused};
-ghost use Rattle.rules.specs.Lines.{isDigit, digitValue, digitOf, bytesOf, frameOf, callOf, hex, lastDigit, decimal};
+ghost use Rattle.rules.specs.Lines.{isDigit, digitValue, digitOf, bytesOf, frameOf, callOf, hex, lastDigit, zerosBefore, decimal, printed};
 ghost use Rattle.octets.specs.Parts.{overlaid};
-ghost use Rattle.text.specs.Sizes.{frameCap, keptCap, shortLine, decimalCap};
+ghost use Rattle.text.specs.Sizes.{frameCap, keptCap, leastValue, shortLine, decimalCap};
 ghost use Rattle.text.specs.Frames.{readable, frameTold, frameBytes};
 ghost use Rattle.text.specs.Calls.{callSpoken};
 ghost use Rattle.text.specs.Prints.{countOf, outcomeOf, lineOf, Prints};
@@ -36,9 +36,7 @@ impl Line {
 
     pub const TAKEN: usize = 1500;
 
-    // The least printed line, and the longest of all.
-    pub const LEAST: usize = 3;
-
+    // The longest printed line.
     pub const PRINTED: usize = 3004;
 }
 
@@ -219,32 +217,48 @@ fn last_digit(n: usize) -> u8
     (n % 10) as u8 + 48
 }
 
+// How many of the four digits of a number are zeros in front.
+fn zeros_before(n: usize) -> usize
+    ensures { λ r. ⌜ r ≡ zerosBefore n ⌝ }
+{
+    if n < 10 {
+        return 3;
+    }
+    if n < 100 {
+        return 2;
+    }
+    if n < 1000 {
+        return 1;
+    }
+    0
+}
+
 // Prints a number in decimal, without zeros in front, and tells the place behind it.
 pub fn print_decimal(out: &mut [u8], at: usize, n: usize) -> usize
     requires { ⌜ (n < decimalCap) × (at + length (decimal n) ≤ length (now out)) ⌝ }
     ensures { λ r. ⌜ Prints (decimal n) r (now (out .entry)) at (now (out .exit)) ⌝ }
 {
-    let ones = last_digit(n);
-    if n < 10 {
-        let digits = [ones];
-        octets::put(out, at, &digits);
-        return at + 1;
-    }
-    let tens = last_digit(n / 10);
-    if n < 100 {
-        let digits = [tens, ones];
-        octets::put(out, at, &digits);
+    let digits = [
+        last_digit(n / 1000),
+        last_digit(n / 100),
+        last_digit(n / 10),
+        last_digit(n),
+    ];
+    let zeros = zeros_before(n);
+    octets::put_part(out, at, &digits, zeros, 4);
+    at + (4 - zeros)
+}
+
+// Prints a value, its bytes or "--" where there are none, and tells the place behind it.
+pub fn print_value(out: &mut [u8], at: usize, bytes: &[u8]) -> usize
+    requires { ⌜ at + 2 * length (now bytes) + leastValue ≤ length (now out) ⌝ }
+    ensures { λ r. ⌜ Prints (printed (wrote (now (bytes .entry)))) r (now (out .entry)) at (now (out .exit)) ⌝ }
+{
+    if bytes.len() == 0 {
+        octets::put(out, at, b"--");
         return at + 2;
     }
-    let hundreds = last_digit(n / 100);
-    if n < 1000 {
-        let digits = [hundreds, tens, ones];
-        octets::put(out, at, &digits);
-        return at + 3;
-    }
-    let digits = [last_digit(n / 1000), hundreds, tens, ones];
-    octets::put(out, at, &digits);
-    at + 4
+    print_bytes(out, at, bytes)
 }
 
 // Prints the line for bytes that were written, and tells the place behind it.
@@ -252,11 +266,7 @@ fn print_written(out: &mut [u8], at: usize, bytes: &[u8]) -> usize
     requires { ⌜ at + 2 * length (now bytes) + shortLine ≤ length (now out) ⌝ }
     ensures { λ r. ⌜ Prints (lineOf (wrote (now (bytes .entry)))) r (now (out .entry)) at (now (out .exit)) ⌝ }
 {
-    if bytes.len() == 0 {
-        octets::put(out, at, b"--\n");
-        return at + Line::LEAST;
-    }
-    let end = print_bytes(out, at, bytes);
+    let end = print_value(out, at, bytes);
     print_char(out, end, b'\n')
 }
 

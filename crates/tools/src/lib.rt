@@ -1,6 +1,7 @@
 // The line tools, the match that picks one, and the loop over a piece of its input.
 use bursts::tell_burst;
 use check;
+use details::tell_details;
 use fetch::Gathered;
 use fetch::start_gathered;
 use flow::Progress;
@@ -26,9 +27,10 @@ ghost use Rattle.flow.specs.Holds.{Ready, readerIn, Says, Goes, Keeps, Fills};
 ghost use Rattle.tools.specs.Names.{toolNamed};
 ghost use Rattle.tools.specs.Tools.{memory, GoodMemory, keptIn, ends};
 
-// The tools: document 01's program, and bytes as they come off the line.
+// The tools: document 01's program, what command is at hand, and bytes as they come off the line.
 pub enum Tool {
     Lines,
+    Details,
     Fetch,
 }
 
@@ -44,6 +46,9 @@ pub fn tool_named(word: &[u8]) -> Named
 {
     if check::same(word, b"lines") {
         return Named::One(Tool::Lines);
+    }
+    if check::same(word, b"details") {
+        return Named::One(Tool::Details);
     }
     if check::same(word, b"fetch") {
         return Named::One(Tool::Fetch);
@@ -67,6 +72,7 @@ fn answer(
 {
     match tool {
         Tool::Lines => end_line(begun, ledger, pool, line, out, at),
+        Tool::Details => tell_details(line, out, at),
         Tool::Fetch => tell_burst(begun, ledger, pool, gathered, line, out, at),
     }
 }

@@ -4,8 +4,7 @@ use mathlib.Core.Path.{sym}
 use native.Mathlib.Omega.{arith}
 use lib.ListN.{length-take}
 use lib.Seq.{length-take-le}
-use Rattle.text.proofs.Bounds.{Read, frame-read}
-use Rattle.lines.proofs.Telling.{frame-unread}
+use Rattle.text.proofs.Bounds.{frame-read, frame-unread}
 use Rattle.bursts.proofs.Telling.{line-burst, line-unread, line-first}
 use borrow.Author.Needs.{needs}
 use Rattle.bursts.proofs.tell_burst.Statement.{statement}

@@ -6,8 +6,8 @@ use denote.Ref.{now}
 use lib.Seq.{length-take-le}
 use Rattle.session.proofs.Facts.{good-table}
 use Rattle.text.specs.Prints.{countOf, outcomeOf}
-use Rattle.text.proofs.Bounds.{frame-read}
-use Rattle.lines.proofs.Telling.{frame-unread, first-read, first-unread}
+use Rattle.text.proofs.Bounds.{frame-read, frame-unread}
+use Rattle.lines.proofs.Telling.{first-read, first-unread}
 use borrow.Author.Needs.{needs}
 use Rattle.lines.proofs.begin.Statement.{statement}
 use Rattle.lines.proofs.begin.Tie as tie

@@ -3,8 +3,8 @@
 use mathlib.Core.Path.{sym, ap}
 use lib.Seq.{length-take-le}
 use Rattle.rules.specs.Lines.{callIn}
-use Rattle.text.proofs.Bounds.{frame-read}
-use Rattle.lines.proofs.Telling.{frame-unread, frame-replies, unread-replies}
+use Rattle.text.proofs.Bounds.{frame-read, frame-unread}
+use Rattle.lines.proofs.Telling.{frame-replies, unread-replies}
 use borrow.Author.Needs.{needs}
 use Rattle.lines.proofs.obey.Statement.{statement}
 use Rattle.lines.proofs.obey.Tie as tie

@@ -21,6 +21,10 @@ returns-3 : tie.Need-returns-3
 unfolding toolNamed
 returns-3 c = search names
 
+returns-4 : tie.Need-returns-4
+unfolding toolNamed
+returns-4 c = search names
+
 pub tool-named-spec : {M : Type 1} → statement M
 tool-named-spec =
     tie.close
@@ -31,4 +35,7 @@ tool-named-spec =
     (λ c. search needs)
     (λ c κs. search needs)
     returns-2
-    returns-3)
+    (λ c. search needs)
+    (λ c κs. search needs)
+    returns-3
+    returns-4)
