@@ -12,13 +12,14 @@ import os
 import shutil
 import sys
 
+import bench
 import details
 import fetch
 import generate
 
 PROGRAM = os.path.join("crates", "pomerassol")      # both below the root of the tree
 NOTES = os.path.join("vectors", "notes")
-TOOLS = {"details": details, "fetch": fetch}
+TOOLS = {"bench": bench, "details": details, "fetch": fetch}
 
 
 def write_file(root, name, content):

@@ -18,12 +18,12 @@ abbrev pub room : ℕ
 room = 10
 
 -- number, type and qualifier of the command in a frame; R2 where it has no bytes or over 256; an unreadable line is R9
-unfoldable pub frameLine : Option (List ℕ) → List ℕ
-frameLine none = lineOf (refused Unreadable)
-frameLine (some s) =
+unfoldable pub handLine : Option (List ℕ) → List ℕ
+handLine none = lineOf (refused Unreadable)
+handLine (some s) =
     isEmpty s || ltb 256 (length s) ⇒ lineOf (refused CommandSize) else
     lineOf (wrote (detailsBytes (detailsTold s)))
 
 -- what is printed for a line
 unfoldable pub detailsLine : List ℕ → List ℕ
-detailsLine l = frameLine (frameOf l)
+detailsLine l = handLine (frameOf l)

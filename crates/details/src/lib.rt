@@ -11,7 +11,7 @@ ghost use mathlib.Core.Option.{some};
 ghost use Prim.Native.Nat.{_+_, _≤_};
 ghost use lib.ListN.{length};
 ghost use Rattle.text.specs.Prints.{Prints};
-ghost use Rattle.details.specs.Printed.{room, frameLine, detailsLine};
+ghost use Rattle.details.specs.Printed.{room, handLine, detailsLine};
 
 // The most bytes of a command.
 const COMMAND_CAP: usize = 256;
@@ -19,7 +19,7 @@ const COMMAND_CAP: usize = 256;
 // Prints the details of the command in a frame, or R2.
 fn print_details(s: &[u8], out: &mut [u8], at: usize) -> usize
     requires { ⌜ at + room ≤ length (now out) ⌝ }
-    ensures { λ r. ⌜ Prints (frameLine (some (now (s .entry)))) r (now (out .entry)) at (now (out .exit)) ⌝ }
+    ensures { λ r. ⌜ Prints (handLine (some (now (s .entry)))) r (now (out .entry)) at (now (out .exit)) ⌝ }
 {
     if s.len() == 0 {
         return print_refusal(out, at, Refusal::CommandSize);

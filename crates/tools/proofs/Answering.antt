@@ -9,11 +9,12 @@ use Rattle.session.specs.Picture as session
 use Rattle.lines.specs.Says as lines
 use Rattle.fetch.specs.Gathers.{gatheredIn}
 use Rattle.text.specs.Prints.{Prints}
+use Rattle.bench.specs.Printed.{benchLine}
 use Rattle.details.specs.Printed.{detailsLine}
 use Rattle.bursts.specs.Bursts.{awaitsIn, burstEnds, Tells}
 use Rattle.flow.specs.Holds.{Says}
 use Rattle.tools.specs.declared.Tool.{Tool}
-use Rattle.tools.specs.declared.Tool.the-variants.{Lines, Details, Fetch}
+use Rattle.tools.specs.declared.Tool.the-variants.{Lines, Bench, Details, Fetch}
 use Rattle.tools.specs.Tools.{memory, GoodMemory, keptIn, stays, ends}
 
 module _ (tool : Tool) (b : Bool) (t p g l : List ℕ) (y : GoodMemory (memory t p g)) (r : ℕ) (out : List ℕ) (at : ℕ) (out′ : List ℕ) where
@@ -33,6 +34,10 @@ module _ (tool : Tool) (b : Bool) (t p g l : List ℕ) (y : GoodMemory (memory t
   -- a tool that keeps nothing
   stays-answer : (s : List ℕ) → Prints s r out at out′ → Says GoodMemory keptIn (stays (keptIn b (memory t p g)) s) (memory t p g) r out at out′
   stays-answer s h = record { good = y; state = refl; stands = h .stands; place = h .place }
+
+  pub bench-answer : tool ≡ Bench → Prints (benchLine l) r out at out′ → Says GoodMemory keptIn (ends tool (keptIn b (memory t p g)) l) (memory t p g) r out at out′
+  unfolding ends
+  bench-answer e h = rw e (stays-answer (benchLine l) h)
 
   pub details-answer : tool ≡ Details → Prints (detailsLine l) r out at out′ → Says GoodMemory keptIn (ends tool (keptIn b (memory t p g)) l) (memory t p g) r out at out′
   unfolding ends

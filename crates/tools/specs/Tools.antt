@@ -6,12 +6,13 @@ use Rattle.rules.specs.State.{State, start}
 use Rattle.rules.specs.Input.{Said, lineEnds}
 use Rattle.session.specs.Picture as session
 use Rattle.fetch.specs.Gathers.{gatheredIn, Gathers}
+use Rattle.bench.specs.Printed.{benchLine}
 use Rattle.details.specs.Printed.{detailsLine}
 use Rattle.bursts.specs.Bursts.{Awaits, burstEnds}
 use Rattle.flow.specs.Flow.{Ends}
 use Rattle.flow.specs.Holds.{View}
 use Rattle.tools.specs.declared.Tool.{Tool}
-use Rattle.tools.specs.declared.Tool.the-variants.{Lines, Details, Fetch}
+use Rattle.tools.specs.declared.Tool.the-variants.{Lines, Bench, Details, Fetch}
 
 -- what is kept: whether the first line was read, the session's state, and the bytes gathered of a command
 pub record Kept : Type 0 where
@@ -56,5 +57,6 @@ stays k s = record { kept = record { begun = true; state = k .state; gathered = 
 -- what a tool says of a line
 unfoldable pub ends : Tool → Ends Kept
 ends Lines k l = inSession k (lineEnds (k .begun) (k .state) l)
+ends Bench k l = stays k (benchLine l)
 ends Details k l = stays k (detailsLine l)
 ends Fetch k l = inBursts (burstEnds (k .begun) (record { state = k .state; gathered = k .gathered }) l)

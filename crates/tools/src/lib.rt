@@ -1,4 +1,5 @@
 // The line tools, the match that picks one, and the loop over a piece of its input.
+use bench::tell_bench;
 use bursts::tell_burst;
 use check;
 use details::tell_details;
@@ -27,9 +28,10 @@ ghost use Rattle.flow.specs.Holds.{Ready, readerIn, Says, Goes, Keeps, Fills};
 ghost use Rattle.tools.specs.Names.{toolNamed};
 ghost use Rattle.tools.specs.Tools.{memory, GoodMemory, keptIn, ends};
 
-// The tools: document 01's program, what command is at hand, and bytes as they come off the line.
+// The tools: document 01's program, the bench, what command is at hand, and bytes as they come off the line.
 pub enum Tool {
     Lines,
+    Bench,
     Details,
     Fetch,
 }
@@ -46,6 +48,9 @@ pub fn tool_named(word: &[u8]) -> Named
 {
     if check::same(word, b"lines") {
         return Named::One(Tool::Lines);
+    }
+    if check::same(word, b"bench") {
+        return Named::One(Tool::Bench);
     }
     if check::same(word, b"details") {
         return Named::One(Tool::Details);
@@ -72,6 +77,7 @@ fn answer(
 {
     match tool {
         Tool::Lines => end_line(begun, ledger, pool, line, out, at),
+        Tool::Bench => tell_bench(line, out, at),
         Tool::Details => tell_details(line, out, at),
         Tool::Fetch => tell_burst(begun, ledger, pool, gathered, line, out, at),
     }

@@ -25,6 +25,10 @@ returns-4 : tie.Need-returns-4
 unfolding toolNamed
 returns-4 c = search names
 
+returns-5 : tie.Need-returns-5
+unfolding toolNamed
+returns-5 c = search names
+
 pub tool-named-spec : {M : Type 1} → statement M
 tool-named-spec =
     tie.close
@@ -38,4 +42,7 @@ tool-named-spec =
     (λ c. search needs)
     (λ c κs. search needs)
     returns-3
-    returns-4)
+    (λ c. search needs)
+    (λ c κs. search needs)
+    returns-4
+    returns-5)
