@@ -11,6 +11,7 @@ import subprocess
 import sys
 
 ROOT = os.path.join(os.path.dirname(os.path.abspath(__file__)), "..")
+PROGRAM = os.path.join(ROOT, "crates", "pomerassol")
 sys.dont_write_bytecode = True
 sys.path.insert(0, os.path.join(ROOT, "vectors"))
 
@@ -22,12 +23,13 @@ BYTES = 400000      # that go in and out of a history of streams, about
 
 
 def scripts():
-    """Each script of the gate: its file and its bytes."""
-    for folder in ("crates/lessons/data", "crates/lessons/data/scripts"):
-        for name in sorted(os.listdir(os.path.join(ROOT, folder))):
-            if name.endswith(".in"):
-                with open(os.path.join(ROOT, folder, name), "rb") as f:
-                    yield folder + "/" + name, f.read()
+    """Each script of the line program that the gate plays: its file and its bytes."""
+    with open(os.path.join(PROGRAM, "args")) as f:
+        words = f.read().split()
+    for tool, name in zip(words[::2], words[1::2]):
+        if tool == "lines":
+            with open(os.path.join(PROGRAM, "data", name), "rb") as f:
+                yield name, f.read()
 
 
 def histories():

@@ -1,14 +1,8 @@
 #!/usr/bin/env python3
-"""Writes crates/bench_lines/stdin and stdout: lines for the bench with the answers that they must get, from document 01.
+"""Makes the lines of the tool bench, which gate.py writes, with the answers that they must get, from document 01.
 
 A response is read here as a list of tagged objects and looked up in tables of the paper; a record is written object by object.
-With a folder behind it both files are written below that folder instead.
-
-    python3 bench.py [FOLDER]
 """
-import os
-import sys
-
 SEVEN = [0x02, 0x05, 0x40, 0x41, 0x42, 0x43, 0x44]
 CAUSES = {0x40: [0x01, 0x04, 0x06], 0x41: [0x03], 0x42: [0x03], 0x43: [0x02, 0x03, 0x04]}
 TO_MODEM = [0x02, 0x05, 0x40, 0x44]
@@ -399,7 +393,8 @@ def check(accepted):
     assert all(heard(f) != "R8" for f in accepted) and len(set(accepted)) == len(accepted)
 
 
-def main(root):
+def played():
+    """The lines and their answers."""
     accepted = list(forms())
     check(accepted)
     responses = accepted + [c for f in accepted for c in changed(f)] + [c for f in accepted[::4] for c in long_tags(f)]
@@ -409,15 +404,4 @@ def main(root):
     lines.append(b"81030102008202828183010")
     lines.append(b"810301020082028281830100")
     answers = [answer(line) for line in lines]
-    crate = os.path.join(root, "crates", "bench_lines")
-    os.makedirs(crate, exist_ok=True)
-    with open(os.path.join(crate, "stdin"), "wb") as out:
-        out.write(b"\n".join(lines))
-    with open(os.path.join(crate, "stdout"), "w") as out:
-        out.write("".join(a + "\n" for a in answers))
-    told = {r: answers.count(r) for r in ("R7", "R8", "R9")}
-    print(len(lines), "lines:", len(accepted), "forms,", len(responses), "responses,", len(orders), "records;", told)
-
-
-if __name__ == "__main__":
-    main(sys.argv[1] if sys.argv[1:] else os.path.join(os.path.dirname(os.path.abspath(__file__)), ".."))
+    return b"\n".join(lines), "".join(a + "\n" for a in answers).encode("ascii")

@@ -1,15 +1,10 @@
 #!/usr/bin/env python3
-"""Writes what the gate runs for M-101, what command is at hand: crates/details_lines/stdin, commands in hexadecimal,
-one a line, and stdout, the details of each. With a folder behind it everything is written below that folder instead.
-
-    python3 details.py [FOLDER]
+"""Makes the lines of the tool details, M-101, which gate.py writes: commands in hexadecimal, one a line, with the details
+of each.
 
 The details are those that oracle.py puts into its full response to the same bytes, whatever its other steps find; so
 the two must not differ where a later object is damaged. A line is each line of the scripts, and those made here.
 """
-
-import os
-import sys
 
 import generate
 import oracle
@@ -88,20 +83,10 @@ def lines():
         yield from (data.hex().upper().encode() for data in cut_and_changed(frame))
 
 
-def main(root):
+def played():
+    """The lines and their answers, once those worked out by hand have stood."""
     for line, want in BY_HAND:
         if at_hand(line) != want:
             raise SystemExit("%r\n got  %s\n want %s" % (line[:80], at_hand(line), want))
-    generate.make_all()
     seen = list(dict.fromkeys(lines()))
-    crate = os.path.join(root, "crates", "details_lines")
-    os.makedirs(crate, exist_ok=True)
-    with open(os.path.join(crate, "stdin"), "wb") as out:
-        out.write(b"\n".join(seen) + b"\n")
-    with open(os.path.join(crate, "stdout"), "w") as out:
-        out.write("".join(at_hand(line) + "\n" for line in seen))
-    print(len(seen), "lines")
-
-
-if __name__ == "__main__":
-    main(sys.argv[1] if sys.argv[1:] else os.path.join(os.path.dirname(os.path.abspath(__file__)), ".."))
+    return b"\n".join(seen) + b"\n", "".join(at_hand(line) + "\n" for line in seen).encode("ascii")

@@ -1,9 +1,6 @@
 #!/usr/bin/env python3
-"""Writes what the gate runs for M-109, fetch bytes as they come off the line: crates/fetch_lines/stdin, a profile and
-bursts in hexadecimal, one a line, and stdout, the answer to each and the count of its bytes left. With a folder behind
-it both files are written below that folder instead.
-
-    python3 fetch.py [FOLDER]
+"""Makes the lines of the tool fetch, M-109, which gate.py writes: a profile and bursts in hexadecimal, one a line, with
+the answer to each and the count of its bytes left.
 
 The answers are what oracle.py prints. A want is the answer that the request gives, in the short forms of generate.py,
 and behind a blank the count left; fetch.py stops where the oracle says otherwise. It stops also where all the bytes
@@ -12,8 +9,6 @@ taken do not get the same answers in bursts of one byte each.
 
 import copy
 import itertools
-import os
-import sys
 
 import oracle
 from generate import (BEARER2, BEARER3, OTHER, PROFILE_7, TCP, UDP, H, Rng, close, damage, data, det, dev, events, hx,
@@ -153,7 +148,6 @@ class Delivery:
         self.gathered = oracle.Gathered()
         self.printed = []
         self.taken = b""
-        self.wants = 0
 
     def line(self, text, want=None):
         """A line as it stands."""
@@ -161,11 +155,9 @@ class Delivery:
         got = oracle.fetch_line(self.gathered, self.session, line)
         self.lines.append(line)
         self.printed.append(got)
-        if want is not None:
-            self.wants += 1
-            if not as_wanted(got, want):
-                raise SystemExit("line %d: %s\n got  %s\n want %s"
-                                 % (len(self.lines), line[:80], got[:200], want[:200]))
+        if want is not None and not as_wanted(got, want):
+            raise SystemExit("line %d: %s\n got  %s\n want %s"
+                             % (len(self.lines), line[:80], got[:200], want[:200]))
         if got != "R9":
             burst = oracle.read_hex(line)
             self.taken += burst[:len(burst) - self.left()]
@@ -458,8 +450,8 @@ def byte_by_byte(taken):
     return [oracle.printed(answer) for answer, _ in each if answer != b""]
 
 
-def main(root):
-    """Writes both files, once the answers have stood their checks."""
+def played():
+    """The lines and their answers, once these have stood their checks."""
     other_buffers()
     whole_inputs()
     s = everything()
@@ -469,13 +461,4 @@ def main(root):
     answers = [got.split(" ")[0] for got in s.printed if got not in ("R9", "-- 0")]
     if byte_by_byte(s.taken) != answers:
         raise SystemExit("another division of the bytes taken gets other answers")
-    crate = os.path.join(root, "crates", "fetch_lines")
-    os.makedirs(crate, exist_ok=True)
-    for name, content in (("stdin", text), ("stdout", out)):
-        with open(os.path.join(crate, name), "wb") as f:
-            f.write(content)
-    print(len(s.printed), "lines,", s.wants, "with a want")
-
-
-if __name__ == "__main__":
-    main(sys.argv[1] if sys.argv[1:] else os.path.join(os.path.dirname(os.path.abspath(__file__)), ".."))
+    return text, out

@@ -1,10 +1,5 @@
 #!/usr/bin/env python3
-"""Writes what the gate runs, into crates/lessons: the lessons, data/NAME.in and NAME.out, and the
-scripts, data/scripts/NAME.in; its args, which are the files to play; its stdout, which is for each
-file a line "== FILE" and the answers; and for readers notes/NAME.txt (one note for each line of
-input that has one). With a folder behind it everything is written below that folder instead.
-
-    python3 generate.py [FOLDER]
+"""Makes the lessons and the scripts of the line program, which gate.py writes.
 
 The answers are what oracle.py prints. Nearly every hand-made line also carries the
 answer that was expected when the line was written ("want", worked out by hand from the
@@ -18,14 +13,8 @@ Short forms of a want:   "00", "32", "3A04", ...  the result (details echoed, no
 """
 
 import os
-import shutil
-import sys
 
 import oracle
-
-HERE = os.path.dirname(os.path.abspath(__file__))
-LESSONS = os.path.join("crates", "lessons")     # both below the root of the tree
-NOTES = os.path.join("vectors", "notes")
 
 PROFILE = "00000800010C00000000001F82"          # the listing's: N = 4
 PROFILE_7 = "00000800010C00000000001FE2"        # N = 7
@@ -2586,22 +2575,6 @@ def make_lessons():
 
 # ---------------------------------------------------------------- all of it
 
-def write_file(root, name, content):
-    with open(os.path.join(root, LESSONS, name), "wb") as f:
-        f.write(content)
-
-
-def play(root, names, answers, s, file):
-    """Puts a script where the gate plays it, behind those before it."""
-    text, out = s.whole()
-    s.write_notes(os.path.join(root, NOTES))
-    write_file(root, os.path.join("data", file + ".in"), text)
-    if s.lesson:
-        write_file(root, os.path.join("data", file + ".out"), out)
-    names.append(file + ".in\n")
-    answers.append(b"== " + file.encode("ascii") + b".in\n" + out)
-
-
 def make_all():
     make_listing()
     make_numbers()
@@ -2634,26 +2607,3 @@ def make_all():
     make_datagrams_kept()
     make_datagrams_mixed()
     make_lessons()
-
-
-def main(root):
-    make_all()
-    names = [s.name for s in ALL]
-    assert len(names) == len(set(names)), "a name twice"
-    for folder in (NOTES, os.path.join(LESSONS, "data")):
-        shutil.rmtree(os.path.join(root, folder), ignore_errors=True)
-    os.makedirs(os.path.join(root, NOTES))
-    os.makedirs(os.path.join(root, LESSONS, "data", "scripts"))
-    files, answers = [], []
-    for s in ALL:
-        if s.lesson:
-            play(root, files, answers, s, s.name)
-    for s in ALL:
-        if not s.lesson:
-            play(root, files, answers, s, "scripts/" + s.name)
-    write_file(root, "args", "".join(files).encode("ascii"))
-    write_file(root, "stdout", b"".join(answers))
-
-
-if __name__ == "__main__":
-    main(sys.argv[1] if sys.argv[1:] else os.path.join(HERE, ".."))

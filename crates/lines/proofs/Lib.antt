@@ -1,5 +1,2 @@
 pub mod Telling
-pub mod Feeding
-pub mod Filling
 pub mod Settled
-pub mod Turns

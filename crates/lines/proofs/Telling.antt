@@ -14,14 +14,15 @@ use borrow.Author.Tests.{leb-true}
 use Rattle.rules.specs.declared.ChannelNumber.{ChannelNumber}
 use Rattle.rules.specs.declared.Refusal.the-variants.{Unreadable as R9}
 use Rattle.rules.specs.State.{State, start}
-use Rattle.rules.specs.Command.{Outcome, wrote, refused, endedOf, writtenBy}
-use Rattle.rules.specs.Run.{Call, starting, commanding, arriving, takingOut, droppingLink, step}
+use Rattle.rules.specs.Command.{Outcome, wrote, refused, endedOf, writtenBy, lending}
+use Rattle.rules.specs.Radio.{arrives, takes, drops}
+use Rattle.rules.specs.Run.{Call, starting, commanding, arriving, takingOut, droppingLink, step, radio}
 use Rattle.rules.specs.Reading.{pairIn}
 use Rattle.rules.specs.Lines.{printed, frameOf, callIn, callOf, perform, lineStep}
-use Rattle.rules.specs.Input.{Fed, lineBytes, between, begins, goes}
+use Rattle.rules.specs.Input.{Said, lineBytes, begins, goes}
 use Rattle.rules.proofs.Laws.{branch, both-right}
 use Rattle.rules.proofs.Soundness.{start-sound, step-sound}
-use Rattle.rules.specs.Pool.{poolSize}
+use Rattle.rules.specs.Pool.{poolSize, grantCap}
 use Rattle.octets.specs.Parts.{part, pasted, cleared, overlaid}
 use Rattle.rules.specs.declared.Ended.{Ended}
 use Rattle.rules.specs.declared.Ended.the-variants.{Wrote, Refused}
@@ -30,12 +31,12 @@ use Rattle.session.specs.Calls.{Answers}
 use Rattle.session.proofs.Facts.{bounds}
 use Rattle.session.proofs.Starts.{empty-pool, over-all}
 use Rattle.session.proofs.Views.{shows-back, shows-good}
-use Rattle.text.specs.Sizes.{responseSize, eventSize, takeCap}
+use Rattle.rules.specs.Results.{responseCap, eventCap}
 use Rattle.text.specs.declared.Spoken.{Spoken}
 use Rattle.text.specs.declared.Spoken.the-variants.{Command, Arrival, Take, Drop, Nothing}
 use Rattle.text.specs.Calls.{callSpoken}
 use Rattle.text.specs.Prints.{countOf, outcomeOf, lineOf, Prints}
-use Rattle.text.proofs.Stores.{paste-none}
+use Rattle.octets.proofs.Stores.{paste-none}
 use Rattle.text.proofs.Printing.{prints-as}
 use Rattle.text.proofs.Bounds.{front-back, count-within}
 use Rattle.lines.specs.Says.{answerTo, Replies, Says}
@@ -90,13 +91,13 @@ unfolding goes lineStep
 line-says a l t p e reply out at k after h w =
     let x = answerTo a (callIn (frameOf l)) in
     let q = prints-as (ap lineOf (h .outcome)) w in
-    let f : Fed = record { reader = between (x .state); out = lineBytes (printed (x .outcome)) } in
+    let f : Said State = record { kept = x .state; out = lineBytes (printed (x .outcome)) } in
     let says : Says f t p k out at after =
     record { good = h .good; state = h .state; stands = q .stands; place = q .place } in
     rw (line-is a (callIn (frameOf l))) says
 
 -- a line that is whole, by what it comes to
-pub ends-says : (f g : Fed) (t p : List ℕ) (k : ℕ) (out : List ℕ) (at : ℕ) (after : List ℕ) → f ≡ g → Says g t p k out at after → Says f t p k out at after
+pub ends-says : (f g : Said State) (t p : List ℕ) (k : ℕ) (out : List ℕ) (at : ℕ) (after : List ℕ) → f ≡ g → Says g t p k out at after → Says f t p k out at after
 ends-says f g t p k out at after e w = rw e w
 
 -- a fresh session
@@ -109,12 +110,12 @@ module _ (s t pool p u : List ℕ) (g : GoodIn u pool) (c : p ≡ cleared pool 0
   fresh-shows = record { ledger = m; pool = c ∙ over-all pool (replicate poolSize 0) (pool-size ∙ sym (length-replicate {A = ℕ} poolSize 0)) ∙ empty-pool s }
 
   fresh-says :
-      (f : Fed) (before : List ℕ) (at k : ℕ) (after : List ℕ) → f .reader ≡ between (start s) → after ≡ pasted before at (f .out) → k ≡ at + length (f .out) →
+      (f : Said State) (before : List ℕ) (at k : ℕ) (after : List ℕ) → f .kept ≡ start s → after ≡ pasted before at (f .out) → k ≡ at + length (f .out) →
       Says f t p k before at after
   fresh-says f before at k after e w z =
       record {
         good = shows-good (start s) t p (start-sound s) fresh-shows;
-        state = shows-back (start s) t p (start-sound s) fresh-shows ∙ ap (λ r. r .state) (sym e);
+        state = shows-back (start s) t p (start-sound s) fresh-shows ∙ sym e;
         stands = w;
         place = z;
       }
@@ -132,16 +133,16 @@ unfolding begins
 first-unread t pool p u g c m o before at k after e w = rw e (fresh-says [] t pool p u g c m _ before at k after refl (w .stands) (w .place))
 
 -- the front of a reply
-pub front-size : (k : ℕ) (z : List ℕ) → length z ≡ takeCap → k ≤ takeCap → k ≡ length (take k z)
+pub front-size : (k : ℕ) (z : List ℕ) → length z ≡ grantCap → k ≤ grantCap → k ≡ length (take k z)
 front-size k z h f = sym (length-take-le k z (omega arith))
 
 -- what a frame's call tells of it: an arrival has a channel, a take at most so many bytes
 abbrev Bounded : List ℕ → Option Call → Type 0
 Bounded s none = Unit {0}
-Bounded s (some (commanding buffer t)) = Unit {0}
-Bounded s (some (arriving buffer n t)) = 2 ≤ length s
-Bounded s (some (takingOut buffer n)) = buffer ≤ takeCap
-Bounded s (some (droppingLink buffer n)) = Unit {0}
+Bounded s (some (commanding terms t)) = Unit {0}
+Bounded s (some (radio buffer n (arrives t))) = 2 ≤ length s
+Bounded s (some (radio buffer n takes)) = buffer ≤ grantCap
+Bounded s (some (radio buffer n drops)) = Unit {0}
 Bounded s (some (starting t)) = Unit {0}
 
 call-bounded : (s : List ℕ) → Bounded s (callOf s)
@@ -151,7 +152,7 @@ call-bounded s =
     (λ _.
     branch (Bounded s) _ _ _ (λ h. leb-true 2 (length s) (both-right (eqb (getD s 0 0) 0xA0) _ h))
     (λ _.
-    branch (Bounded s) _ _ _ (λ h. leb-true (pairIn (drop 2 s)) takeCap (both-right (eqb (getD s 0 0) 0xA1 && eqb (length s) 4) _ h))
+    branch (Bounded s) _ _ _ (λ h. leb-true (pairIn (drop 2 s)) grantCap (both-right (eqb (getD s 0 0) 0xA1 && eqb (length s) 4) _ h))
     (λ _. branch (Bounded s) _ _ _ (λ _. tt) (λ _. tt))))
 
 -- by the call that the code read, with the front of a buffer that is lent to it
@@ -167,28 +168,28 @@ module _ (s : List ℕ) (r : Spoken) (t : callOf s ≡ callSpoken r s) where
   unfolding callSpoken
   arrival-bounded n e = subst (Bounded s) (spoken (Arrival n) e) (call-bounded s)
 
-  pub take-bounded : (n : ChannelNumber) (k : ℕ) → r ≡ Take n k → k ≤ takeCap
+  pub take-bounded : (n : ChannelNumber) (k : ℕ) → r ≡ Take n k → k ≤ grantCap
   unfolding callSpoken
   take-bounded n k e = subst (Bounded s) (spoken (Take n k) e) (call-bounded s)
 
-  module _ (z : List ℕ) (h : length z ≡ takeCap) where
-    lent : (c : ℕ → Call) (k : ℕ) → k ≤ takeCap → callOf s ≡ some (c k) → callOf s ≡ some (c (length (take k z)))
+  module _ (z : List ℕ) (h : length z ≡ grantCap) where
+    lent : (c : ℕ → Call) (k : ℕ) → k ≤ grantCap → callOf s ≡ some (c k) → callOf s ≡ some (c (length (take k z)))
     lent c k f e = e ∙ ap (λ (j : ℕ). some (c j)) (front-size k z h f)
 
-    pub command-spoken : r ≡ Command → callOf s ≡ some (commanding (length (take responseSize z)) s)
+    pub command-spoken : r ≡ Command → callOf s ≡ some (commanding (lending (length (take responseCap z))) s)
     unfolding callSpoken
-    command-spoken e = lent (λ (k : ℕ). commanding k s) responseSize (omega arith) (spoken Command e)
+    command-spoken e = lent (λ (k : ℕ). commanding (lending k) s) responseCap (omega arith) (spoken Command e)
 
-    pub arrival-spoken : (n : ChannelNumber) → r ≡ Arrival n → callOf s ≡ some (arriving (length (take eventSize z)) n (part 2 (length s) s))
+    pub arrival-spoken : (n : ChannelNumber) → r ≡ Arrival n → callOf s ≡ some (arriving (length (take eventCap z)) n (part 2 (length s) s))
     unfolding callSpoken
     arrival-spoken n e =
-        lent (λ (k : ℕ). arriving k n (part 2 (length s) s)) eventSize (omega arith)
-        (spoken (Arrival n) e ∙ ap (λ (t : List ℕ). some (arriving eventSize n t)) (sym (part-to-end s 2)))
+        lent (λ (k : ℕ). arriving k n (part 2 (length s) s)) eventCap (omega arith)
+        (spoken (Arrival n) e ∙ ap (λ (t : List ℕ). some (arriving eventCap n t)) (sym (part-to-end s 2)))
 
     pub take-spoken : (n : ChannelNumber) (k : ℕ) → r ≡ Take n k → callOf s ≡ some (takingOut (length (take k z)) n)
     unfolding callSpoken
     take-spoken n k e = lent (λ (j : ℕ). takingOut j n) k (take-bounded n k e) (spoken (Take n k) e)
 
-    pub drop-spoken : (n : ChannelNumber) → r ≡ Drop n → callOf s ≡ some (droppingLink (length (take eventSize z)) n)
+    pub drop-spoken : (n : ChannelNumber) → r ≡ Drop n → callOf s ≡ some (droppingLink (length (take eventCap z)) n)
     unfolding callSpoken
-    drop-spoken n e = lent (λ (k : ℕ). droppingLink k n) eventSize (omega arith) (spoken (Drop n) e)
+    drop-spoken n e = lent (λ (k : ℕ). droppingLink k n) eventCap (omega arith) (spoken (Drop n) e)

@@ -1,4 +1,1 @@
 pub mod Says
-pub mod Holds
-pub mod Fills
-pub mod Turns

@@ -8,7 +8,7 @@ use Rattle.rules.specs.declared.Refusal.the-variants.{Unreadable}
 use Rattle.rules.specs.State.{State}
 use Rattle.rules.specs.Command.{Answer, refusal}
 use Rattle.rules.specs.Run.{Call, step}
-use Rattle.rules.specs.Input.{Fed}
+use Rattle.rules.specs.Input.{Said}
 use Rattle.octets.specs.Parts.{pasted}
 use Rattle.rules.specs.declared.Ended.{Ended}
 use Rattle.session.specs.Picture.{GoodIn, shown}
@@ -27,8 +27,8 @@ pub record Replies (x : Answer) (t p : List ℕ) (e : Ended) (reply : List ℕ) 
   pub outcome : outcomeOf e reply ≡ x .outcome
 
 -- a line ended so: the session is good and shows the state behind it, and what is printed stands in the output from its place on
-pub record Says (f : Fed) (t p : List ℕ) (end : ℕ) (before : List ℕ) (at : ℕ) (after : List ℕ) : Type 0 where
+pub record Says (f : Said State) (t p : List ℕ) (end : ℕ) (before : List ℕ) (at : ℕ) (after : List ℕ) : Type 0 where
   pub good : GoodIn t p
-  pub state : shown t p ≡ f .reader .state
+  pub state : shown t p ≡ f .kept
   pub stands : after ≡ pasted before at (f .out)
   pub place : end ≡ at + length (f .out)

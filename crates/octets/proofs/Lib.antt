@@ -1,3 +1,4 @@
 pub mod Pastes
+pub mod Stores
 pub mod Copies
 pub mod Settled

@@ -24,7 +24,6 @@ pub mod Outside
 pub mod Listed
 pub mod Demands
 pub mod Openings
-pub mod Input
 pub mod Stages
 pub mod Fetch
 pub mod Acts

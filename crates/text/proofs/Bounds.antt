@@ -1,26 +1,23 @@
--- Bounds that the contracts of the lines give: a frame in its buffer, a printed line, and a chunk that was read.
+-- Bounds that the contracts of the lines give: a frame in its buffer, and a printed line.
 -- Assumes nothing.
-use Prim.Native.Nat.{ℕ, _+_, _-_, _*_, _≤_, _<_}
+use Prim.Native.Nat.{ℕ, _+_, _*_, _≤_, _<_}
 use mathlib.Core.Path.{_≡_, refl, sym, ap, subst, _∙_}
 use mathlib.Core.List.{List, [], _∷_, _++_}
 use mathlib.Core.Option.{Option, none, some}
 use native.Mathlib.Omega.{arith}
-use lib.ListN.{length, take, drop, length-append, length-take, length-drop}
+use lib.ListN.{length, take, drop, length-append, length-take}
 use lib.Seq.{take-append-seam, length-take-le}
 use Rattle.rules.specs.Command.{Outcome, wrote, refused, endedOf, writtenBy}
 use Rattle.rules.specs.Lines.{printed}
 use Rattle.octets.specs.Parts.{overlaid}
 use Rattle.rules.specs.declared.Ended.{Ended}
 use Rattle.rules.specs.declared.Ended.the-variants.{Wrote, Refused}
-use Rattle.text.specs.Sizes.{keptCap, shortLine}
+use Rattle.text.specs.Sizes.{shortLine}
 use Rattle.text.specs.declared.Frame.{Frame}
 use Rattle.text.specs.declared.Frame.the-variants.{Bytes, Unreadable}
-use Rattle.text.specs.declared.Gathered.{Gathered}
 use Rattle.text.specs.Frames.{frameTold, frameBytes}
-use Rattle.text.specs.Gathers.{beforeFeed, fitting, Gathers}
 use Rattle.text.specs.Prints.{countOf, outcomeOf, lineOf}
 use Rattle.text.proofs.Printing.{value-few, refused-few}
-use Rattle.text.proofs.Gathering.{piece-some, piece-few}
 
 -- a frame that was read: its bytes stand at the front of the buffer
 pub record Read (o : Option (List ℕ)) (n : ℕ) (buffer : List ℕ) : Type 0 where
@@ -72,16 +69,3 @@ line-within x s r at e =
     let l = length-append (printed (outcomeOf x s)) (10 ∷ []) in
     let one : length {A = ℕ} (10 ∷ []) ≡ 1 = refl in
     (omega arith, omega arith)
-
--- what was read of a chunk: not more than there is, and something where there is anything
-module _ (g : Gathered) (had : ℕ) (chunk : List ℕ) (from : ℕ) (before after : List ℕ) (h : Gathers g had chunk from before after) where
-  pub kept-few : had ≤ keptCap → g .len ≤ keptCap
-  unfolding fitting
-  kept-few k = let e = length-take (keptCap - had) (beforeFeed (drop from chunk)) in omega (arith, h .len)
-
-  pub next-on : from < length chunk → (from < g .next) × (g .next ≤ length chunk)
-  next-on k =
-      let l = length-drop from chunk in
-      let few = piece-few (drop from chunk) in
-      let some = piece-some (drop from chunk) (omega arith) in
-      (omega (arith, h .next), omega (arith, h .next))

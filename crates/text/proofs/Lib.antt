@@ -2,8 +2,6 @@ pub mod Digits
 pub mod Bytes
 pub mod Fills
 pub mod Calls
-pub mod Stores
-pub mod Gathering
 pub mod Printing
 pub mod Bounds
 pub mod Settled

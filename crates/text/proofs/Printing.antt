@@ -18,7 +18,7 @@ use Rattle.rules.specs.declared.Ended.{Ended}
 use Rattle.rules.specs.declared.Ended.the-variants.{Wrote, Refused}
 use Rattle.text.specs.Sizes.{leastValue, shortLine}
 use Rattle.text.specs.Prints.{lineOf, countOf, outcomeOf, Prints}
-use Rattle.text.proofs.Stores.{store-one}
+use Rattle.octets.proofs.Stores.{store-one}
 use Rattle.octets.specs.Parts.{part, pasted}
 use Rattle.octets.proofs.Pastes.{paste-after}
 use Rattle.octets.proofs.Copies.{Copied, copied-none, copied-more, copied-all}

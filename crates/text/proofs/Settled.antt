@@ -26,8 +26,6 @@ use Rattle.text.proofs.print_refusal.Kinds as print-refusal-kinds
 use Rattle.text.proofs.print_refusal.Reads as print-refusal-reads
 use Rattle.text.proofs.print.Kinds as print-kinds
 use Rattle.text.proofs.print.Reads as print-reads
-use Rattle.text.proofs.gather.Kinds as gather-kinds
-use Rattle.text.proofs.gather.Reads as gather-reads
 
 -- a call as the code tells it, read back from the call
 spoken-in : Option Call → Spoken
@@ -70,9 +68,3 @@ print-refusal-settled κs a _ x y v w p q = (p .place ∙ sym (q .place), λ i. 
 
 pub print-settled : Determined 2 print-kinds.ps print-kinds.r print-reads.Pre print-reads.Post
 print-settled κs a _ x y v w p q = (p .place ∙ sym (q .place), λ i. ((p .stands ∙ sym (q .stands)) i, v .1))
-
-pub gather-settled : Determined 2 gather-kinds.ps gather-kinds.r gather-reads.Pre gather-reads.Post
-gather-settled κs a _ x y v w p q = (
-  λ i. record { len = (p .len ∙ sym (q .len)) i; next = (p .next ∙ sym (q .next)) i; whole = (p .whole ∙ sym (q .whole)) i },
-  λ i. ((p .kept ∙ sym (q .kept)) i, v .1),
-)

@@ -2,4 +2,3 @@ pub mod Sizes
 pub mod Frames
 pub mod Calls
 pub mod Prints
-pub mod Gathers

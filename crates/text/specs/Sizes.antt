@@ -1,25 +1,12 @@
 -- The numbers of lines.
 use Prim.Native.Nat.{ℕ}
 
--- the most bytes of a frame, and what is kept of a line: one more than their digits, which is enough to see that it is too long
+-- the most bytes of a frame, and their digits
 abbrev pub frameCap : ℕ
 frameCap = 1600
 
 abbrev pub digitCap : ℕ
 digitCap = 3200
-
-abbrev pub keptCap : ℕ
-keptCap = 3201
-
--- the buffers lent to a command, to an arrival and a drop, and at most to a take
-abbrev pub responseSize : ℕ
-responseSize = 255
-
-abbrev pub eventSize : ℕ
-eventSize = 16
-
-abbrev pub takeCap : ℕ
-takeCap = 1500
 
 -- the print of a value without bytes
 abbrev pub leastValue : ℕ

@@ -1,4 +1,4 @@
-// Lines of text: gathered from chunks, read as frames and calls, and printed.
+// Lines of text: read as frames and calls, and printed.
 use octets;
 use rules::ChannelNumber;
 use rules::Ended;
@@ -11,11 +11,10 @@ ghost use lib.ListN.{length, getD};
 ghost use Rattle.rules.specs.Command.{wrote, refused};
 ghost use Rattle.rules.specs.Lines.{isDigit, digitValue, digitOf, bytesOf, frameOf, callOf, hex, lastDigit, zerosBefore, decimal, printed};
 ghost use Rattle.octets.specs.Parts.{overlaid};
-ghost use Rattle.text.specs.Sizes.{frameCap, keptCap, leastValue, shortLine, decimalCap};
+ghost use Rattle.text.specs.Sizes.{frameCap, leastValue, shortLine, decimalCap};
 ghost use Rattle.text.specs.Frames.{readable, frameTold, frameBytes};
 ghost use Rattle.text.specs.Calls.{callSpoken};
 ghost use Rattle.text.specs.Prints.{countOf, outcomeOf, lineOf, Prints};
-ghost use Rattle.text.specs.Gathers.{Gathers};
 
 // The numbers of lines.
 pub struct Line {}
@@ -26,18 +25,8 @@ impl Line {
 
     pub const DIGITS: usize = 3200;
 
-    // What is kept of a line: enough to see that it is too long.
-    pub const KEPT: usize = 3201;
-
-    // The buffers lent to a command, to an arrival and a drop, and at most to a take.
-    pub const RESPONSE: usize = 255;
-
-    pub const EVENT: usize = 16;
-
+    // The greatest count of a take.
     pub const TAKEN: usize = 1500;
-
-    // The longest printed line.
-    pub const PRINTED: usize = 3004;
 }
 
 // A line as a frame: so many bytes, or unreadable.
@@ -53,13 +42,6 @@ pub enum Spoken {
     Take(ChannelNumber, usize),
     Drop(ChannelNumber),
     Nothing,
-}
-
-// A line so far: how many of its bytes are kept, the place in the chunk behind what was read, and whether the line is whole.
-pub struct Gathered {
-    pub len: usize,
-    pub next: usize,
-    pub whole: bool,
 }
 
 // Whether a character is a hexadecimal digit, in either case.
@@ -288,34 +270,5 @@ pub fn print(out: &mut [u8], at: usize, ended: Ended, bytes: &[u8]) -> usize
     match ended {
         Ended::Wrote(count) => print_written(out, at, &bytes[..count]),
         Ended::Refused(refusal) => print_refusal(out, at, refusal),
-    }
-}
-
-// Reads a chunk from a place on, up to its first line feed or its end, and keeps of the line what is needed of it.
-pub fn gather(line: &mut [u8], len: usize, chunk: &[u8], from: usize) -> Gathered
-    requires { ⌜ (length (now line) ≡ keptCap) × (len ≤ keptCap) × (from ≤ length (now chunk)) ⌝ }
-    ensures { λ r. ⌜ Gathers r len (now (chunk .entry)) from (now (line .entry)) (now (line .exit)) ⌝ }
-{
-    let mut kept = len;
-    let mut i = from;
-    while i < chunk.len() {
-        let c = chunk[i];
-        i += 1;
-        if c == 10 {
-            return Gathered {
-                len: kept,
-                next: i,
-                whole: true,
-            };
-        }
-        if kept < Line::KEPT {
-            line[kept] = c;
-            kept += 1;
-        }
-    }
-    Gathered {
-        len: kept,
-        next: i,
-        whole: false,
     }
 }

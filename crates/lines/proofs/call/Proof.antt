@@ -3,7 +3,7 @@
 use native.Mathlib.Omega.{arith}
 use denote.Ref.{now}
 use Rattle.rules.specs.Run.{step}
-use Rattle.text.specs.Sizes.{responseSize, eventSize}
+use Rattle.rules.specs.Results.{responseCap, eventCap}
 use Rattle.lines.proofs.Telling.{call-replies, unread-replies, front-size, arrival-bounded, take-bounded, command-spoken, arrival-spoken, take-spoken, drop-spoken, nothing-spoken}
 use borrow.Author.Needs.{needs}
 use Rattle.lines.proofs.call.Statement.{statement}
@@ -12,7 +12,7 @@ use Rattle.lines.proofs.call.Tie as tie
 slice-aggregate-command-in : tie.Need-slice-aggregate-command-in
 slice-aggregate-command-in c =
     let s : tie.Start = search in
-    front-size responseSize (now (s .args .reply)) (s .pre .1) (omega arith)
+    front-size responseCap (now (s .args .reply)) (s .pre .1) (omega arith)
 
 sub-arrival-in : tie.Need-sub-arrival-in
 sub-arrival-in c =
@@ -29,7 +29,7 @@ part-arrival-in-start c =
 slice-aggregate-arrival-in : tie.Need-slice-aggregate-arrival-in
 slice-aggregate-arrival-in c =
     let s : tie.Start = search in
-    front-size eventSize (now (s .args .reply)) (s .pre .1) (omega arith)
+    front-size eventCap (now (s .args .reply)) (s .pre .1) (omega arith)
 
 slice-relend-prefix-taking-in : tie.Need-slice-relend-prefix-taking-in
 slice-relend-prefix-taking-in c =
@@ -48,7 +48,7 @@ slice-aggregate-taking-in c =
 slice-aggregate-dropping-in : tie.Need-slice-aggregate-dropping-in
 slice-aggregate-dropping-in c =
     let s : tie.Start = search in
-    front-size eventSize (now (s .args .reply)) (s .pre .1) (omega arith)
+    front-size eventCap (now (s .args .reply)) (s .pre .1) (omega arith)
 
 returns : tie.Need-returns
 unfolding step

@@ -6,19 +6,20 @@ use mathlib.Core.Bool.{false≢true}
 use native.Mathlib.Omega.{arith}
 use lib.ListN.{length}
 use lib.Seq.{length-take-le}
-use Rattle.lines.specs.Holds.{readerIn}
-use Rattle.lines.proofs.Filling.{fills-within}
-use Rattle.stream.proofs.Pieces.{Midway, midway-none, midway-all, midway-within, midway-less, midway-more}
+use Rattle.flow.specs.Holds.{readerIn}
+use Rattle.tools.specs.Tools.{memory, GoodMemory, keptIn, ends}
+use Rattle.flow.proofs.Filling.{fills-within}
+use Rattle.flow.proofs.Pieces.{Midway, midway-none, midway-all, midway-within, midway-less, midway-more}
 use borrow.Author.Needs.{needs}
 use Rattle.stream.proofs.feed_all.Statement.{statement}
 use Rattle.stream.proofs.feed_all.Tie as tie
 
 abbrev Inv-loop : tie.InvT-loop
-Inv-loop ledger₀ pool₀ line₀ piece out₀ kept₀ next₀ ledger pool line out kept next =
-    Midway (readerIn kept₀ ledger₀ pool₀ line₀) piece kept ledger pool line out next
+Inv-loop tool ledger₀ pool₀ gathered₀ line₀ piece out₀ kept₀ next₀ ledger pool gathered line out kept next =
+    Midway GoodMemory keptIn (ends tool) (readerIn keptIn kept₀ (memory ledger₀ pool₀ gathered₀) line₀) piece kept (memory ledger pool gathered) line out₀ out next
 
 abbrev μ-loop : tie.MeasureT-loop
-μ-loop ledger₀ pool₀ line₀ piece out₀ kept₀ next₀ ledger pool line out kept next = length piece - next
+μ-loop tool ledger₀ pool₀ gathered₀ line₀ piece out₀ kept₀ next₀ ledger pool gathered line out kept next = length piece - next
 
 add-next : tie.Need-add-next Inv-loop μ-loop
 add-next c =
@@ -27,13 +28,13 @@ add-next c =
     let s : tie.Start Inv-loop μ-loop = search in
     omega (arith, midway-within (l .loop .inv) (f .fill .ensures), s .good)
 
-slice-reshare-prefix-write-all : tie.Need-slice-reshare-prefix-write-all Inv-loop μ-loop
-slice-reshare-prefix-write-all c =
+slice-reshare-prefix-write-told : tie.Need-slice-reshare-prefix-write-told Inv-loop μ-loop
+slice-reshare-prefix-write-told c =
     let f : tie.After-fill Inv-loop μ-loop = search in
     fills-within (f .fill .ensures)
 
-slice-aggregate-write-all : tie.Need-slice-aggregate-write-all Inv-loop μ-loop
-slice-aggregate-write-all c =
+slice-aggregate-write-told : tie.Need-slice-aggregate-write-told Inv-loop μ-loop
+slice-aggregate-write-told c =
     let f : tie.After-fill Inv-loop μ-loop = search in
     sym (length-take-le _ _ (fills-within (f .fill .ensures)))
 
@@ -74,8 +75,8 @@ feed-all-spec =
     (λ c. search needs)
     (λ c κs. let l : tie.At-loop Inv-loop μ-loop = search in l .loop .inv .ready)
     add-next
-    slice-reshare-prefix-write-all
-    slice-aggregate-write-all
+    slice-reshare-prefix-write-told
+    slice-aggregate-write-told
     (λ c κs. search needs)
     (λ c. omega arith)
     (λ c. omega arith)

@@ -1,19 +1,19 @@
--- `stream::take_turn` meets its contract: a session with which the program may go on.
+-- `stream::take_turn` meets its contract: a memory with which the tool may go on.
 -- Assumes nothing.
 use mathlib.Core.Path.{sym}
 use lib.Seq.{length-take-le}
-use Rattle.lines.proofs.Filling.{fills-within}
+use Rattle.flow.proofs.Filling.{fills-within}
 use borrow.Author.Needs.{needs}
 use Rattle.stream.proofs.take_turn.Statement.{statement}
 use Rattle.stream.proofs.take_turn.Tie as tie
 
-slice-reshare-prefix-write-all : tie.Need-slice-reshare-prefix-write-all
-slice-reshare-prefix-write-all c =
+slice-reshare-prefix-write-told : tie.Need-slice-reshare-prefix-write-told
+slice-reshare-prefix-write-told c =
     let f : tie.After-finish = search in
     fills-within (f .finish .ensures)
 
-slice-aggregate-write-all : tie.Need-slice-aggregate-write-all
-slice-aggregate-write-all c =
+slice-aggregate-write-told : tie.Need-slice-aggregate-write-told
+slice-aggregate-write-told c =
     let f : tie.After-finish = search in
     sym (length-take-le _ _ (fills-within (f .finish .ensures)))
 
@@ -23,10 +23,12 @@ take-turn-spec =
     (tie.spec
     (λ c κs. search needs)
     (λ c. search needs)
+    (λ c κs. search needs)
+    (λ c. search needs)
     (λ c. search needs)
     (λ c κs. search needs)
-    slice-reshare-prefix-write-all
-    slice-aggregate-write-all
+    slice-reshare-prefix-write-told
+    slice-aggregate-write-told
     (λ c κs. search needs)
     (λ c. search needs)
     (λ c. search needs)

@@ -1,0 +1,57 @@
+-- What each tool leaves behind is what the tool says of the line: a law for each.
+-- Assumes nothing.
+use Prim.Native.Nat.{ℕ}
+use mathlib.Core.Path.{_≡_, refl}
+use mathlib.Core.Bool.{Bool, true}
+use mathlib.Core.List.{List}
+use Rattle.rules.specs.Input.{lineEnds}
+use Rattle.session.specs.Picture as session
+use Rattle.lines.specs.Says as lines
+use Rattle.fetch.specs.Gathers.{gatheredIn}
+use Rattle.text.specs.Prints.{Prints}
+use Rattle.bench.specs.Printed.{benchLine}
+use Rattle.details.specs.Printed.{detailsLine}
+use Rattle.bursts.specs.Bursts.{awaitsIn, burstEnds, Tells}
+use Rattle.flow.specs.Holds.{Says}
+use Rattle.tools.specs.declared.Tool.{Tool}
+use Rattle.tools.specs.declared.Tool.the-variants.{Lines, Bench, Details, Fetch}
+use Rattle.tools.specs.Tools.{memory, GoodMemory, keptIn, stays, ends}
+
+module _ (tool : Tool) (b : Bool) (t p g l : List ℕ) (y : GoodMemory (memory t p g)) (r : ℕ) (out : List ℕ) (at : ℕ) (out′ : List ℕ) where
+  pub lines-answer :
+      (t′ p′ : List ℕ) → tool ≡ Lines → lines.Says (lineEnds b (session.shown t p) l) t′ p′ r out at out′ →
+      Says GoodMemory keptIn (ends tool (keptIn b (memory t p g)) l) (memory t′ p′ g) r out at out′
+  unfolding ends
+  lines-answer t′ p′ e h =
+      rw e
+      (record {
+        good = record { session = h .good; gathers = y .gathers };
+        state = λ i. record { begun = true; state = h .state i; gathered = gatheredIn g };
+        stands = h .stands;
+        place = h .place;
+      })
+
+  -- a tool that keeps nothing
+  stays-answer : (s : List ℕ) → Prints s r out at out′ → Says GoodMemory keptIn (stays (keptIn b (memory t p g)) s) (memory t p g) r out at out′
+  stays-answer s h = record { good = y; state = refl; stands = h .stands; place = h .place }
+
+  pub bench-answer : tool ≡ Bench → Prints (benchLine l) r out at out′ → Says GoodMemory keptIn (ends tool (keptIn b (memory t p g)) l) (memory t p g) r out at out′
+  unfolding ends
+  bench-answer e h = rw e (stays-answer (benchLine l) h)
+
+  pub details-answer : tool ≡ Details → Prints (detailsLine l) r out at out′ → Says GoodMemory keptIn (ends tool (keptIn b (memory t p g)) l) (memory t p g) r out at out′
+  unfolding ends
+  details-answer e h = rw e (stays-answer (detailsLine l) h)
+
+  pub fetch-answer :
+      (t′ p′ g′ : List ℕ) → tool ≡ Fetch → Tells (burstEnds b (awaitsIn t p g) l) t′ p′ g′ r out at out′ →
+      Says GoodMemory keptIn (ends tool (keptIn b (memory t p g)) l) (memory t′ p′ g′) r out at out′
+  unfolding ends
+  fetch-answer t′ p′ g′ e h =
+      rw e
+      (record {
+        good = record { session = h .good; gathers = h .gathers };
+        state = λ i. record { begun = true; state = h .kept i .state; gathered = h .kept i .gathered };
+        stands = h .prints .stands;
+        place = h .prints .place;
+      })

@@ -1,0 +1,55 @@
+-- `tools::answer` meets its contract: each arm by the law of its tool.
+-- Assumes nothing.
+use Rattle.tools.proofs.Answering.{lines-answer, bench-answer, details-answer, fetch-answer}
+use borrow.Author.Needs.{needs}
+use Rattle.tools.proofs.answer.Statement.{statement}
+use Rattle.tools.proofs.answer.Tie as tie
+
+returns : tie.Need-returns
+returns c =
+    let a : tie.After-end-line = search in
+    let t : tie.After-enum-told = search in
+    let s : tie.Start = search in
+    lines-answer _ _ _ _ _ _ (s .pre .0) _ _ _ _ _ _ (t .enum-told .given .1) (a .end-line .ensures)
+
+returns-2 : tie.Need-returns-2
+returns-2 c =
+    let a : tie.After-tell-bench = search in
+    let t : tie.After-enum-told2 = search in
+    let s : tie.Start = search in
+    bench-answer _ _ _ _ _ _ (s .pre .0) _ _ _ _ (t .enum-told2 .given .1) (a .tell-bench .ensures)
+
+returns-3 : tie.Need-returns-3
+returns-3 c =
+    let a : tie.After-tell-details = search in
+    let t : tie.After-enum-told3 = search in
+    let s : tie.Start = search in
+    details-answer _ _ _ _ _ _ (s .pre .0) _ _ _ _ (t .enum-told3 .given .1) (a .tell-details .ensures)
+
+returns-4 : tie.Need-returns-4
+returns-4 c =
+    let a : tie.After-tell-burst = search in
+    let t : tie.After-enum-told4 = search in
+    let s : tie.Start = search in
+    fetch-answer _ _ _ _ _ _ (s .pre .0) _ _ _ _ _ _ _ (t .enum-told4 .given .1) (a .tell-burst .ensures)
+
+pub answer-spec : {M : Type 1} → statement M
+answer-spec =
+    tie.close
+    (tie.spec
+    (λ c. search needs)
+    (λ c κs. search needs)
+    (λ c. search needs)
+    (λ c κs. search needs)
+    (λ c. search needs)
+    (λ c κs. search needs)
+    (λ c. search needs)
+    (λ c κs. search needs)
+    (λ c. search needs)
+    returns
+    (λ c. search needs)
+    returns-2
+    (λ c. search needs)
+    returns-3
+    (λ c. search needs)
+    returns-4)

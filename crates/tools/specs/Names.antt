@@ -1,0 +1,29 @@
+-- The names of the tools.
+use Prim.Native.Nat.{ℕ}
+use mathlib.Core.List.{List, [], _∷_}
+use Rattle.rules.specs.Checks.{_⇒_else_, same}
+use Rattle.tools.specs.declared.Tool.the-variants.{Lines, Bench, Details, Fetch}
+use Rattle.tools.specs.declared.Named.{Named}
+use Rattle.tools.specs.declared.Named.the-variants.{One, Unknown}
+
+-- "lines", "bench", "details", "fetch"
+abbrev pub linesName : List ℕ
+linesName = 108 ∷ 105 ∷ 110 ∷ 101 ∷ 115 ∷ []
+
+abbrev pub benchName : List ℕ
+benchName = 98 ∷ 101 ∷ 110 ∷ 99 ∷ 104 ∷ []
+
+abbrev pub detailsName : List ℕ
+detailsName = 100 ∷ 101 ∷ 116 ∷ 97 ∷ 105 ∷ 108 ∷ 115 ∷ []
+
+abbrev pub fetchName : List ℕ
+fetchName = 102 ∷ 101 ∷ 116 ∷ 99 ∷ 104 ∷ []
+
+-- the tool that a word names
+unfoldable pub toolNamed : List ℕ → Named
+toolNamed w =
+    same w linesName ⇒ One Lines else
+    same w benchName ⇒ One Bench else
+    same w detailsName ⇒ One Details else
+    same w fetchName ⇒ One Fetch else
+    Unknown
