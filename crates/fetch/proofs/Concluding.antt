@@ -22,11 +22,11 @@ use Rattle.session.specs.Picture.{GoodIn, shown}
 use Rattle.session.specs.Calls.{Answers}
 use Rattle.session.proofs.Answers.{refuse-answers, quiet-answers}
 use Rattle.fetch.specs.declared.Fetched.{Fetched}
-use Rattle.fetch.specs.Gathers.{countAt, gatheredSize, gatheredOf, gatheredIn, isLacking, Gathers, Stands, brought, concluded, Leaves, Fetches}
+use Rattle.fetch.specs.Gathers.{countAt, gatheredSize, gatheredOf, gatheredIn, isLacking, Gathers, Partial, brought, concluded, Leaves, Fetches}
 use Rattle.fetch.proofs.Records.{lacking-few, none-lacks, gathers-stand, front-length, stands-size, stands-counted, stands-on, record-cleared}
 use Rattle.fetch.proofs.Bringing.{brought-fetched, brought-few}
 
-module _ (t p r : List ℕ) (count : ℕ) (out : List ℕ) (stands : Stands r count) where
+module _ (t p r : List ℕ) (count : ℕ) (out : List ℕ) (stands : Partial r count) where
   abbrev g : List ℕ
   g = take count r
 
@@ -69,7 +69,7 @@ module _ (t p r : List ℕ) (count : ℕ) (out : List ℕ) (stands : Stands r co
       (record { answers = answers; gathered = clear; lacks = none-lacks })
 
 -- where some are lacking the count is below 256
-pub kept-few : (r : List ℕ) (count : ℕ) → Stands r count → (k : Stage) (n : ℕ) → k ≡ stage (take count r) → k ≡ Lacks n → count < countAt
+pub kept-few : (r : List ℕ) (count : ℕ) → Partial r count → (k : Stage) (n : ℕ) → k ≡ stage (take count r) → k ≡ Lacks n → count < countAt
 unfolding isLacking
 kept-few r count stands k n is e =
     let m = front-length r count stands in
@@ -117,11 +117,11 @@ module _ (r s : List ℕ) (gathers : Gathers r) where
   -- k bytes of it were brought
   module _ (k : ℕ) (r₁ : List ℕ) (n : k ≡ length (brought held s)) (put : r₁ ≡ pasted r count (brought held s)) where
     -- they stand behind those held
-    pub fetch-stands : Stands r₁ (count + k)
+    pub fetch-stands : Partial r₁ (count + k)
     fetch-stands =
         let f = brought-fits in
-        subst (λ (x : List ℕ). Stands x (count + k)) (sym put)
-        (subst (λ (j : ℕ). Stands (pasted r count (brought held s)) (count + j)) (sym n) (stands-on r count (gathers-stand r gathers) (brought held s) f))
+        subst (λ (x : List ℕ). Partial x (count + k)) (sym put)
+        (subst (λ (j : ℕ). Partial (pasted r count (brought held s)) (count + j)) (sym n) (stands-on r count (gathers-stand r gathers) (brought held s) f))
 
     front : take (count + k) r₁ ≡ held ++ brought held s
     unfolding gatheredIn

@@ -17,7 +17,7 @@ use Rattle.octets.specs.Parts.{pasted, cleared, pad}
 use Rattle.octets.proofs.Pastes.{length-pad}
 use Rattle.session.proofs.Regions.{way-put}
 use Rattle.session.proofs.Starts.{over-all}
-use Rattle.fetch.specs.Gathers.{countAt, gatheredSize, gatheredOf, gatheredIn, isLacking, Gathers, Stands}
+use Rattle.fetch.specs.Gathers.{countAt, gatheredSize, gatheredOf, gatheredIn, isLacking, Gathers, Partial}
 
 -- bytes that lack some are fewer than 256
 lacking-fits : (g : List ℕ) (k : Stage) → Means k g → isLacking k ≡ true → length g < countAt
@@ -57,22 +57,22 @@ gathers-of r g e l =
     record { is = e ∙ ap gatheredOf (sym back); lacks = ap (λ (x : List ℕ). isLacking (stage x)) back ∙ l }
 
 -- bytes, zeros behind them and a last number, within a burst
-stands-as : (r g : List ℕ) (c : ℕ) → r ≡ pad countAt g ++ c ∷ [] → length g ≤ countAt → Stands r (length g)
+stands-as : (r g : List ℕ) (c : ℕ) → r ≡ pad countAt g ++ c ∷ [] → length g ≤ countAt → Partial r (length g)
 stands-as r g c e h =
     let front = ap (take (length g)) e ∙ front-of g c h in
     let last = ap (λ (x : List ℕ). getD x countAt 0) e ∙ last-of g c h in
     record { fits = h; is = e ∙ (λ i. pad countAt (sym front i) ++ sym last i ∷ []) }
 
 -- a record that gathers
-pub gathers-stand : (r : List ℕ) → Gathers r → Stands r (getD r countAt 0)
+pub gathers-stand : (r : List ℕ) → Gathers r → Partial r (getD r countAt 0)
 unfolding gatheredIn gatheredOf
 gathers-stand r h =
     let g = gatheredIn r in
     let w = lacking-few g (h .lacks) in
     let last = ap (λ (x : List ℕ). getD x countAt 0) (h .is) ∙ last-of g (length g) (omega (arith, w)) in
-    subst (Stands r) (sym last) (stands-as r g (length g) (h .is) (omega (arith, w)))
+    subst (Partial r) (sym last) (stands-as r g (length g) (h .is) (omega (arith, w)))
 
-module _ (r : List ℕ) (count : ℕ) (h : Stands r count) where
+module _ (r : List ℕ) (count : ℕ) (h : Partial r count) where
   front-fits : length (take count r) ≤ countAt
   front-fits =
       let k = length-take count r in
@@ -97,7 +97,7 @@ module _ (r : List ℕ) (count : ℕ) (h : Stands r count) where
       ∙ ap (λ (k : ℕ). pad countAt (take count r) ++ k ∷ []) (sym front-length)
 
   -- bytes put behind those that it has
-  pub stands-on : (t : List ℕ) → count + length t ≤ countAt → Stands (pasted r count t) (count + length t)
+  pub stands-on : (t : List ℕ) → count + length t ≤ countAt → Partial (pasted r count t) (count + length t)
   stands-on t f =
       let g = take count r in
       let c = getD r countAt 0 in
@@ -107,7 +107,7 @@ module _ (r : List ℕ) (count : ℕ) (h : Stands r count) where
       (λ i. pasted (h .is i) (sym n i) t) ∙ ap (λ (m : ℕ). pasted (pad countAt g ++ c ∷ []) m t) (sym (zero-add (length g)))
       ∙ way-put [] g (c ∷ []) 0 countAt refl t (omega (arith, n, f)) in
       let all : length (g ++ t) ≡ count + length t = omega (arith, k, n) in
-      subst (Stands (pasted r count t)) all (stands-as (pasted r count t) (g ++ t) c put (omega (arith, all, f)))
+      subst (Partial (pasted r count t)) all (stands-as (pasted r count t) (g ++ t) c put (omega (arith, all, f)))
 
 -- all of it cleared
 pub record-cleared : (r : List ℕ) → length r ≡ gatheredSize → cleared r 0 gatheredSize ≡ gatheredOf []

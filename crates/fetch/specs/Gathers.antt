@@ -44,7 +44,7 @@ pub record Gathers (r : List ℕ) : Type 0 where
   pub lacks : isLacking (stage (gatheredIn r)) ≡ true
 
 -- within a burst: so many bytes stand at the front, zeros behind them up to the last number
-pub record Stands (r : List ℕ) (count : ℕ) : Type 0 where
+pub record Partial (r : List ℕ) (count : ℕ) : Type 0 where
   pub fits : count ≤ countAt
   pub is : r ≡ pad countAt (take count r) ++ getD r countAt 0 ∷ []
 

@@ -19,7 +19,7 @@ ghost use Rattle.rules.specs.Fetch.{lengthToCome, lackingBy, stage, fetch};
 ghost use Rattle.octets.specs.Parts.{pasted};
 ghost use Rattle.session.specs.Picture.{GoodIn, shown};
 ghost use Rattle.session.specs.Calls.{Answers};
-ghost use Rattle.fetch.specs.Gathers.{gatheredSize, gatheredOf, gatheredIn, Gathers, Stands, brought, concluded, Leaves, Fetches};
+ghost use Rattle.fetch.specs.Gathers.{gatheredSize, gatheredOf, gatheredIn, Gathers, Partial, brought, concluded, Leaves, Fetches};
 
 // What was gathered of a command: its bytes, 0 behind them, and last their count.
 pub struct Gathered {}
@@ -99,7 +99,7 @@ struct Brought {
 }
 
 // Gathers bytes of a burst behind the `held` ones, as many at a time as are surely lacking, until what they are can be told or none are left.
-fn gather(gathered: &mut [u8], held: usize, bytes: &[u8]) -> Brought
+fn bring(gathered: &mut [u8], held: usize, bytes: &[u8]) -> Brought
     requires { ⌜ (length (now gathered) ≡ gatheredSize) × (held ≤ 256) ⌝ }
     ensures { λ r. ⌜ (r .taken ≡ length (brought (take held (now (gathered .entry))) (now (bytes .entry)))) × (now (gathered .exit) ≡ pasted (now (gathered .entry)) held (brought (take held (now (gathered .entry))) (now (bytes .entry)))) ⌝ }
     ensures { λ r. ⌜ r .stage ≡ stage (take (held + r .taken) (now (gathered .exit))) ⌝ }
@@ -131,7 +131,7 @@ fn hand_on(
     count: usize,
     out: &mut [u8],
 ) -> Ended
-    requires { ⌜ GoodIn (now ledger) (now pool) × Stands (now gathered) count ⌝ }
+    requires { ⌜ GoodIn (now ledger) (now pool) × Partial (now gathered) count ⌝ }
     ensures { λ r. ⌜ Answers (command (shown (now (ledger .entry)) (now (pool .entry))) (lending (length (now (out .entry)))) (take count (now (gathered .entry)))) (now (ledger .exit)) (now (pool .exit)) r (now (out .entry)) (now (out .exit)) × (now (gathered .exit) ≡ gatheredOf []) ⌝ }
 {
     let ended = command_in(ledger, pool, &gathered[..count], out);
@@ -148,7 +148,7 @@ fn conclude(
     reached: Stage,
     out: &mut [u8],
 ) -> Ended
-    requires { ⌜ GoodIn (now ledger) (now pool) × Stands (now gathered) count ⌝ }
+    requires { ⌜ GoodIn (now ledger) (now pool) × Partial (now gathered) count ⌝ }
     requires { ⌜ reached ≡ stage (take count (now gathered)) ⌝ }
     ensures { λ r. ⌜ Leaves (concluded (shown (now (ledger .entry)) (now (pool .entry))) (lending (length (now (out .entry)))) (take count (now (gathered .entry))) [] (stage (take count (now (gathered .entry))))) (now (ledger .exit)) (now (pool .exit)) (now (gathered .exit)) r (now (out .entry)) (now (out .exit)) ⌝ }
 {
@@ -183,7 +183,7 @@ pub fn fetch_in(
         };
     }
     let held = gathered[Gathered::COUNT_AT] as usize;
-    let brought = gather(gathered, held, bytes);
+    let brought = bring(gathered, held, bytes);
     let taken = brought.taken;
     let reached = brought.stage;
     let ended = conclude(ledger, pool, gathered, held + taken, reached, out);

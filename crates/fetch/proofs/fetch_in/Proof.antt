@@ -19,38 +19,38 @@ cast-held c =
     let s : tie.Start = search in
     let f = gathers-stand _ (s .pre .1) .fits in record { fits = omega (arith, f) }
 
-gather-requires : tie.Need-gather-requires
-gather-requires c κs =
+bring-requires : tie.Need-bring-requires
+bring-requires c κs =
     let s : tie.Start = search in
     (stands-size _ _ (gathers-stand _ (s .pre .1)), gathers-stand _ (s .pre .1) .fits)
 
 add-conclude : tie.Need-add-conclude
 unfolding gatheredIn
 add-conclude c =
-    let g : tie.After-gather = search in
+    let g : tie.After-bring = search in
     let s : tie.Start = search in
-    let f = fetch-stands _ _ (s .pre .1) _ _ (g .gather .ensures .0 .0) (g .gather .ensures .0 .1) .fits in omega (arith, f)
+    let f = fetch-stands _ _ (s .pre .1) _ _ (g .bring .ensures .0 .0) (g .bring .ensures .0 .1) .fits in omega (arith, f)
 
 conclude-requires : tie.Need-conclude-requires
 unfolding gatheredIn
 conclude-requires c κs =
-    let g : tie.After-gather = search in
+    let g : tie.After-bring = search in
     let s : tie.Start = search in
-    ((s .pre .0, fetch-stands _ _ (s .pre .1) _ _ (g .gather .ensures .0 .0) (g .gather .ensures .0 .1)), g .gather .ensures .1)
+    ((s .pre .0, fetch-stands _ _ (s .pre .1) _ _ (g .bring .ensures .0 .0) (g .bring .ensures .0 .1)), g .bring .ensures .1)
 
 sub-left : tie.Need-sub-left
 sub-left c =
-    let g : tie.After-gather = search in
-    brought-count _ _ _ (g .gather .ensures .0 .0)
+    let g : tie.After-bring = search in
+    brought-count _ _ _ (g .bring .ensures .0 .0)
 
 returns-2 : tie.Need-returns-2
 unfolding gatheredIn
 returns-2 c =
     let k : tie.After-conclude = search in
-    let g : tie.After-gather = search in
+    let g : tie.After-bring = search in
     let e : tie.Else1 = search in
     let s : tie.Start = search in
-    fetch-told _ _ (s .pre .1) _ _ (g .gather .ensures .0 .0) (g .gather .ensures .0 .1) _ _ _ _ _ _ _ _ (e .if1 .left) (k .conclude .ensures)
+    fetch-told _ _ (s .pre .1) _ _ (g .bring .ensures .0 .0) (g .bring .ensures .0 .1) _ _ _ _ _ _ _ _ (e .if1 .left) (k .conclude .ensures)
 
 pub fetch-in-spec : {M : Type 1} → statement M
 fetch-in-spec =
@@ -59,7 +59,7 @@ fetch-in-spec =
     returns
     (λ c. search needs)
     cast-held
-    gather-requires
+    bring-requires
     add-conclude
     conclude-requires
     sub-left

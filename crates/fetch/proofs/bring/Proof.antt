@@ -1,4 +1,4 @@
--- `fetch::gather` meets its contract: at each turn as many bytes are brought as are surely lacking.
+-- `fetch::bring` meets its contract: at each turn as many bytes are brought as are surely lacking.
 -- Assumes nothing.
 use Prim.Native.Nat.{_-_}
 use mathlib.Core.Path.{sym, ap, _∙_}
@@ -8,8 +8,8 @@ use lib.Seq.{length-take-le}
 use Rattle.fetch.specs.Gathers.{isLacking}
 use Rattle.fetch.proofs.Bringing.{Bringing, bring-none, bring-more, bring-short, bring-fits, bring-stop, bring-end}
 use borrow.Author.Needs.{needs}
-use Rattle.fetch.proofs.gather.Statement.{statement}
-use Rattle.fetch.proofs.gather.Tie as tie
+use Rattle.fetch.proofs.bring.Statement.{statement}
+use Rattle.fetch.proofs.bring.Tie as tie
 
 abbrev Inv-loop : tie.InvT-loop
 Inv-loop gathered₀ held bytes taken₀ gathered taken = Bringing gathered₀ held bytes gathered taken
@@ -107,8 +107,8 @@ returns-3 c =
     let s : tie.Start Inv-loop μ-loop = search in
     (bring-stop _ _ _ (s .pre .0) _ _ (l .loop .inv) (ap isLacking (sym (t .stage-of .ensures) ∙ c .enum-told2 .given .1)), t .stage-of .ensures)
 
-pub gather-spec : {M : Type 1} → statement M
-gather-spec =
+pub bring-spec : {M : Type 1} → statement M
+bring-spec =
     tie.close
     (tie.spec
     Inv-loop
