@@ -12,7 +12,7 @@ use session::Ledger;
 use session::least;
 ghost use mathlib.Core.Path.{_≡_};
 ghost use mathlib.Core.List.{[]};
-ghost use Prim.Native.Nat.{_+_, _-_, _≤_};
+ghost use Prim.Native.Nat.{_-_, _≤_};
 ghost use lib.ListN.{length, take, drop};
 ghost use Rattle.rules.specs.Command.{lending, command};
 ghost use Rattle.rules.specs.Fetch.{lengthToCome, lackingBy, stage, fetch};
@@ -92,35 +92,26 @@ fn stage_of(s: &[u8]) -> Stage
     }
 }
 
-// How many bytes of a burst were taken, and what the gathered bytes are with them.
-struct Brought {
-    taken: usize,
-    stage: Stage,
-}
-
-// Gathers bytes of a burst behind the `held` ones, as many at a time as are surely lacking, until what they are can be told or none are left.
-fn bring(gathered: &mut [u8], held: usize, bytes: &[u8]) -> Brought
+// Gathers bytes of a burst behind the `held` ones, as many at a time as are surely lacking, until what they are can be told; tells how many were taken.
+fn bring(gathered: &mut [u8], held: usize, bytes: &[u8]) -> usize
     requires { ⌜ (length (now gathered) ≡ gatheredSize) × (held ≤ 256) ⌝ }
-    ensures { λ r. ⌜ (r .taken ≡ length (brought (take held (now (gathered .entry))) (now (bytes .entry)))) × (now (gathered .exit) ≡ pasted (now (gathered .entry)) held (brought (take held (now (gathered .entry))) (now (bytes .entry)))) ⌝ }
-    ensures { λ r. ⌜ r .stage ≡ stage (take (held + r .taken) (now (gathered .exit))) ⌝ }
+    ensures { λ r. ⌜ r ≡ length (brought (take held (now (gathered .entry))) (now (bytes .entry))) ⌝ }
+    ensures { λ r. ⌜ now (gathered .exit) ≡ pasted (now (gathered .entry)) held (brought (take held (now (gathered .entry))) (now (bytes .entry))) ⌝ }
 {
     let mut taken: usize = 0;
-    loop {
+    while taken < bytes.len() {
         let count = held + taken;
-        let stage = stage_of(&gathered[..count]);
-        match stage {
+        match stage_of(&gathered[..count]) {
             Stage::Lacks(n) => {
-                if taken == bytes.len() {
-                    return Brought { taken, stage };
-                }
                 let end = taken + least(n, bytes.len() - taken);
                 octets::put_part(gathered, count, bytes, taken, end);
                 taken = end;
             }
-            Stage::Overlong => return Brought { taken, stage },
-            Stage::Decided => return Brought { taken, stage },
+            Stage::Overlong => return taken,
+            Stage::Decided => return taken,
         }
     }
+    taken
 }
 
 // The gathered bytes go to the command call, and are gone.
@@ -139,20 +130,18 @@ fn hand_on(
     ended
 }
 
-// What the gathered bytes come to by the stage that they reached: they are kept, or dropped with R2, or go to the command call.
+// What the gathered bytes come to: they are kept, or dropped with R2, or go to the command call.
 fn conclude(
     ledger: &mut [u16; Ledger::SIZE],
     pool: &mut [u8; Pool::SIZE],
     gathered: &mut [u8],
     count: usize,
-    reached: Stage,
     out: &mut [u8],
 ) -> Ended
     requires { ⌜ GoodIn (now ledger) (now pool) × Partial (now gathered) count ⌝ }
-    requires { ⌜ reached ≡ stage (take count (now gathered)) ⌝ }
     ensures { λ r. ⌜ Leaves (concluded (shown (now (ledger .entry)) (now (pool .entry))) (lending (length (now (out .entry)))) (take count (now (gathered .entry))) [] (stage (take count (now (gathered .entry))))) (now (ledger .exit)) (now (pool .exit)) (now (gathered .exit)) r (now (out .entry)) (now (out .exit)) ⌝ }
 {
-    match reached {
+    match stage_of(&gathered[..count]) {
         Stage::Lacks(_) => {
             gathered[Gathered::COUNT_AT] = count as u8;
             Ended::Wrote(0)
@@ -183,12 +172,12 @@ pub fn fetch_in(
         };
     }
     let held = gathered[Gathered::COUNT_AT] as usize;
-    let brought = bring(gathered, held, bytes);
-    let taken = brought.taken;
-    let reached = brought.stage;
-    let ended = conclude(ledger, pool, gathered, held + taken, reached, out);
-    let left = bytes.len() - taken;
-    Fetched { ended, left }
+    let taken = bring(gathered, held, bytes);
+    let ended = conclude(ledger, pool, gathered, held + taken, out);
+    Fetched {
+        ended,
+        left: bytes.len() - taken,
+    }
 }
 
 // Nothing is gathered, whatever the memory held.

@@ -53,43 +53,43 @@ add-end c =
 put-part-requires : tie.Need-put-part-requires Inv-loop μ-loop
 put-part-requires c κs =
     let e : tie.After-least Inv-loop μ-loop = search in
-    let n : tie.After-stage Inv-loop μ-loop = search in
+    let n : tie.After-n Inv-loop μ-loop = search in
     let t : tie.After-stage-of Inv-loop μ-loop = search in
     let l : tie.At-loop Inv-loop μ-loop = search in
     let s : tie.Start Inv-loop μ-loop = search in
     let k = e .least .ensures in
     let w = l .loop .inv .within in
     let z = l .loop .inv .size in
-    let f = bring-fits _ _ _ (s .pre .0) _ _ (l .loop .inv) _ (sym (t .stage-of .ensures) ∙ n .stage .given .1) .0 in (omega arith, omega (arith, k, w), omega (arith, k, z, f))
+    let f = bring-fits _ _ _ (s .pre .0) _ _ (l .loop .inv) _ (sym (t .stage-of .ensures) ∙ n .n .given .1) .0 in (omega arith, omega (arith, k, w), omega (arith, k, z, f))
 
 loop-less : tie.Need-loop-less Inv-loop μ-loop
 loop-less c =
     let e : tie.After-least Inv-loop μ-loop = search in
-    let n : tie.After-stage Inv-loop μ-loop = search in
+    let n : tie.After-n Inv-loop μ-loop = search in
     let t : tie.After-stage-of Inv-loop μ-loop = search in
     let l : tie.At-loop Inv-loop μ-loop = search in
     let s : tie.Start Inv-loop μ-loop = search in
     let k = e .least .ensures in
-    let f = bring-fits _ _ _ (s .pre .0) _ _ (l .loop .inv) _ (sym (t .stage-of .ensures) ∙ n .stage .given .1) .1 in omega (arith, k, f)
+    let f = bring-fits _ _ _ (s .pre .0) _ _ (l .loop .inv) _ (sym (t .stage-of .ensures) ∙ n .n .given .1) .1 in omega (arith, k, f)
 
 loop-again : tie.Need-loop-again Inv-loop μ-loop
 loop-again c =
     let p : tie.After-put-part Inv-loop μ-loop = search in
     let e : tie.After-least Inv-loop μ-loop = search in
-    let n : tie.After-stage Inv-loop μ-loop = search in
+    let n : tie.After-n Inv-loop μ-loop = search in
     let t : tie.After-stage-of Inv-loop μ-loop = search in
     let l : tie.At-loop Inv-loop μ-loop = search in
     let s : tie.Start Inv-loop μ-loop = search in
     let k = e .least .ensures in
-    bring-more _ _ _ (s .pre .0) _ _ (l .loop .inv) _ _ _ (sym (t .stage-of .ensures) ∙ n .stage .given .1) (omega (arith, k)) (p .put-part .ensures)
+    bring-more _ _ _ (s .pre .0) _ _ (l .loop .inv) _ _ _ (sym (t .stage-of .ensures) ∙ n .n .given .1) (omega (arith, k)) (p .put-part .ensures)
 
 returns : tie.Need-returns Inv-loop μ-loop
+unfolding isLacking
 returns c =
-    let n : tie.After-stage Inv-loop μ-loop = search in
     let t : tie.After-stage-of Inv-loop μ-loop = search in
     let l : tie.At-loop Inv-loop μ-loop = search in
     let s : tie.Start Inv-loop μ-loop = search in
-    (bring-end _ _ _ (s .pre .0) _ _ (l .loop .inv) (omega (arith, c .if1 .taken)), sym (n .stage .given .1) ∙ t .stage-of .ensures)
+    bring-stop _ _ _ (s .pre .0) _ _ (l .loop .inv) (ap isLacking (sym (t .stage-of .ensures) ∙ c .enum-told .given .1))
 
 returns-2 : tie.Need-returns-2 Inv-loop μ-loop
 unfolding isLacking
@@ -97,15 +97,20 @@ returns-2 c =
     let t : tie.After-stage-of Inv-loop μ-loop = search in
     let l : tie.At-loop Inv-loop μ-loop = search in
     let s : tie.Start Inv-loop μ-loop = search in
-    (bring-stop _ _ _ (s .pre .0) _ _ (l .loop .inv) (ap isLacking (sym (t .stage-of .ensures) ∙ c .enum-told .given .1)), t .stage-of .ensures)
+    bring-stop _ _ _ (s .pre .0) _ _ (l .loop .inv) (ap isLacking (sym (t .stage-of .ensures) ∙ c .enum-told2 .given .1))
 
-returns-3 : tie.Need-returns-3 Inv-loop μ-loop
-unfolding isLacking
-returns-3 c =
-    let t : tie.After-stage-of Inv-loop μ-loop = search in
+same-length-3 : tie.Need-same-length-3 Inv-loop μ-loop
+same-length-3 c =
     let l : tie.At-loop Inv-loop μ-loop = search in
     let s : tie.Start Inv-loop μ-loop = search in
-    (bring-stop _ _ _ (s .pre .0) _ _ (l .loop .inv) (ap isLacking (sym (t .stage-of .ensures) ∙ c .enum-told2 .given .1)), t .stage-of .ensures)
+    l .loop .inv .size ∙ sym (s .pre .0)
+
+returns-3 : tie.Need-returns-3 Inv-loop μ-loop
+returns-3 c =
+    let l : tie.At-loop Inv-loop μ-loop = search in
+    let s : tie.Start Inv-loop μ-loop = search in
+    let w = l .loop .inv .within in
+    bring-end _ _ _ (s .pre .0) _ _ (l .loop .inv) (omega (arith, c .loop-test .left))
 
 pub bring-spec : {M : Type 1} → statement M
 bring-spec =
@@ -120,8 +125,6 @@ bring-spec =
     stage-of-requires
     (λ c. search needs)
     (λ c. search needs)
-    returns
-    (λ c. search needs)
     (λ c κs. search needs)
     add-end
     put-part-requires
@@ -129,7 +132,9 @@ bring-spec =
     loop-again
     (λ c. search needs)
     (λ c. search needs)
+    returns
+    (λ c. search needs)
+    (λ c. search needs)
     returns-2
-    (λ c. search needs)
-    (λ c. search needs)
+    same-length-3
     returns-3)

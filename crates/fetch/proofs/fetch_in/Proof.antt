@@ -29,19 +29,19 @@ unfolding gatheredIn
 add-conclude c =
     let g : tie.After-bring = search in
     let s : tie.Start = search in
-    let f = fetch-stands _ _ (s .pre .1) _ _ (g .bring .ensures .0 .0) (g .bring .ensures .0 .1) .fits in omega (arith, f)
+    let f = fetch-stands _ _ (s .pre .1) _ _ (g .bring .ensures .0) (g .bring .ensures .1) .fits in omega (arith, f)
 
 conclude-requires : tie.Need-conclude-requires
 unfolding gatheredIn
 conclude-requires c κs =
     let g : tie.After-bring = search in
     let s : tie.Start = search in
-    ((s .pre .0, fetch-stands _ _ (s .pre .1) _ _ (g .bring .ensures .0 .0) (g .bring .ensures .0 .1)), g .bring .ensures .1)
+    (s .pre .0, fetch-stands _ _ (s .pre .1) _ _ (g .bring .ensures .0) (g .bring .ensures .1))
 
-sub-left : tie.Need-sub-left
-sub-left c =
+sub-t25 : tie.Need-sub-t25
+sub-t25 c =
     let g : tie.After-bring = search in
-    brought-count _ _ _ (g .bring .ensures .0 .0)
+    brought-count _ _ _ (g .bring .ensures .0)
 
 returns-2 : tie.Need-returns-2
 unfolding gatheredIn
@@ -50,7 +50,7 @@ returns-2 c =
     let g : tie.After-bring = search in
     let e : tie.Else1 = search in
     let s : tie.Start = search in
-    fetch-told _ _ (s .pre .1) _ _ (g .bring .ensures .0 .0) (g .bring .ensures .0 .1) _ _ _ _ _ _ _ _ (e .if1 .left) (k .conclude .ensures)
+    fetch-told _ _ (s .pre .1) _ _ (g .bring .ensures .0) (g .bring .ensures .1) _ _ _ _ _ _ _ _ (e .if1 .left) (k .conclude .ensures)
 
 pub fetch-in-spec : {M : Type 1} → statement M
 fetch-in-spec =
@@ -62,6 +62,6 @@ fetch-in-spec =
     bring-requires
     add-conclude
     conclude-requires
-    sub-left
+    sub-t25
     (λ c. search needs)
     returns-2)
