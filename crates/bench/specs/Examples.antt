@@ -1,0 +1,50 @@
+-- Lines of the bench, and what it prints.
+use mathlib.Core.Path.{_≡_, refl}
+use mathlib.Core.List.{[], _∷_, _++_, map, List}
+use Prim.Native.Nat.{ℕ}
+use Rattle.rules.specs.Lines.{isDigit, digitValue, with-byte, bytesOf, frameOf, digitOf, hex, zerosBefore, decimal, printed}
+use Rattle.rules.specs.Checks.{_⇒_else_, isEmpty, some-of, member, same}
+use Rattle.rules.specs.Frames.{longLength, lengthAt, lengthBytes, longTag, tagAt, valueAfter, afterTag, objectAt, onward, walkUpTo, walk, objectBytes, written, frame}
+use Rattle.rules.specs.Table.{table, known}
+use Rattle.rules.specs.State.{isDropped}
+use Rattle.rules.specs.Reading.{kindOf, detailsOf, detailsIn, pairIn, bearerIn, transportIn, toModem, addressed}
+use Rattle.rules.specs.Written.{pairBytes, detailsBytes, bearerBytes, statusBytes, statusObject, statusObjects, furtherObjects, resultBytes, resultObjects, responseObjects, responseBytes}
+use Rattle.rules.specs.Bench.{bearerProper, bodyProper, transportObjects, bodyObjects, commandObjects, benchWrite, errorProper, causeProper, successProper, rising, furtherProper, resultProper, proper, valueAt, statusIn, statusesIn, furtherIn, resultIn, responseIn, benchRead}
+use Prim.Native.Char.{code}
+use Prim.Native.String as String
+use Prim.Native.String.{String}
+use Rattle.bench.specs.Printed.{objectText, objectsBehind, heardLine, openingIn, bareBody, bodyFor, commandFor, recordIn, recordLine, replyLine, benchLine}
+
+-- a text's characters
+pub chars : String → List ℕ
+chars String.[] = []
+chars (String._∷_ c s) = code c ∷ chars s
+
+-- data, and none; a problem; statuses; no response; OPEN CHANNEL, RECEIVE DATA, no such type, a byte too many; a blank line
+pub bench-prints :
+    map (λ s. benchLine (chars s))
+    ("8103014200820282818301023603414243370100" ∷
+    "8103014200820282818301003600370102" ∷
+    "81030140018202828183023A06" ∷
+    "8103014400820282818301003802810038020305" ∷
+    "81" ∷
+    "B00140018182030005DC021F90" ∷
+    "B001420081210F" ∷
+    "B00145008121" ∷
+    "B0014100812100" ∷
+    "" ∷
+    []) ≡
+    map (λ s. chars s ++ 10 ∷ [])
+    ("014200 02 414243 00" ∷
+    "014200 00 -- 02" ∷
+    "014001 3A06" ∷
+    "014400 00 8100 0305" ∷
+    "R8" ∷
+    "D015810301400182028182B50103B90205DC3C03021F90" ∷
+    "D00C810301420082028121B7010F" ∷
+    "R7" ∷
+    "R9" ∷
+    "R9" ∷
+    [])
+unfolding isDigit digitValue with-byte bytesOf frameOf digitOf hex zerosBefore decimal printed _⇒_else_ isEmpty some-of member same longLength lengthAt lengthBytes longTag tagAt valueAfter afterTag objectAt onward walkUpTo walk objectBytes written frame table known isDropped kindOf detailsOf detailsIn pairIn bearerIn transportIn toModem addressed pairBytes detailsBytes bearerBytes statusBytes statusObject statusObjects furtherObjects resultBytes resultObjects responseObjects responseBytes bearerProper bodyProper transportObjects bodyObjects commandObjects benchWrite errorProper causeProper successProper rising furtherProper resultProper proper valueAt statusIn statusesIn furtherIn resultIn responseIn benchRead chars objectText objectsBehind heardLine openingIn bareBody bodyFor commandFor recordIn recordLine replyLine benchLine
+bench-prints = refl
