@@ -1,24 +1,16 @@
 -- Lines of the bench, and what it prints.
 use mathlib.Core.Path.{_≡_, refl}
-use mathlib.Core.List.{[], _∷_, _++_, map, List}
-use Prim.Native.Nat.{ℕ}
+use mathlib.Core.List.{[], _∷_, _++_, map}
 use Rattle.rules.specs.Lines.{isDigit, digitValue, with-byte, bytesOf, frameOf, digitOf, hex, zerosBefore, decimal, printed}
 use Rattle.rules.specs.Checks.{_⇒_else_, isEmpty, some-of, member, same}
 use Rattle.rules.specs.Frames.{longLength, lengthAt, lengthBytes, longTag, tagAt, valueAfter, afterTag, objectAt, onward, walkUpTo, walk, objectBytes, written, frame}
 use Rattle.rules.specs.Table.{table, known}
 use Rattle.rules.specs.State.{isDropped}
 use Rattle.rules.specs.Reading.{kindOf, detailsOf, detailsIn, pairIn, bearerIn, transportIn, toModem, addressed}
-use Rattle.rules.specs.Written.{pairBytes, detailsBytes, bearerBytes, statusBytes, statusObject, statusObjects, furtherObjects, resultBytes, resultObjects, responseObjects, responseBytes}
-use Rattle.rules.specs.Bench.{bearerProper, bodyProper, transportObjects, bodyObjects, commandObjects, benchWrite, errorProper, causeProper, successProper, rising, furtherProper, resultProper, proper, valueAt, statusIn, statusesIn, furtherIn, resultIn, responseIn, benchRead}
-use Prim.Native.Char.{code}
-use Prim.Native.String as String
-use Prim.Native.String.{String}
+use Rattle.rules.specs.Written.{pairBytes, detailsBytes, bearerBytes, statusBytes, statusObject, statusObjects, reportObjects, furtherObjects, resultBytes, resultObjects, responseObjects, responseBytes}
+use Rattle.rules.specs.Bench.{bearerProper, bodyProper, transportObjects, bodyObjects, commandObjects, benchWrite, errorProper, causeProper, successProper, rising, reportProper, furtherProper, resultProper, proper, valueAt, statusIn, statusesIn, furtherIn, resultIn, responseIn, benchRead}
+use Rattle.rules.specs.Numbers.{chars}
 use Rattle.bench.specs.Printed.{objectText, objectsBehind, heardLine, openingIn, bareBody, bodyFor, commandFor, recordIn, recordLine, replyLine, benchLine}
-
--- a text's characters
-pub chars : String → List ℕ
-chars String.[] = []
-chars (String._∷_ c s) = code c ∷ chars s
 
 -- data, and none; a problem; statuses; no response; OPEN CHANNEL, RECEIVE DATA, no such type, a byte too many; a blank line
 pub bench-prints :
@@ -46,5 +38,5 @@ pub bench-prints :
     "R9" ∷
     "R9" ∷
     [])
-unfolding isDigit digitValue with-byte bytesOf frameOf digitOf hex zerosBefore decimal printed _⇒_else_ isEmpty some-of member same longLength lengthAt lengthBytes longTag tagAt valueAfter afterTag objectAt onward walkUpTo walk objectBytes written frame table known isDropped kindOf detailsOf detailsIn pairIn bearerIn transportIn toModem addressed pairBytes detailsBytes bearerBytes statusBytes statusObject statusObjects furtherObjects resultBytes resultObjects responseObjects responseBytes bearerProper bodyProper transportObjects bodyObjects commandObjects benchWrite errorProper causeProper successProper rising furtherProper resultProper proper valueAt statusIn statusesIn furtherIn resultIn responseIn benchRead chars objectText objectsBehind heardLine openingIn bareBody bodyFor commandFor recordIn recordLine replyLine benchLine
+unfolding isDigit digitValue with-byte bytesOf frameOf digitOf hex zerosBefore decimal printed _⇒_else_ isEmpty some-of member same longLength lengthAt lengthBytes longTag tagAt valueAfter afterTag objectAt onward walkUpTo walk objectBytes written frame table known isDropped kindOf detailsOf detailsIn pairIn bearerIn transportIn toModem addressed pairBytes detailsBytes bearerBytes statusBytes statusObject statusObjects reportObjects furtherObjects resultBytes resultObjects responseObjects responseBytes bearerProper bodyProper transportObjects bodyObjects commandObjects benchWrite errorProper causeProper successProper rising reportProper furtherProper resultProper proper valueAt statusIn statusesIn furtherIn resultIn responseIn benchRead chars objectText objectsBehind heardLine openingIn bareBody bodyFor commandFor recordIn recordLine replyLine benchLine
 bench-prints = refl
