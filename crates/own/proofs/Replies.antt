@@ -14,7 +14,7 @@ use Rattle.rules.specs.declared.Way.the-variants.{Receive}
 use Rattle.rules.specs.Checks.{_⇒_else_}
 use Rattle.rules.specs.Sound.{Sound}
 use Rattle.rules.specs.State.{State, Chan, chan, withChan, closed, isOpen, queue, withQueue, held, due, atOnce, without, removed}
-use Rattle.rules.specs.Own.{Reply, Result, Further, reply, error, problem, done, nothing, received, capped, plain, closing, receiving}
+use Rattle.rules.specs.Own.{Reply, Result, reply, error, problem, done, nothing, received, capped, plain, closing, receiving}
 use Rattle.rules.specs.Written.{resultBytes, resultObjects, responseObjects, responseBytes, furtherObjects}
 use Rattle.rules.proofs.Laws.{stop, skip, not-not}
 use Rattle.rules.proofs.Soundness.{once-due, chan-sound, closed-sound, removed-sound, with-sound, same-sound, closed-cells}
@@ -52,12 +52,6 @@ pub plain-stands :
     Filled (response d (done (plain i) nothing)) k before after
 unfolding responseBytes responseObjects resultBytes resultObjects furtherObjects
 plain-stands d x i k before after e w = subst (λ (y : ℕ). Filled (response d (done y nothing)) k before after) e w
-
--- a result in front of what follows it
-pub result-stands :
-    (d : Details) (x y : ℕ) (f : Further) (k : ℕ) (before after : List ℕ) → x ≡ y →
-    Filled (response d (done x f)) k before after → Filled (response d (done y f)) k before after
-result-stands d x y f k before after e w = subst (λ (z : ℕ). Filled (response d (done z f)) k before after) e w
 
 -- at the entry that was found
 module _ (t p : List ℕ) (n : ChannelNumber) (h : Numbered t p n) (e : Channel) (q : e ≡ entryIn t n) where

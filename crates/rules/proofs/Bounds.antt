@@ -140,7 +140,7 @@ pub records-written :
     (record-to 0x82 (bare 0x02) ∷ record-to 0x82 (eventList (replicate 241 0)) ∷ record-to 0x82 (openChannel (bearer 0x02 6) 0 none) ∷ record-to 0x21 closeChannel ∷
     record-to 0x27 (receiveData 0) ∷ record-to 0x21 (sendData (replicate 241 0)) ∷ record-to 0x82 (bare 0x44) ∷
     record-to 0x82 (eventList (replicate 242 0)) ∷ record-to 0x21 (sendData (replicate 242 0)) ∷ record-to 0x82 (openChannel (bearer 0x03 1) 0 none) ∷
-    record-to 0x28 closeChannel ∷ record-to 0x20 (receiveData 0) ∷ record-to 0x21 (bare 0x02) ∷ record-to 0x82 (bare 0x03) ∷ []) ≡
+    record-to 0x28 closeChannel ∷ record-to 0x20 (receiveData 0) ∷ record-to 0x21 (bare 0x02) ∷ record-to 0x21 (bare 0x41) ∷ []) ≡
     replicate 7 true ++ replicate 7 false
 unfolding accepted _⇒_else_ isEmpty some-of member lengthBytes objectBytes written frame kindOf detailsOf toModem addressed pairBytes detailsBytes bearerBytes bearerProper bodyProper transportObjects bodyObjects commandObjects benchWrite
 records-written = refl
