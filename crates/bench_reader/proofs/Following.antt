@@ -2,7 +2,6 @@
 -- Assumes nothing.
 use Prim.Native.Nat.{ℕ, suc, _+_, _*_, _/_, _%_, _≤_, _<_}
 use mathlib.Core.Path.{_≡_, refl, sym, ap, subst, _∙_}
-use mathlib.Core.Logic.{_⊎_, inl, inr, ⊎-elim}
 use mathlib.Core.Bool.{Bool, true, false, not, _&&_, _||_, false≢true, true≢false}
 use mathlib.Core.List.{List, [], _∷_}
 use native.Mathlib.Omega.{arith}
@@ -22,8 +21,8 @@ use Rattle.rules.specs.Pool.{grantCap}
 use Rattle.rules.specs.Reading.{pairIn, bearerIn}
 use Rattle.rules.specs.Own.{Status, opened, received, nothing, done}
 use Rattle.rules.specs.Written.{unflagged, pairBytes, bearerBytes, statusObject, furtherObjects}
-use Rattle.rules.specs.Bench.{bearerProper, rising, furtherProper, valueAt, furtherIn}
-use Rattle.rules.proofs.Laws.{both-left, both-right}
+use Rattle.rules.specs.Bench.{bearerProper, rising, furtherProper, valueAt, furtherIn, unfollowed}
+use Rattle.rules.proofs.Laws.{both-left, both-right, each-member}
 use Rattle.rules.proofs.Forms.{status-back}
 use Rattle.octets.specs.Parts.{part}
 use Rattle.octets.proofs.Copies.{part-get}
@@ -219,18 +218,17 @@ module _ (d : Details) (x : ℕ) (s t : List ℕ) where
   pub followed-as : {r : Heard} (k j : ℕ) → k ≡ j → Hears (followed d j x t) s r → Hears (followed d k x t) s r
   followed-as {r} k j e h = subst (λ (i : ℕ). Hears (followed d i x t) s r) (sym e) h
 
-  pub plain-fits :
-      {r : Heard} (k : ℕ) → (k ≡ 0x02) ⊎ ((k ≡ 0x05) ⊎ (k ≡ 0x41)) → Hears (checked true [] t (record { details = d; result = resultOf (Done x Plain) s })) s r →
-      Hears (followed d k x t) s r
-  unfolding followed furtherIn furtherProper furtherObjects member some-of _⇒_else_ resultOf furtherOf
-  plain-fits k e h =
-      ⊎-elim (λ e₁. followed-as k 0x02 e₁ h) (⊎-elim (λ e₂. followed-as k 0x05 e₂ h) (λ e₃. followed-as k 0x41 e₃ h)) e
+  -- nothing follows
+  module _ (k : ℕ) {b : Bool} (u : b ≡ member k unfollowed) where
+    pub plain-fits :
+        {r : Heard} → b ≡ true → Hears (checked true [] t (record { details = d; result = resultOf (Done x Plain) s })) s r → Hears (followed d k x t) s r
+    unfolding followed furtherIn furtherProper furtherObjects member some-of _⇒_else_ resultOf furtherOf
+    plain-fits {r} e h =
+        each-member (λ (j : ℕ). Hears (followed d j x t) s r) k unfollowed (h, (h, (h, tt))) (sym u ∙ e)
 
-  pub none-follows :
-      (k : ℕ) → (k ≡ 0x40 → ⊥) → (k ≡ 0x42 → ⊥) → (k ≡ 0x43 → ⊥) → (k ≡ 0x44 → ⊥) → ((k ≡ 0x02) ⊎ ((k ≡ 0x05) ⊎ (k ≡ 0x41)) → ⊥) →
-      Hears (followed d k x t) s Silence
-  unfolding followed furtherIn furtherProper furtherObjects member some-of _⇒_else_
-  none-follows k a b c f n =
-      let e : followed d k x t ≡ checked false [] t (record { details = d; result = done x nothing }) =
-      simp (ne-eqb k 0x40 a, ne-eqb k 0x42 b, ne-eqb k 0x43 c, ne-eqb k 0x44 f, ne-eqb k 0x02 (λ q. n (inl q)), ne-eqb k 0x05 (λ q. n (inr (inl q))), ne-eqb k 0x41 (λ q. n (inr (inr q)))) in
-      hears-as e (silent _ _ _ _ (λ q _. false≢true q))
+    pub none-follows : b ≡ false → (k ≡ 0x40 → ⊥) → (k ≡ 0x42 → ⊥) → (k ≡ 0x43 → ⊥) → (k ≡ 0x44 → ⊥) → Hears (followed d k x t) s Silence
+    unfolding followed furtherIn furtherProper furtherObjects _⇒_else_
+    none-follows e a c f g =
+        let z : followed d k x t ≡ checked false [] t (record { details = d; result = done x nothing }) =
+        simp (ne-eqb k 0x40 a, ne-eqb k 0x42 c, ne-eqb k 0x43 f, ne-eqb k 0x44 g, sym u ∙ e) in
+        hears-as z (silent _ _ _ _ (λ q _. false≢true q))

@@ -9,16 +9,17 @@ use rules::Limits;
 use rules::Link;
 use rules::Results;
 use rules::is_known;
+use rules::lists;
 ghost use mathlib.Core.Path.{_≡_};
 ghost use mathlib.Core.Bool.{true};
 ghost use mathlib.Core.List.{[], _∷_};
 ghost use Prim.Native.Nat.{_%_, _≤_};
 ghost use lib.ListN.{length, drop};
 ghost use lib.Dec.{leb};
-ghost use Rattle.rules.specs.Checks.{same};
+ghost use Rattle.rules.specs.Checks.{member, same};
 ghost use Rattle.rules.specs.Reading.{pairIn};
 ghost use Rattle.rules.specs.Written.{pairBytes, detailsBytes};
-ghost use Rattle.rules.specs.Bench.{errorProper, causeProper, successProper, benchRead};
+ghost use Rattle.rules.specs.Bench.{unfollowed, errorProper, causeProper, successProper, benchRead};
 ghost use Rattle.bench_reader.specs.Heard.{resultOf, VerdictAt};
 ghost use Rattle.bench_reader.specs.Tails.{Tag, Misfit, Holder, Single, Double, ShownAt, sized, Hears, checked, resulted, followed, borne, listed};
 
@@ -326,17 +327,27 @@ fn read_statuses(s: &[u8], c: Cursor, d: Details, result: u8) -> Heard
     last(s, next, d, Verdict::Done(result, Further::Statuses(end, 0)))
 }
 
+// Whether nothing follows the result of a type.
+fn is_unfollowed(kind: u8) -> bool
+    ensures { λ r. ⌜ r ≡ member kind unfollowed ⌝ }
+{
+    let types = [0x02u8, 0x05, 0x41];
+    lists(&types, kind)
+}
+
 // Reads what follows the result of a command that succeeded, by its type.
 fn read_further(s: &[u8], c: Cursor, d: Details, result: u8) -> Heard
     ensures { λ r. ⌜ Hears (followed d (d .kind) result (drop (c .at) (now (s .entry)))) (now (s .entry)) r ⌝ }
 {
     let kind = d.kind;
+    if is_unfollowed(kind) {
+        return last(s, c, d, Verdict::Done(result, Further::Plain));
+    }
     match kind {
         0x40 => read_opened(s, c, d, result),
         0x42 => read_received(s, c, d, result),
         0x43 => read_sent(s, c, d, result),
         0x44 => read_statuses(s, c, d, result),
-        0x02 | 0x05 | 0x41 => last(s, c, d, Verdict::Done(result, Further::Plain)),
         _ => Heard::Silence,
     }
 }
