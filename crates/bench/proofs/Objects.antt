@@ -14,7 +14,7 @@ use Rattle.rules.specs.Frames.{Object, Walk, walk, objectAt, faulty, lengthByte
 use Rattle.rules.specs.Written.{Response, flagged, detailsBytes, resultBytes, resultObjects, responseObjects, responseBytes}
 use Rattle.rules.specs.Command.{wrote, refused}
 use Rattle.rules.specs.Lines.{printed}
-use Rattle.rules.specs.Bench.{Told, told, untold, benchRead}
+use Rattle.rules.specs.Bench.{told, benchRead}
 use Rattle.rules.proofs.Walks.{walk-end, walk-fault}
 use Rattle.rules.proofs.Forms.{walk-written}
 use Rattle.rules.proofs.Heard.{response-named, one-form}

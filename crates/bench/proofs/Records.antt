@@ -14,7 +14,7 @@ use borrow.Rule.Slice.PartAt.{part-to-end}
 use borrow.Author.Tests.{lt-ltb, le-ltb, eq-eqb, ne-eqb}
 use Rattle.rules.specs.declared.Ended.{Ended}
 use Rattle.rules.specs.declared.Refusal.the-variants.{Unreadable}
-use Rattle.rules.specs.Checks.{_⇒_else_, isEmpty}
+use Rattle.rules.specs.Checks.{_⇒_else_}
 use Rattle.rules.specs.Reading.{Bearer, Body, openChannel, receiveData, pairIn, transportIn}
 use Rattle.rules.specs.Command.{refused, endedOf, writtenBy}
 use Rattle.rules.specs.Bench.{benchRead, benchWrite}

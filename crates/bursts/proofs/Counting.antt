@@ -1,15 +1,15 @@
 -- A burst as it is printed: how it ended, a blank in place of the line feed, and the count of what is left.
 -- Assumes nothing.
 use Prim.Native.Nat.{ℕ, _+_, _-_, _*_, _≤_, _<_}
-use mathlib.Core.Path.{_≡_, refl, sym, ap, subst, _∙_}
+use mathlib.Core.Path.{_≡_, sym, ap, subst, _∙_}
 use mathlib.Core.List.{List, [], _∷_, _++_, append-assoc}
 use native.Mathlib.Omega.{arith}
 use lib.ListN.{length, set, length-append, length-set}
 use lib.Seq.{set-set, append-snoc}
-use Rattle.rules.specs.Checks.{_⇒_else_, isEmpty}
+use Rattle.rules.specs.Checks.{_⇒_else_}
 use Rattle.rules.specs.State.{State}
 use Rattle.rules.specs.Sound.{Sound}
-use Rattle.rules.specs.Command.{Outcome, lending}
+use Rattle.rules.specs.Command.{lending}
 use Rattle.rules.specs.Run.{commanding, step}
 use Rattle.rules.specs.Lines.{printed, decimal}
 use Rattle.rules.specs.Fetch as rules
@@ -27,7 +27,7 @@ use Rattle.text.specs.Prints.{countOf, outcomeOf, lineOf, Prints}
 use Rattle.text.proofs.Bounds.{front-back, count-within}
 use Rattle.text.proofs.Printing.{prints-after, prints-as, decimal-few}
 use Rattle.fetch.specs.declared.Fetched.{Fetched}
-use Rattle.fetch.specs.Gathers.{gatheredIn, Gathers, Fetches}
+use Rattle.fetch.specs.Gathers.{gatheredIn, Fetches}
 use Rattle.fetch.proofs.Records.{lacking-few, gathered-back, gathers-of}
 use Rattle.bursts.specs.Bursts.{awaitsIn, burstSaid, Tells}
 

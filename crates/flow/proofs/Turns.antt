@@ -1,7 +1,7 @@
 -- What is told to be written, turn by turn, is what the tool prints of its input, however that is divided.
 -- Assumes nothing.
 use Prim.Native.Nat.{ℕ, _+_, _≤_}
-use mathlib.Core.Path.{_≡_, refl, sym, ap, _∙_}
+use mathlib.Core.Path.{_≡_, sym, ap, _∙_}
 use mathlib.Core.Bool.{Bool, true, false}
 use mathlib.Core.List.{List, [], _∷_, _++_, map, append-assoc}
 use native.Mathlib.Omega.{arith}
@@ -10,7 +10,7 @@ use lib.Seq.{take-at, take-all, take-nil}
 use Rattle.rules.specs.Checks.{_⇒_else_, isEmpty}
 use Rattle.octets.specs.Parts.{pasted}
 use Rattle.flow.specs.declared.Progress.{Progress}
-use Rattle.flow.specs.Flow.{printedSize, Ends, Reader, Fed, between, feeds, finishes, joined, printedFrom, prints, readWithin, lastPiece}
+use Rattle.flow.specs.Flow.{printedSize, Ends, Reader, between, feeds, finishes, joined, printedFrom, prints, readWithin, lastPiece}
 use Rattle.flow.specs.Holds.{View, readerIn, Fills, Turn, Turned, Turns}
 use Rattle.flow.proofs.Flows.{divided, finishes-fed}
 use Rattle.flow.proofs.Filling.{read-some}

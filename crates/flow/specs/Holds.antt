@@ -3,7 +3,7 @@ use Prim.Native.Nat.{ℕ, _+_, _≤_}
 use mathlib.Core.Path.{_≡_}
 use mathlib.Core.Bool.{Bool, true}
 use mathlib.Core.List.{List, [], _∷_}
-use lib.ListN.{length, take, drop, replicate}
+use lib.ListN.{length, take, drop}
 use Rattle.octets.specs.Parts.{pasted, pad}
 use Rattle.rules.specs.Input.{Said}
 use Rattle.flow.specs.Flow.{keptSize, Ends, Reader, Fed, feeds, piece, fitting, readWithin}

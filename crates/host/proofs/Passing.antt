@@ -7,7 +7,7 @@
 --     prepares, reads-operands         the statements run, and the operands give the values
 -- Assumes `Given`.
 use mathlib.Core.Path.{_≡_, refl, ap}
-use Prim.Native.Nat.{ℕ, zero, suc}
+use Prim.Native.Nat.{ℕ, suc}
 use mathlib.Core.List.{List, [], _∷_}
 use lib.ListN.{getD, length}
 use lib.Dec.{T}

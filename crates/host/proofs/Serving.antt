@@ -36,7 +36,7 @@ use denote.Signature.{Slot, plain, mutRefTo, typesAt}
 use denote.Triple.Call.{calls-from}
 use denote.Triple.Clauses.{Clauses, Ended, atExit, closing}
 use denote.Triple.End.{Kepts, Fins, all}
-use denote.Triple.Entry.{Args, Vals, onEntry}
+use denote.Triple.Entry.{Args, onEntry}
 use denote.Triple.Spec.{Meets, tripleOf}
 use denote.Triple.Table.{entered}
 use denote.Triple.Walked.{Stay, Stays, AllGo, stay-ref, goes-ref, fitsOf, hasOf, walkOf, ends-at, walked, walk-meets}

@@ -7,14 +7,14 @@ use mathlib.Core.List.{List, [], _++_}
 use mathlib.Core.Option.{Option, none, some}
 use native.Mathlib.Omega.{arith}
 use lib.ListN.{length, take, drop, getD, replicate, length-append, length-replicate}
-use lib.Seq.{take-append-seam, take-append-le, length-take-le}
+use lib.Seq.{take-append-le, length-take-le}
 use lib.Dec.{eqb}
 use borrow.Rule.Slice.PartAt.{part-to-end}
 use borrow.Author.Tests.{leb-true}
 use Rattle.rules.specs.declared.ChannelNumber.{ChannelNumber}
 use Rattle.rules.specs.declared.Refusal.the-variants.{Unreadable as R9}
 use Rattle.rules.specs.State.{State, start}
-use Rattle.rules.specs.Command.{Outcome, wrote, refused, endedOf, writtenBy, lending}
+use Rattle.rules.specs.Command.{wrote, refused, lending}
 use Rattle.rules.specs.Radio.{arrives, takes, drops}
 use Rattle.rules.specs.Run.{Call, starting, commanding, arriving, takingOut, droppingLink, step, radio}
 use Rattle.rules.specs.Reading.{pairIn}
@@ -23,7 +23,7 @@ use Rattle.rules.specs.Input.{Said, lineBytes, begins, goes}
 use Rattle.rules.proofs.Laws.{branch, both-right}
 use Rattle.rules.proofs.Soundness.{start-sound, step-sound}
 use Rattle.rules.specs.Pool.{poolSize, grantCap}
-use Rattle.octets.specs.Parts.{part, pasted, cleared, overlaid}
+use Rattle.octets.specs.Parts.{part, pasted, cleared}
 use Rattle.rules.specs.declared.Ended.{Ended}
 use Rattle.rules.specs.declared.Ended.the-variants.{Wrote, Refused}
 use Rattle.session.specs.Picture.{Shows, GoodIn, shown, ledgerOf}

@@ -14,7 +14,7 @@ use Rattle.rules.specs.Checks.{_⇒_else_}
 use Rattle.rules.specs.declared.Refusal.the-variants.{Unreadable}
 use Rattle.rules.specs.State.{State, start}
 use Rattle.rules.specs.Command.{refused}
-use Rattle.rules.specs.Lines.{Printed, printed, frameOf, callIn, perform, lineStep, linesFrom, profileThen, program}
+use Rattle.rules.specs.Lines.{printed, frameOf, callIn, perform, lineStep, linesFrom, profileThen, program}
 use Rattle.rules.specs.Input.{linesOf, outputOf, lineBytes, begins, goes, lineEnds}
 use Rattle.rules.proofs.Laws.{stop}
 use Rattle.flow.specs.Flow.{keptSize, prints, saidOf}

@@ -1,6 +1,5 @@
 -- `bench::print_record` meets its contract: the command of the values, or R9.
 -- Assumes nothing.
-use native.Mathlib.Omega.{arith}
 use Rattle.bench.specs.Printed.{commandFor, recordLine}
 use Rattle.bench.proofs.Records.{asked-told, unfit-told, short-record, record-line}
 use borrow.Author.Needs.{needs}

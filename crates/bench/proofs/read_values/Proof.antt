@@ -1,6 +1,5 @@
 -- `bench::read_values` meets its contract: a law for each type.
 -- Assumes nothing.
-use native.Mathlib.Omega.{arith}
 use Rattle.bench.proofs.Records.{events-asked, opening-asked, receive-unfit, receive-asked, data-asked, bare-unfit, bare-asked}
 use borrow.Author.Needs.{needs}
 use Rattle.bench.proofs.read_values.Statement.{statement}

@@ -1,7 +1,7 @@
 -- `details::tell_details` meets its contract: the line of its frame.
 -- Assumes nothing.
 use mathlib.Core.Path.{sym, ap}
-use Rattle.text.proofs.Bounds.{Read, frame-read, frame-unread}
+use Rattle.text.proofs.Bounds.{frame-read, frame-unread}
 use Rattle.text.proofs.Printing.{prints-as}
 use Rattle.details.specs.Printed.{handLine, detailsLine}
 use borrow.Author.Needs.{needs}

@@ -2,7 +2,6 @@
 -- Assumes nothing.
 use Rattle.rules.specs.Lines.{zerosBefore}
 use Rattle.rules.proofs.Laws.{checks}
-use borrow.Author.Needs.{needs}
 use Rattle.text.proofs.zeros_before.Statement.{statement}
 use Rattle.text.proofs.zeros_before.Tie as tie
 
