@@ -78,8 +78,11 @@ entriesOf [] = []
 entriesOf (c ∷ cs) = chanNumbers c ++ entriesOf cs
 
 -- the numbers between the profile and the entries: whether 09 and 0A are listed, and the cells that are not promised
+abbrev pub headsWith : State → ℕ → List ℕ
+headsWith a free = listedNumber (a .events .available) ∷ listedNumber (a .events .status) ∷ free ∷ []
+
 unfoldable pub headsOf : State → List ℕ
-headsOf a = listedNumber (a .events .available) ∷ listedNumber (a .events .status) ∷ unpromised a ∷ []
+headsOf a = headsWith a (unpromised a)
 
 -- the ledger: the profile, these, and an entry for each channel
 unfoldable pub ledgerOf : State → List ℕ

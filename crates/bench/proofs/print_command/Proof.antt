@@ -10,12 +10,6 @@ use borrow.Author.Needs.{needs}
 use Rattle.bench.proofs.print_command.Statement.{statement}
 use Rattle.bench.proofs.print_command.Tie as tie
 
-print-requires : tie.Need-print-requires
-print-requires c κs =
-    let w : tie.After-write = search in
-    let s : tie.Start = search in
-    (count-within _ _ _ _ (w .write .ensures), omega (arith, s .pre .3))
-
 returns : tie.Need-returns
 returns c =
     let p : tie.After-print = search in
@@ -37,6 +31,6 @@ print-command-spec =
     (λ c. search needs)
     (λ c κs. search needs)
     (λ c. search needs)
-    print-requires
+    (λ c κs. let w : tie.After-write = search in let s : tie.Start = search in (count-within _ _ _ _ (w .write .ensures), omega (arith, s .pre .3)))
     (λ c. search needs)
     returns)

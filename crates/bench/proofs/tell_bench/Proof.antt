@@ -9,18 +9,6 @@ use borrow.Author.Needs.{needs}
 use Rattle.bench.proofs.tell_bench.Statement.{statement}
 use Rattle.bench.proofs.tell_bench.Tie as tie
 
-array-share-prefix-frame : tie.Need-array-share-prefix-frame
-array-share-prefix-frame c =
-    let n : tie.After-n = search in
-    let f : tie.After-read-frame = search in
-    frame-read _ _ _ _ _ (f .read-frame .ensures) (n .n .given .1) .fits
-
-slice-aggregate-print-reply : tie.Need-slice-aggregate-print-reply
-slice-aggregate-print-reply c =
-    let n : tie.After-n = search in
-    let f : tie.After-read-frame = search in
-    frame-read _ _ _ _ _ (f .read-frame .ensures) (n .n .given .1) .size
-
 print-reply-requires : tie.Need-print-reply-requires
 print-reply-requires c κs =
     let n : tie.After-n = search in
@@ -52,8 +40,8 @@ tell-bench-spec =
     (λ c. search needs)
     (λ c κs. search needs)
     (λ c. search needs)
-    array-share-prefix-frame
-    slice-aggregate-print-reply
+    (λ c. let n : tie.After-n = search in let f : tie.After-read-frame = search in frame-read _ _ _ _ _ (f .read-frame .ensures) (n .n .given .1) .fits)
+    (λ c. let n : tie.After-n = search in let f : tie.After-read-frame = search in frame-read _ _ _ _ _ (f .read-frame .ensures) (n .n .given .1) .size)
     print-reply-requires
     (λ c. search needs)
     (λ c κs. search needs)

@@ -6,12 +6,6 @@ use Rattle.bench_reader.proofs.Standing.{value-inside, no-length, other
 use Rattle.bench_reader.proofs.byte_of.Statement.{statement}
 use Rattle.bench_reader.proofs.byte_of.Tie as tie
 
-inside : tie.Need-shared-slice-read-t10
-inside c =
-    let a : tie.After-at = search in
-    let o : tie.After-object-of = search in
-    omega (arith, value-inside _ _ _ _ (o .object-of .ensures) (a .at .given .1))
-
 pub byte-of-spec : {M : Type 1} → statement M
 byte-of-spec =
     tie.close
@@ -19,5 +13,5 @@ byte-of-spec =
     (λ c κs. search needs) (λ c. search needs) (λ c. search needs)
     (λ c. search no-length)
     (λ c. search other-length)
-    inside
+    (λ c. let a : tie.After-at = search in let o : tie.After-object-of = search in omega (arith, value-inside _ _ _ _ (o .object-of .ensures) (a .at .given .1)))
     (λ c. search one-byte))

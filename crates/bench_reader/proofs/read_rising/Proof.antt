@@ -14,11 +14,6 @@ Inv-loop s d result start here₀ count₀ highest₀ here count highest = Rises
 abbrev μ-loop : tie.MeasureT-loop
 μ-loop s d result start here₀ count₀ highest₀ here count highest = length s - here .at
 
-fits : tie.Need-add-count Inv-loop μ-loop
-fits c =
-    let l : tie.At-loop Inv-loop μ-loop = search in
-    omega (arith, l .loop .inv .place, l .loop .inv .within)
-
 pub read-rising-spec : {M : Type 1} → statement M
 read-rising-spec =
     tie.close
@@ -27,7 +22,7 @@ read-rising-spec =
     μ-loop
     (λ c. search rises-none)
     (λ c κs. search needs) (λ c. search needs) (λ c. search needs)
-    fits
+    (λ c. let l : tie.At-loop Inv-loop μ-loop = search in omega (arith, l .loop .inv .place, l .loop .inv .within))
     (λ c. search nearer)
     (λ c. search rises-more)
     (λ c. search rising-heard)

@@ -21,11 +21,6 @@ start c = c .before .before .before .before .before .before .before .before
 proper : (c : tie.Else3) → let a = start c .args in bodyProper (bodyOf (a .order .asking) (now (a .bytes))) ≡ true
 proper c = sym (c .before .is-proper .ensures) ∙ not-false (c .before .is-proper .result) (c .if3 .left)
 
-short : tie.Need-returns
-short c =
-    let s : tie.Start = search in
-    refused-ends _ _ _ (short-buffer (s .args .order) (now (s .args .bytes)) _ (c .if1 .taken))
-
 elsewhere : tie.Need-returns-2
 elsewhere c =
     let i : tie.After-is-addressed = search in
@@ -79,7 +74,7 @@ pub write-spec : {M : Type 1} → statement M
 write-spec =
     tie.close
     (tie.spec
-    short
+    (λ c. let s : tie.Start = search in refused-ends _ _ _ (short-buffer (s .args .order) (now (s .args .bytes)) _ (c .if1 .taken)))
     (λ c κs. search needs)
     (λ c κs. search needs)
     elsewhere

@@ -45,12 +45,6 @@ events c =
     let s : tie.Start = search in
     rw (t .enum-told2 .given .1) (alone (flagged 0x19 (now (s .args .bytes))) _ _ _ _ (w .write-object .ensures))
 
-opening : tie.Need-returns-3
-opening c =
-    let w : tie.After-write-opening = search in
-    let a : tie.After-asking = search in
-    rw (a .asking .given .1) (w .write-opening .ensures)
-
 request : tie.Need-returns-5
 unfolding objectBytes bodyObjects bodyOf _⇒_else_
 request c =
@@ -86,7 +80,7 @@ write-body-spec =
     (λ c. search needs)
     events
     (λ c. search needs)
-    opening
+    (λ c. let w : tie.After-write-opening = search in let a : tie.After-asking = search in rw (a .asking .given .1) (w .write-opening .ensures))
     (λ c. let s : tie.Start = search in rw (c .enum-told3 .given .1) (unwritten _ _ (omega (arith, s .pre .0))))
     (λ c. search needs)
     request

@@ -18,12 +18,6 @@ put-requires c κs =
     let w = length-wrote 0xD0 n 0 _ _ _ (omega (arith, s .pre .0)) (o .write-length .ensures) in
     omega (arith, s .pre .0, w .behind, length-bytes n, still _ _ _ _ _ w)
 
-add-result : tie.Need-add-result
-add-result c =
-    let o : tie.After-write-length = search in
-    let s : tie.Start = search in
-    omega (arith, s .pre .0, o .write-length .ensures .1, length-bytes (9 + s .args .size))
-
 returns : tie.Need-returns
 unfolding frontBytes
 returns c =
@@ -43,6 +37,6 @@ write-front-spec =
     (λ c κs. search needs)
     (λ c. search needs)
     put-requires
-    add-result
+    (λ c. let o : tie.After-write-length = search in let s : tie.Start = search in omega (arith, s .pre .0, o .write-length .ensures .1, length-bytes (9 + s .args .size)))
     (λ c. search needs)
     returns)

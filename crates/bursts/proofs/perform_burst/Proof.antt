@@ -25,12 +25,6 @@ start c = c .before .before .before .before .before .before .before .before .bef
 within : (c : tie.After-print) → (start c .args .at < c .print .result) × (c .print .result ≤ start c .args .at + 2 * responseCap + shortLine)
 within c = let w = line-within _ _ _ _ (c .print .ensures .place) in (omega (arith, w .0), omega (arith, w .1))
 
-print-char-requires : tie.Need-print-char-requires
-print-char-requires c κs =
-    let p : tie.After-print = search in
-    let w = within p in
-    omega (arith, w .0, w .1, start p .pre .3)
-
 print-decimal-requires : tie.Need-print-decimal-requires
 print-decimal-requires c κs =
     let b : tie.After-print-char = search in
@@ -71,7 +65,7 @@ perform-burst-spec =
     (λ c. search needs)
     print-requires
     (λ c. let p : tie.After-print = search in omega (arith, within p .0))
-    print-char-requires
+    (λ c κs. let p : tie.After-print = search in let w = within p in omega (arith, w .0, w .1, start p .pre .3))
     print-decimal-requires
     print-char-requires-2
     (λ c. search needs)

@@ -17,12 +17,6 @@ returns c =
     let s : tie.Start = search in
     line-first _ _ _ _ _ (s .pre .0) (s .pre .1) _ _ _ _ (i .if1 .taken) (w .begin .ensures)
 
-array-share-prefix-frame : tie.Need-array-share-prefix-frame
-array-share-prefix-frame c =
-    let n : tie.After-n = search in
-    let f : tie.After-read-frame = search in
-    frame-read _ _ _ _ _ (f .read-frame .ensures) (n .n .given .1) .fits
-
 slice-aggregate-perform-burst : tie.Need-slice-aggregate-perform-burst
 slice-aggregate-perform-burst c =
     let n : tie.After-n = search in
@@ -65,7 +59,7 @@ tell-burst-spec =
     (λ c. search needs)
     (λ c κs. search needs)
     (λ c. search needs)
-    array-share-prefix-frame
+    (λ c. let n : tie.After-n = search in let f : tie.After-read-frame = search in frame-read _ _ _ _ _ (f .read-frame .ensures) (n .n .given .1) .fits)
     slice-aggregate-perform-burst
     perform-burst-requires
     (λ c. search needs)

@@ -25,16 +25,6 @@ framed-at c =
     let s : tie.Start = search in
     subst (λ (r : Framed). Frames r (now (s .args .s))) (c .start .given .1) (f .frame-start .ensures)
 
-sub-first : tie.Need-sub-first-object
-sub-first c =
-    let v : tie.After-start = search in
-    framed-at v .within
-
-part-first : tie.Need-part-first-object-start
-part-first c =
-    let v : tie.After-start = search in
-    omega (arith, framed-at v .within)
-
 told : tie.Need-returns-2
 told c =
     let d : tie.After-d = search in
@@ -57,8 +47,8 @@ details-told-spec =
     (λ c. search needs)
     (λ c. search needs)
     unframed
-    sub-first
-    part-first
+    (λ c. let v : tie.After-start = search in framed-at v .within)
+    (λ c. let v : tie.After-start = search in omega (arith, framed-at v .within))
     (λ c. search needs)
     (λ c κs. search needs)
     (λ c. search needs)

@@ -13,12 +13,6 @@ right c =
     let e : tie.Else2 = search in
     frame-right _ _ _ (length-told (l .len .given .1) (m .length-at .ensures)) (e .if2 .left) (c .if3 .taken)
 
-miscounted : tie.Need-returns-5
-miscounted c =
-    let l : tie.After-len = search in
-    let m : tie.After-length-at = search in
-    frame-count _ _ _ (length-told (l .len .given .1) (m .length-at .ensures)) (c .if3 .left)
-
 pub frame-start-spec : {M : Type 1} → statement M
 frame-start-spec =
     tie.close
@@ -32,4 +26,4 @@ frame-start-spec =
     (λ c. search (frame-unsized, length-missed))
     (λ c. search length-within)
     right
-    miscounted)
+    (λ c. let l : tie.After-len = search in let m : tie.After-length-at = search in frame-count _ _ _ (length-told (l .len .given .1) (m .length-at .ensures)) (c .if3 .left)))

@@ -18,9 +18,6 @@ Inv-loop s row first counts₀ starts₀ survey₀ c₀ counts starts survey c =
 abbrev μ-loop : tie.MeasureT-loop
 μ-loop s row first counts₀ starts₀ survey₀ c₀ counts starts survey c = length s - c .at
 
-cast-first : tie.Need-cast-starts Inv-loop μ-loop
-cast-first c = let z : tie.Start Inv-loop μ-loop = search in omega (arith, z .pre .0, z .pre .1 .stands .within)
-
 add-counts : tie.Need-add-counts Inv-loop μ-loop
 add-counts c =
     let k : tie.After-slot Inv-loop μ-loop = search in
@@ -85,7 +82,7 @@ go-through-spec =
     Inv-loop
     μ-loop
     (λ c. search needs)
-    cast-first
+    (λ c. let z : tie.Start Inv-loop μ-loop = search in omega (arith, z .pre .0, z .pre .1 .stands .within))
     (λ c. search needs)
     (λ c. search needs)
     (λ c. let z : tie.Start Inv-loop μ-loop = search in sorting-start (z .pre .1) (z .pre .2))

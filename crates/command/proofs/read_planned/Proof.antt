@@ -4,35 +4,12 @@ use Rattle.command.proofs.Opening.{row-is, planned-cut, begun, forbidde
 use Rattle.command.proofs.read_planned.Statement.{statement}
 use Rattle.command.proofs.read_planned.Tie as tie
 
-go-through-requires : tie.Need-go-through-requires
-go-through-requires c κs =
-    let z : tie.Start = search in
-    (z .pre .0 .small, z .pre .2, row-is (z .pre .0) (z .pre .1))
-
-cut : tie.Need-returns
-cut c =
-    let g : tie.After-go-through = search in
-    let z : tie.Start = search in
-    planned-cut (z .pre .0) (z .pre .1) (g .go-through .ensures) (c .if1 .taken) _
-
-allowed-requires : tie.Need-allowed-requires
-allowed-requires c κs =
-    let z : tie.Start = search in
-    let p = z .pre .1 .place in
-    (((p .byte-low, p .byte-high), (p .bit-low, p .bit-high)), z .pre .3)
-
 forbidden : tie.Need-returns-2
 forbidden c =
     let e : tie.Else1 = search in
     let g : tie.After-go-through = search in
     let z : tie.Start = search in
     forbidden-read (z .pre .0) (z .pre .1) (g .go-through .ensures) (e .if1 .left) _ (c .before .allowed .ensures) (c .if2 .taken)
-
-read-known-requires : tie.Need-read-known-requires
-read-known-requires c κs =
-    let g : tie.After-go-through = search in
-    let z : tie.Start = search in
-    begun (z .pre .0) (z .pre .1) (g .go-through .ensures)
 
 known : tie.Need-returns-3
 known c =
@@ -46,9 +23,9 @@ pub read-planned-spec : {M : Type 1} → statement M
 read-planned-spec =
     tie.close
     (tie.spec
-    go-through-requires
-    cut
-    allowed-requires
+    (λ c κs. let z : tie.Start = search in (z .pre .0 .small, z .pre .2, row-is (z .pre .0) (z .pre .1)))
+    (λ c. let g : tie.After-go-through = search in let z : tie.Start = search in planned-cut (z .pre .0) (z .pre .1) (g .go-through .ensures) (c .if1 .taken) _)
+    (λ c κs. let z : tie.Start = search in let p = z .pre .1 .place in (((p .byte-low, p .byte-high), (p .bit-low, p .bit-high)), z .pre .3))
     forbidden
-    read-known-requires
+    (λ c κs. let g : tie.After-go-through = search in let z : tie.Start = search in begun (z .pre .0) (z .pre .1) (g .go-through .ensures))
     known)

@@ -7,12 +7,6 @@ use Rattle.command.proofs.Settling.{devices-within, own-behind, own-wit
 use Rattle.command.proofs.settle.Statement.{statement}
 use Rattle.command.proofs.settle.Tie as tie
 
-misaddressed : tie.Need-returns
-misaddressed c = let s : tie.Start = search in settle-wrong (s .pre) (c .before .is-addressed .ensures) (c .if1 .taken)
-
-length-place : tie.Need-shared-slice-read-len-3
-length-place c = let s : tie.Start = search in omega (arith, own-behind (s .pre), own-within (s .pre))
-
 settled : tie.Need-returns-2
 settled c =
     let e : tie.Else1 = search in
@@ -29,10 +23,10 @@ settle-spec =
     (λ c. search needs)
     (λ c. let s : tie.Start = search in omega (arith, devices-within (s .pre)))
     (λ c κs. search needs)
-    misaddressed
+    (λ c. let s : tie.Start = search in settle-wrong (s .pre) (c .before .is-addressed .ensures) (c .if1 .taken))
     (λ c. search needs)
     (λ c. let s : tie.Start = search in own-behind (s .pre))
-    length-place
+    (λ c. let s : tie.Start = search in omega (arith, own-behind (s .pre), own-within (s .pre)))
     (λ c. let s : tie.Start = search in omega (arith, c .shared-slice-known4 .given (s .args .v .own - 1)))
     (λ c. search needs)
     (λ c. search needs)

@@ -8,18 +8,6 @@ use borrow.Author.Needs.{needs}
 use Rattle.details.proofs.tell_details.Statement.{statement}
 use Rattle.details.proofs.tell_details.Tie as tie
 
-array-share-prefix-frame : tie.Need-array-share-prefix-frame
-array-share-prefix-frame c =
-    let n : tie.After-n = search in
-    let f : tie.After-read-frame = search in
-    frame-read _ _ _ _ _ (f .read-frame .ensures) (n .n .given .1) .fits
-
-slice-aggregate-print-details : tie.Need-slice-aggregate-print-details
-slice-aggregate-print-details c =
-    let n : tie.After-n = search in
-    let f : tie.After-read-frame = search in
-    frame-read _ _ _ _ _ (f .read-frame .ensures) (n .n .given .1) .size
-
 returns : tie.Need-returns
 unfolding detailsLine
 returns c =
@@ -43,8 +31,8 @@ tell-details-spec =
     (λ c. search needs)
     (λ c κs. search needs)
     (λ c. search needs)
-    array-share-prefix-frame
-    slice-aggregate-print-details
+    (λ c. let n : tie.After-n = search in let f : tie.After-read-frame = search in frame-read _ _ _ _ _ (f .read-frame .ensures) (n .n .given .1) .fits)
+    (λ c. let n : tie.After-n = search in let f : tie.After-read-frame = search in frame-read _ _ _ _ _ (f .read-frame .ensures) (n .n .given .1) .size)
     (λ c κs. search needs)
     (λ c. search needs)
     (λ c κs. search needs)

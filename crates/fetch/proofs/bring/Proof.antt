@@ -17,39 +17,6 @@ Inv-loop gathered₀ held bytes taken₀ gathered taken = Bringing gathered₀ h
 abbrev μ-loop : tie.MeasureT-loop
 μ-loop gathered₀ held bytes taken₀ gathered taken = length bytes - taken
 
-loop-holds : tie.Need-loop-holds Inv-loop μ-loop
-loop-holds c =
-    let s : tie.Start Inv-loop μ-loop = search in
-    bring-none _ _ _ (s .pre .0) (s .pre .1)
-
-add-count : tie.Need-add-count Inv-loop μ-loop
-add-count c =
-    let l : tie.At-loop Inv-loop μ-loop = search in
-    let f = l .loop .inv .fits in omega (arith, f)
-
-slice-reshare-prefix-stage-of : tie.Need-slice-reshare-prefix-stage-of Inv-loop μ-loop
-slice-reshare-prefix-stage-of c =
-    let l : tie.At-loop Inv-loop μ-loop = search in
-    let f = l .loop .inv .fits in
-    let z = l .loop .inv .size in omega (arith, f, z)
-
-slice-aggregate-stage-of : tie.Need-slice-aggregate-stage-of Inv-loop μ-loop
-slice-aggregate-stage-of c =
-    let l : tie.At-loop Inv-loop μ-loop = search in
-    let f = l .loop .inv .fits in
-    let z = l .loop .inv .size in sym (length-take-le _ _ (omega (arith, f, z)))
-
-stage-of-requires : tie.Need-stage-of-requires Inv-loop μ-loop
-stage-of-requires c κs =
-    let l : tie.At-loop Inv-loop μ-loop = search in
-    let s : tie.Start Inv-loop μ-loop = search in
-    bring-short _ _ _ (s .pre .0) _ _ (l .loop .inv)
-
-add-end : tie.Need-add-end Inv-loop μ-loop
-add-end c =
-    let e : tie.After-least Inv-loop μ-loop = search in
-    let k = e .least .ensures in omega (arith, k)
-
 put-part-requires : tie.Need-put-part-requires Inv-loop μ-loop
 put-part-requires c κs =
     let e : tie.After-least Inv-loop μ-loop = search in
@@ -99,12 +66,6 @@ returns-2 c =
     let s : tie.Start Inv-loop μ-loop = search in
     bring-stop _ _ _ (s .pre .0) _ _ (l .loop .inv) (ap isLacking (sym (t .stage-of .ensures) ∙ c .enum-told2 .given .1))
 
-same-length-3 : tie.Need-same-length-3 Inv-loop μ-loop
-same-length-3 c =
-    let l : tie.At-loop Inv-loop μ-loop = search in
-    let s : tie.Start Inv-loop μ-loop = search in
-    l .loop .inv .size ∙ sym (s .pre .0)
-
 returns-3 : tie.Need-returns-3 Inv-loop μ-loop
 returns-3 c =
     let l : tie.At-loop Inv-loop μ-loop = search in
@@ -118,15 +79,15 @@ bring-spec =
     (tie.spec
     Inv-loop
     μ-loop
-    loop-holds
-    add-count
-    slice-reshare-prefix-stage-of
-    slice-aggregate-stage-of
-    stage-of-requires
+    (λ c. let s : tie.Start Inv-loop μ-loop = search in bring-none _ _ _ (s .pre .0) (s .pre .1))
+    (λ c. let l : tie.At-loop Inv-loop μ-loop = search in let f = l .loop .inv .fits in omega (arith, f))
+    (λ c. let l : tie.At-loop Inv-loop μ-loop = search in let f = l .loop .inv .fits in let z = l .loop .inv .size in omega (arith, f, z))
+    (λ c. let l : tie.At-loop Inv-loop μ-loop = search in let f = l .loop .inv .fits in let z = l .loop .inv .size in sym (length-take-le _ _ (omega (arith, f, z))))
+    (λ c κs. let l : tie.At-loop Inv-loop μ-loop = search in let s : tie.Start Inv-loop μ-loop = search in bring-short _ _ _ (s .pre .0) _ _ (l .loop .inv))
     (λ c. search needs)
     (λ c. search needs)
     (λ c κs. search needs)
-    add-end
+    (λ c. let e : tie.After-least Inv-loop μ-loop = search in let k = e .least .ensures in omega (arith, k))
     put-part-requires
     loop-less
     loop-again
@@ -136,5 +97,5 @@ bring-spec =
     (λ c. search needs)
     (λ c. search needs)
     returns-2
-    same-length-3
+    (λ c. let l : tie.At-loop Inv-loop μ-loop = search in let s : tie.Start Inv-loop μ-loop = search in l .loop .inv .size ∙ sym (s .pre .0))
     returns-3)

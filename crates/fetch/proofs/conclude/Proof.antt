@@ -8,38 +8,11 @@ use borrow.Author.Needs.{needs}
 use Rattle.fetch.proofs.conclude.Statement.{statement}
 use Rattle.fetch.proofs.conclude.Tie as tie
 
-reshare : tie.Need-slice-reshare-prefix-stage-of
-reshare c =
-    let s : tie.Start = search in
-    let z = stands-size _ _ (s .pre .1) in
-    let f = s .pre .1 .fits in omega (arith, z, f)
-
-aggregate : tie.Need-slice-aggregate-stage-of
-aggregate c =
-    let s : tie.Start = search in
-    sym (front-length _ _ (s .pre .1))
-
-stage-of-requires : tie.Need-stage-of-requires
-stage-of-requires c κs =
-    let s : tie.Start = search in
-    let n = front-length _ _ (s .pre .1) in
-    let f = s .pre .1 .fits in omega (arith, n, f)
-
 cast-gathered : tie.Need-cast-gathered
 cast-gathered c =
     let t : tie.After-stage-of = search in
     let s : tie.Start = search in
     let w = kept-few _ _ (s .pre .1) _ _ (t .stage-of .ensures) (c .enum-told .given .1) in record { fits = omega (arith, w) }
-
-write : tie.Need-slice-write-gathered
-write c =
-    let s : tie.Start = search in
-    let z = stands-size _ _ (s .pre .1) in omega (arith, z)
-
-clear-requires : tie.Need-clear-requires
-clear-requires c κs =
-    let s : tie.Start = search in
-    let z = stands-size _ _ (s .pre .1) in (omega arith, omega (arith, z))
 
 returns : tie.Need-returns
 returns c =
@@ -67,14 +40,14 @@ pub conclude-spec : {M : Type 1} → statement M
 conclude-spec =
     tie.close
     (tie.spec
-    reshare
-    aggregate
-    stage-of-requires
+    (λ c. let s : tie.Start = search in let z = stands-size _ _ (s .pre .1) in let f = s .pre .1 .fits in omega (arith, z, f))
+    (λ c. let s : tie.Start = search in sym (front-length _ _ (s .pre .1)))
+    (λ c κs. let s : tie.Start = search in let n = front-length _ _ (s .pre .1) in let f = s .pre .1 .fits in omega (arith, n, f))
     (λ c. search needs)
     cast-gathered
-    write
+    (λ c. let s : tie.Start = search in let z = stands-size _ _ (s .pre .1) in omega (arith, z))
     (λ c. search needs)
-    clear-requires
+    (λ c κs. let s : tie.Start = search in let z = stands-size _ _ (s .pre .1) in (omega arith, omega (arith, z)))
     (λ c. search needs)
     (λ c κs. search needs)
     (λ c. search needs)

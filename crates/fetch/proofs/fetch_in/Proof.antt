@@ -9,21 +9,6 @@ use borrow.Author.Needs.{needs}
 use Rattle.fetch.proofs.fetch_in.Statement.{statement}
 use Rattle.fetch.proofs.fetch_in.Tie as tie
 
-returns : tie.Need-returns
-returns c =
-    let s : tie.Start = search in
-    fetch-short _ _ (s .pre .1) _ _ _ (s .pre .0) (c .if1 .taken)
-
-cast-held : tie.Need-cast-held
-cast-held c =
-    let s : tie.Start = search in
-    let f = gathers-stand _ (s .pre .1) .fits in record { fits = omega (arith, f) }
-
-bring-requires : tie.Need-bring-requires
-bring-requires c κs =
-    let s : tie.Start = search in
-    (stands-size _ _ (gathers-stand _ (s .pre .1)), gathers-stand _ (s .pre .1) .fits)
-
 add-conclude : tie.Need-add-conclude
 unfolding gatheredIn
 add-conclude c =
@@ -38,11 +23,6 @@ conclude-requires c κs =
     let s : tie.Start = search in
     (s .pre .0, fetch-stands _ _ (s .pre .1) _ _ (g .bring .ensures .0) (g .bring .ensures .1))
 
-sub-t25 : tie.Need-sub-t25
-sub-t25 c =
-    let g : tie.After-bring = search in
-    brought-count _ _ _ (g .bring .ensures .0)
-
 returns-2 : tie.Need-returns-2
 unfolding gatheredIn
 returns-2 c =
@@ -56,12 +36,12 @@ pub fetch-in-spec : {M : Type 1} → statement M
 fetch-in-spec =
     tie.close
     (tie.spec
-    returns
+    (λ c. let s : tie.Start = search in fetch-short _ _ (s .pre .1) _ _ _ (s .pre .0) (c .if1 .taken))
     (λ c. search needs)
-    cast-held
-    bring-requires
+    (λ c. let s : tie.Start = search in let f = gathers-stand _ (s .pre .1) .fits in record { fits = omega (arith, f) })
+    (λ c κs. let s : tie.Start = search in (stands-size _ _ (gathers-stand _ (s .pre .1)), gathers-stand _ (s .pre .1) .fits))
     add-conclude
     conclude-requires
-    sub-t25
+    (λ c. let g : tie.After-bring = search in brought-count _ _ _ (g .bring .ensures .0))
     (λ c. search needs)
     returns-2)

@@ -7,26 +7,9 @@ use borrow.Author.Needs.{needs}
 use Rattle.fetch.proofs.hand_on.Statement.{statement}
 use Rattle.fetch.proofs.hand_on.Tie as tie
 
-reshare : tie.Need-slice-reshare-prefix-command-in
-reshare c =
-    let s : tie.Start = search in
-    let z = stands-size _ _ (s .pre .1) in
-    let f = s .pre .1 .fits in omega (arith, z, f)
-
-aggregate : tie.Need-slice-aggregate-command-in
-aggregate c =
-    let s : tie.Start = search in
-    sym (front-length _ _ (s .pre .1))
-
 -- the function's start, from behind the command call
 abbrev start : tie.After-command-in → tie.Start
 start c = c .before .before .before .before .before .before .before
-
-clear-requires : tie.Need-clear-requires
-clear-requires c κs =
-    let m : tie.After-command-in = search in
-    let s = start m in
-    let z = stands-size _ _ (s .pre .1) in (omega arith, omega (arith, z))
 
 returns : tie.Need-returns
 returns c =
@@ -39,10 +22,10 @@ pub hand-on-spec : {M : Type 1} → statement M
 hand-on-spec =
     tie.close
     (tie.spec
-    reshare
-    aggregate
+    (λ c. let s : tie.Start = search in let z = stands-size _ _ (s .pre .1) in let f = s .pre .1 .fits in omega (arith, z, f))
+    (λ c. let s : tie.Start = search in sym (front-length _ _ (s .pre .1)))
     (λ c κs. search needs)
-    clear-requires
+    (λ c κs. let m : tie.After-command-in = search in let s = start m in let z = stands-size _ _ (s .pre .1) in (omega arith, omega (arith, z)))
     (λ c. search needs)
     (λ c. search needs)
     returns)

@@ -5,16 +5,6 @@ use borrow.Author.Needs.{needs}
 use Rattle.host.proofs.pack_burst.Statement.{statement}
 use Rattle.host.proofs.pack_burst.Tie as tie
 
-returns : tie.Need-returns
-returns c =
-    let p : tie.After-pack = search in
-    burst-few _ _ (p .pack .ensures) (c .if1 .taken)
-
-returns-2 : tie.Need-returns-2
-returns-2 c =
-    let p : tie.After-pack = search in
-    burst-many _ _ (p .pack .ensures) (c .if1 .left)
-
 pub pack-burst-spec : {M : Type 1} → statement M
 pack-burst-spec =
     tie.close
@@ -23,7 +13,7 @@ pack-burst-spec =
     (λ c. search needs)
     (λ c. search needs)
     (λ c. search needs)
-    returns
+    (λ c. let p : tie.After-pack = search in burst-few _ _ (p .pack .ensures) (c .if1 .taken))
     (λ c. search needs)
     (λ c. search needs)
-    returns-2)
+    (λ c. let p : tie.After-pack = search in burst-many _ _ (p .pack .ensures) (c .if1 .left)))

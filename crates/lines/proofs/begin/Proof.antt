@@ -12,27 +12,11 @@ use borrow.Author.Needs.{needs}
 use Rattle.lines.proofs.begin.Statement.{statement}
 use Rattle.lines.proofs.begin.Tie as tie
 
-array-share-prefix-frame : tie.Need-array-share-prefix-frame
-array-share-prefix-frame c =
-    let n : tie.After-n = search in
-    let f : tie.After-read-frame = search in
-    frame-read _ _ _ _ _ (f .read-frame .ensures) (n .n .given .1) .fits
-
 slice-aggregate-start-ledger : tie.Need-slice-aggregate-start-ledger
 slice-aggregate-start-ledger c =
     let n : tie.After-n = search in
     let f : tie.After-read-frame = search in
     sym (length-take-le _ _ (frame-read _ _ _ _ _ (f .read-frame .ensures) (n .n .given .1) .fits))
-
-start-ledger-requires : tie.Need-start-ledger-requires
-start-ledger-requires c κs =
-    let s : tie.Start = search in
-    good-table _ _ (s .pre .0)
-
-start-ledger-requires-2 : tie.Need-start-ledger-requires-2
-start-ledger-requires-2 c κs =
-    let s : tie.Start = search in
-    good-table _ _ (s .pre .0)
 
 print-requires : tie.Need-print-requires
 unfolding countOf
@@ -68,12 +52,12 @@ begin-spec =
     (λ c. search needs)
     (λ c κs. search needs)
     (λ c. search needs)
-    array-share-prefix-frame
+    (λ c. let n : tie.After-n = search in let f : tie.After-read-frame = search in frame-read _ _ _ _ _ (f .read-frame .ensures) (n .n .given .1) .fits)
     slice-aggregate-start-ledger
-    start-ledger-requires
+    (λ c κs. let s : tie.Start = search in good-table _ _ (s .pre .0))
     (λ c. search needs)
     (λ c. search needs)
-    start-ledger-requires-2
+    (λ c κs. let s : tie.Start = search in good-table _ _ (s .pre .0))
     (λ c. search needs)
     print-requires
     returns

@@ -9,28 +9,6 @@ use borrow.Author.Needs.{needs}
 use Rattle.lines.proofs.call.Statement.{statement}
 use Rattle.lines.proofs.call.Tie as tie
 
-slice-aggregate-command-in : tie.Need-slice-aggregate-command-in
-slice-aggregate-command-in c =
-    let s : tie.Start = search in
-    front-size responseCap (now (s .args .reply)) (s .pre .1) (omega arith)
-
-sub-arrival-in : tie.Need-sub-arrival-in
-sub-arrival-in c =
-    let e : tie.After-n = search in
-    let r : tie.After-read-call = search in
-    omega (arith, arrival-bounded _ _ (r .read-call .ensures) _ (e .n .given .1))
-
-part-arrival-in-start : tie.Need-part-arrival-in-start
-part-arrival-in-start c =
-    let e : tie.After-n = search in
-    let r : tie.After-read-call = search in
-    omega (arith, arrival-bounded _ _ (r .read-call .ensures) _ (e .n .given .1))
-
-slice-aggregate-arrival-in : tie.Need-slice-aggregate-arrival-in
-slice-aggregate-arrival-in c =
-    let s : tie.Start = search in
-    front-size eventCap (now (s .args .reply)) (s .pre .1) (omega arith)
-
 slice-relend-prefix-taking-in : tie.Need-slice-relend-prefix-taking-in
 slice-relend-prefix-taking-in c =
     let e : tie.After-n2 = search in
@@ -44,11 +22,6 @@ slice-aggregate-taking-in c =
     let r : tie.After-read-call = search in
     let s : tie.Start = search in
     front-size _ _ (s .pre .1) (take-bounded _ _ (r .read-call .ensures) _ _ (e .n2 .given .1))
-
-slice-aggregate-dropping-in : tie.Need-slice-aggregate-dropping-in
-slice-aggregate-dropping-in c =
-    let s : tie.Start = search in
-    front-size eventCap (now (s .args .reply)) (s .pre .1) (omega arith)
 
 returns : tie.Need-returns
 unfolding step
@@ -100,14 +73,14 @@ call-spec =
     (λ c κs. search needs)
     (λ c. search needs)
     (λ c. search needs)
-    slice-aggregate-command-in
+    (λ c. let s : tie.Start = search in front-size responseCap (now (s .args .reply)) (s .pre .1) (omega arith))
     (λ c κs. search needs)
     (λ c. search needs)
-    sub-arrival-in
-    part-arrival-in-start
+    (λ c. let e : tie.After-n = search in let r : tie.After-read-call = search in omega (arith, arrival-bounded _ _ (r .read-call .ensures) _ (e .n .given .1)))
+    (λ c. let e : tie.After-n = search in let r : tie.After-read-call = search in omega (arith, arrival-bounded _ _ (r .read-call .ensures) _ (e .n .given .1)))
     (λ c. search needs)
     (λ c. search needs)
-    slice-aggregate-arrival-in
+    (λ c. let s : tie.Start = search in front-size eventCap (now (s .args .reply)) (s .pre .1) (omega arith))
     (λ c κs. search needs)
     (λ c. search needs)
     slice-relend-prefix-taking-in
@@ -115,7 +88,7 @@ call-spec =
     (λ c κs. search needs)
     (λ c. search needs)
     (λ c. search needs)
-    slice-aggregate-dropping-in
+    (λ c. let s : tie.Start = search in front-size eventCap (now (s .args .reply)) (s .pre .1) (omega arith))
     (λ c κs. search needs)
     (λ c. search needs)
     (λ c. search needs)

@@ -9,12 +9,6 @@ use borrow.Author.Needs.{needs}
 use Rattle.lines.proofs.obey.Statement.{statement}
 use Rattle.lines.proofs.obey.Tie as tie
 
-array-share-prefix-frame : tie.Need-array-share-prefix-frame
-array-share-prefix-frame c =
-    let n : tie.After-n = search in
-    let f : tie.After-read-frame = search in
-    frame-read _ _ _ _ _ (f .read-frame .ensures) (n .n .given .1) .fits
-
 slice-aggregate-call : tie.Need-slice-aggregate-call
 slice-aggregate-call c =
     let n : tie.After-n = search in
@@ -43,7 +37,7 @@ obey-spec =
     (λ c. search needs)
     (λ c κs. search needs)
     (λ c. search needs)
-    array-share-prefix-frame
+    (λ c. let n : tie.After-n = search in let f : tie.After-read-frame = search in frame-read _ _ _ _ _ (f .read-frame .ensures) (n .n .given .1) .fits)
     slice-aggregate-call
     (λ c κs. search needs)
     (λ c. search needs)

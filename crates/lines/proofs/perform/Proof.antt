@@ -5,12 +5,6 @@ use borrow.Author.Needs.{needs}
 use Rattle.lines.proofs.perform.Statement.{statement}
 use Rattle.lines.proofs.perform.Tie as tie
 
-returns : tie.Need-returns
-returns c =
-    let w : tie.After-print = search in
-    let q : tie.After-obey = search in
-    line-says _ _ _ _ _ _ _ _ _ _ (q .obey .ensures) (w .print .ensures)
-
 pub perform-spec : {M : Type 1} → statement M
 perform-spec =
     tie.close
@@ -20,4 +14,4 @@ perform-spec =
     (λ c. search needs)
     (λ c κs. search needs)
     (λ c. search needs)
-    returns)
+    (λ c. let w : tie.After-print = search in let q : tie.After-obey = search in line-says _ _ _ _ _ _ _ _ _ _ (q .obey .ensures) (w .print .ensures)))

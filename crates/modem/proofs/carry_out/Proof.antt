@@ -15,18 +15,6 @@ use Rattle.modem.proofs.carry_out.Tie as tie
 abbrev start : tie.After-enum-told3 → tie.Start
 start c = c .before .before .before .before .before .before .before .before
 
-size-at-requires : tie.Need-size-at-requires
-size-at-requires c κs =
-    let e : tie.After-enum-told3 = search in
-    let s : tie.Start = search in
-    opens _ _ _ (s .args .q) (s .pre .0) (s .pre .1) (e .enum-told3 .given .1) .size-within
-
-protocol-at-requires : tie.Need-protocol-at-requires
-protocol-at-requires c κs =
-    let e : tie.After-enum-told3 = search in
-    let s : tie.Start = search in
-    opens _ _ _ (s .args .q) (s .pre .0) (s .pre .1) (e .enum-told3 .given .1) .protocol-within
-
 open-requires : tie.Need-open-requires
 open-requires c κs =
     let e : tie.After-enum-told3 = search in
@@ -128,8 +116,8 @@ carry-out-spec =
     (λ c. search needs)
     (λ c. search needs)
     (λ c. search needs)
-    size-at-requires
-    protocol-at-requires
+    (λ c κs. let e : tie.After-enum-told3 = search in let s : tie.Start = search in opens _ _ _ (s .args .q) (s .pre .0) (s .pre .1) (e .enum-told3 .given .1) .size-within)
+    (λ c κs. let e : tie.After-enum-told3 = search in let s : tie.Start = search in opens _ _ _ (s .args .q) (s .pre .0) (s .pre .1) (e .enum-told3 .given .1) .protocol-within)
     open-requires
     (λ c. search needs)
     close-requires

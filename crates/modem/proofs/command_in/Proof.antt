@@ -14,23 +14,6 @@ use borrow.Author.Needs.{needs}
 use Rattle.modem.proofs.command_in.Statement.{statement}
 use Rattle.modem.proofs.command_in.Tie as tie
 
-returns : tie.Need-returns
-returns c =
-    let s : tie.Start = search in
-    refuse-answers _ _ _ _ _ (s .pre) (short-refused _ _ _ (c .if1 .taken))
-
-returns-2 : tie.Need-returns-2
-returns-2 c =
-    let i1 : tie.Else1 = search in
-    let s : tie.Start = search in
-    refuse-answers _ _ _ _ _ (s .pre) (empty-refused _ _ _ (i1 .if1 .left) (c .if2 .taken))
-
-returns-3 : tie.Need-returns-3
-returns-3 c =
-    let i1 : tie.Else1 = search in
-    let s : tie.Start = search in
-    refuse-answers _ _ _ _ _ (s .pre) (long-refused _ _ _ (i1 .if1 .left) (c .if3 .taken))
-
 sub-obey : tie.Need-sub-obey
 sub-obey c =
     let v : tie.After-start = search in
@@ -73,9 +56,9 @@ pub command-in-spec : {M : Type 1} → statement M
 command-in-spec =
     tie.close
     (tie.spec
-    returns
-    returns-2
-    returns-3
+    (λ c. let s : tie.Start = search in refuse-answers _ _ _ _ _ (s .pre) (short-refused _ _ _ (c .if1 .taken)))
+    (λ c. let i1 : tie.Else1 = search in let s : tie.Start = search in refuse-answers _ _ _ _ _ (s .pre) (empty-refused _ _ _ (i1 .if1 .left) (c .if2 .taken)))
+    (λ c. let i1 : tie.Else1 = search in let s : tie.Start = search in refuse-answers _ _ _ _ _ (s .pre) (long-refused _ _ _ (i1 .if1 .left) (c .if3 .taken)))
     (λ c κs. search needs)
     (λ c. search needs)
     sub-obey

@@ -13,12 +13,6 @@ use borrow.Author.Needs.{needs}
 use Rattle.modem.proofs.obey.Statement.{statement}
 use Rattle.modem.proofs.obey.Tie as tie
 
-read-by-requires : tie.Need-read-by-requires
-read-by-requires c κs =
-    let s : tie.Start = search in
-    let l = good-table _ _ (s .pre .0) in
-    (omega arith, s .pre .1)
-
 carry-out-requires : tie.Need-carry-out-requires
 carry-out-requires c κs =
     let v : tie.After-q = search in
@@ -38,7 +32,7 @@ pub obey-spec : {M : Type 1} → statement M
 obey-spec =
     tie.close
     (tie.spec
-    read-by-requires
+    (λ c κs. let s : tie.Start = search in let l = good-table _ _ (s .pre .0) in (omega arith, s .pre .1))
     (λ c. search needs)
     (λ c κs. search needs)
     (λ c. search needs)

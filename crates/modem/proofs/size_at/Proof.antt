@@ -7,19 +7,6 @@ use Rattle.command.specs.Requests.{sizeAt}
 use Rattle.modem.proofs.size_at.Statement.{statement}
 use Rattle.modem.proofs.size_at.Tie as tie
 
-low : tie.Need-cast-low
-low c = let s : tie.Start = search in omega (arith, c .shared-slice-known2 .given (s .args .at + 1))
-
-times-256 : tie.Need-mul-result
-times-256 c =
-    let s : tie.Start = search in
-    omega (arith, c .shared-slice-known2 .given (s .args .at), c .shared-slice-known2 .given (s .args .at + 1))
-
-both : tie.Need-add-result
-both c =
-    let s : tie.Start = search in
-    omega (arith, c .shared-slice-known2 .given (s .args .at), c .shared-slice-known2 .given (s .args .at + 1))
-
 pub size-at-spec : {M : Type 1} → statement M
 unfolding sizeAt
 size-at-spec =
@@ -29,7 +16,7 @@ size-at-spec =
     (λ c. let s : tie.Start = search in omega (arith, c .shared-slice-known .given (s .args .at)))
     (λ c. let s : tie.Start = search in omega (arith, s .pre))
     (λ c. let s : tie.Start = search in omega (arith, s .pre))
-    low
-    times-256
-    both
+    (λ c. let s : tie.Start = search in omega (arith, c .shared-slice-known2 .given (s .args .at + 1)))
+    (λ c. let s : tie.Start = search in omega (arith, c .shared-slice-known2 .given (s .args .at), c .shared-slice-known2 .given (s .args .at + 1)))
+    (λ c. let s : tie.Start = search in omega (arith, c .shared-slice-known2 .given (s .args .at), c .shared-slice-known2 .given (s .args .at + 1)))
     (λ c. refl))

@@ -7,11 +7,6 @@ use Rattle.objects.proofs.Reading.{length-none, length-short, length-ot
 use Rattle.objects.proofs.length_at.Statement.{statement}
 use Rattle.objects.proofs.length_at.Tie as tie
 
-cast-long : tie.Need-cast-t6
-cast-long c =
-    let s : tie.Start = search in
-    omega (arith, c .before .shared-slice-known2 .given (s .args .at + 1))
-
 pub length-at-spec : {M : Type 1} → statement M
 length-at-spec =
     tie.close
@@ -26,6 +21,6 @@ length-at-spec =
     (λ c. search long-none)
     (λ c. search needs)
     (λ c. search long-low)
-    cast-long
+    (λ c. let s : tie.Start = search in omega (arith, c .before .shared-slice-known2 .given (s .args .at + 1)))
     (λ c. search needs)
     (λ c. search long-length))

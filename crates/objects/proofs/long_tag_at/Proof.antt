@@ -8,15 +8,6 @@ use Rattle.objects.proofs.long_tag_at.Statement.{statement}
 use Rattle.objects.proofs.long_tag_at.Tie as tie
 
 -- a byte and a number below 128 make one of 15 bits
-cast-low : tie.Need-cast-number-2
-cast-low c =
-    let s : tie.Start = search in
-    omega (arith, c .shared-slice-known2 .given (s .args .at + 1))
-
-add-number : tie.Need-add-number
-add-number c =
-    let s : tie.Start = search in
-    omega (arith, c .shared-slice-known2 .given (s .args .at + 1))
 
 pub long-tag-at-spec : {M : Type 1} → statement M
 long-tag-at-spec =
@@ -29,8 +20,8 @@ long-tag-at-spec =
     (λ c. search needs)
     (λ c. search needs)
     (λ c. search needs)
-    cast-low
-    add-number
+    (λ c. let s : tie.Start = search in omega (arith, c .shared-slice-known2 .given (s .args .at + 1)))
+    (λ c. let s : tie.Start = search in omega (arith, c .shared-slice-known2 .given (s .args .at + 1)))
     (λ c. search long-zero)
     (λ c. search needs)
     (λ c. search long-read))

@@ -14,22 +14,11 @@ Inv-loop s c₀ c = Ends s (c .at)
 abbrev μ-loop : tie.MeasureT-loop
 μ-loop s c₀ c = length s - c .at
 
-loop-less : tie.Need-loop-less Inv-loop μ-loop
-loop-less c =
-    let o : tie.After-object Inv-loop μ-loop = search in
-    nearer (object-told (c .before .next .given .1) (o .object .ensures))
-
 loop-again : tie.Need-loop-again Inv-loop μ-loop
 loop-again c =
     let o : tie.After-object Inv-loop μ-loop = search in
     let l : tie.At-loop Inv-loop μ-loop = search in
     ends-on (l .loop .inv) (object-told (c .before .next .given .1) (o .object .ensures))
-
-stopped : tie.Need-returns-2 Inv-loop μ-loop
-stopped c =
-    let e : tie.Else1 Inv-loop μ-loop = search in
-    let l : tie.At-loop Inv-loop μ-loop = search in
-    ends-fault _ _ _ (l .loop .inv) (e .if1 .left) (search object-missed)
 
 pub walk-spec : {M : Type 1} → statement M
 walk-spec =
@@ -40,8 +29,8 @@ walk-spec =
     (λ c. ends-start _)
     (λ c κs. tt)
     (λ c. search needs)
-    loop-less
+    (λ c. let o : tie.After-object Inv-loop μ-loop = search in nearer (object-told (c .before .next .given .1) (o .object .ensures)))
     loop-again
     (λ c. search needs)
     (λ c. ends-end _ _ (c .before .loop .inv) (c .if1 .taken))
-    stopped)
+    (λ c. let e : tie.Else1 Inv-loop μ-loop = search in let l : tie.At-loop Inv-loop μ-loop = search in ends-fault _ _ _ (l .loop .inv) (e .if1 .left) (search object-missed)))

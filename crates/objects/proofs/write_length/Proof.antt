@@ -6,18 +6,6 @@ use Rattle.objects.proofs.Writing.{short-length, long-length, form-put}
 use Rattle.objects.proofs.write_length.Statement.{statement}
 use Rattle.objects.proofs.write_length.Tie as tie
 
-short : tie.Need-returns
-short c =
-    let p : tie.After-put = search in
-    let t : tie.Then1 = search in
-    form-put _ _ _ _ _ _ _ (short-length _ (t .if1 .taken)) (p .put .ensures) refl
-
-long : tie.Need-returns-2
-long c =
-    let p : tie.After-put2 = search in
-    let e : tie.Else1 = search in
-    form-put _ _ _ _ _ _ _ (long-length _ (e .if1 .left)) (p .put2 .ensures) refl
-
 pub write-length-spec : {M : Type 1} → statement M
 write-length-spec =
     tie.close
@@ -26,9 +14,9 @@ write-length-spec =
     (λ c κs. search needs)
     (λ c. search needs)
     (λ c. search needs)
-    short
+    (λ c. let p : tie.After-put = search in let t : tie.Then1 = search in form-put _ _ _ _ _ _ _ (short-length _ (t .if1 .taken)) (p .put .ensures) refl)
     (λ c. search needs)
     (λ c κs. search needs)
     (λ c. search needs)
     (λ c. search needs)
-    long)
+    (λ c. let p : tie.After-put2 = search in let e : tie.Else1 = search in form-put _ _ _ _ _ _ _ (long-length _ (e .if1 .left)) (p .put2 .ensures) refl))

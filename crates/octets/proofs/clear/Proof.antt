@@ -13,21 +13,6 @@ Inv-loop d₀ at end n i₀ d i = Copied d₀ at (replicate (end - at) 0) i d
 abbrev μ-loop : tie.MeasureT-loop
 μ-loop d₀ at end n i₀ d i = n - i
 
-loop-holds : tie.Need-loop-holds Inv-loop μ-loop
-loop-holds c = clear-none _ _ _ (c .pre)
-
-slice-write-d : tie.Need-slice-write-d Inv-loop μ-loop
-slice-write-d c = omega (arith, c .before .loop .inv .same)
-
-loop-again : tie.Need-loop-again Inv-loop μ-loop
-loop-again c = clear-more _ _ _ (c .before .before .pre) _ _ (c .before .loop .inv) (c .loop-test .taken)
-
-same-length : tie.Need-same-length Inv-loop μ-loop
-same-length c = c .before .loop .inv .same
-
-returns : tie.Need-returns Inv-loop μ-loop
-returns c = clear-all _ _ _ (c .before .before .pre) _ _ (c .before .loop .inv) (c .loop-test .left)
-
 pub clear-spec : {M : Type 1} → statement M
 clear-spec =
     tie.close
@@ -35,11 +20,11 @@ clear-spec =
     Inv-loop
     μ-loop
     (λ c. omega arith)
-    loop-holds
+    (λ c. clear-none _ _ _ (c .pre))
     (λ c. omega arith)
-    slice-write-d
+    (λ c. omega (arith, c .before .loop .inv .same))
     (λ c. omega arith)
     (λ c. omega arith)
-    loop-again
-    same-length
-    returns)
+    (λ c. clear-more _ _ _ (c .before .before .pre) _ _ (c .before .loop .inv) (c .loop-test .taken))
+    (λ c. c .before .loop .inv .same)
+    (λ c. clear-all _ _ _ (c .before .before .pre) _ _ (c .before .loop .inv) (c .loop-test .left)))

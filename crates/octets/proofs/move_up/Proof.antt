@@ -13,26 +13,6 @@ Inv-loop d₀ to from end n₀ d n = CopiedBack d₀ to (part from end d₀) n d
 abbrev μ-loop : tie.MeasureT-loop
 μ-loop d₀ to from end n₀ d n = n
 
-loop-holds : tie.Need-loop-holds Inv-loop μ-loop
-loop-holds c = up-none _ _ _ _ (c .pre)
-
-slice-read-d : tie.Need-slice-read-d Inv-loop μ-loop
-slice-read-d c = omega (arith, c .before .before .loop .inv .same)
-
-slice-write-d : tie.Need-slice-write-d Inv-loop μ-loop
-slice-write-d c = omega (arith, c .before .before .loop .inv .same)
-
-loop-again : tie.Need-loop-again Inv-loop μ-loop
-loop-again c =
-    let at-start : tie.Start Inv-loop μ-loop = search in
-    up-more _ _ _ _ (at-start .pre) _ _ (c .before .before .loop .inv) (c .before .loop-test .taken)
-
-same-length : tie.Need-same-length Inv-loop μ-loop
-same-length c = c .before .loop .inv .same
-
-returns : tie.Need-returns Inv-loop μ-loop
-returns c = up-all _ _ _ _ (c .before .before .pre) _ _ (c .before .loop .inv) (c .loop-test .left)
-
 pub move-up-spec : {M : Type 1} → statement M
 move-up-spec =
     tie.close
@@ -40,13 +20,13 @@ move-up-spec =
     Inv-loop
     μ-loop
     (λ c. omega arith)
-    loop-holds
+    (λ c. up-none _ _ _ _ (c .pre))
     (λ c. omega arith)
     (λ c. omega arith)
-    slice-read-d
+    (λ c. omega (arith, c .before .before .loop .inv .same))
     (λ c. omega arith)
-    slice-write-d
+    (λ c. omega (arith, c .before .before .loop .inv .same))
     (λ c. omega arith)
-    loop-again
-    same-length
-    returns)
+    (λ c. let at-start : tie.Start Inv-loop μ-loop = search in up-more _ _ _ _ (at-start .pre) _ _ (c .before .before .loop .inv) (c .before .loop-test .taken))
+    (λ c. c .before .loop .inv .same)
+    (λ c. up-all _ _ _ _ (c .before .before .pre) _ _ (c .before .loop .inv) (c .loop-test .left)))

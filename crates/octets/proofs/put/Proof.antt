@@ -14,30 +14,18 @@ Inv-loop d₀ at s i₀ d i = Copied d₀ at s i d
 abbrev μ-loop : tie.MeasureT-loop
 μ-loop d₀ at s i₀ d i = length s - i
 
-loop-holds : tie.Need-loop-holds Inv-loop μ-loop
-loop-holds c = copied-none _ _ _ (c .pre)
-
-loop-again : tie.Need-loop-again Inv-loop μ-loop
-loop-again c = copied-more _ _ _ _ _ _ (c .before .before .loop .inv) (c .before .loop-test .taken) refl
-
-same-length : tie.Need-same-length Inv-loop μ-loop
-same-length c = c .before .loop .inv .same
-
-returns : tie.Need-returns Inv-loop μ-loop
-returns c = copied-all _ _ _ _ _ (c .before .loop .inv) (c .loop-test .left)
-
 pub put-spec : {M : Type 1} → statement M
 put-spec =
     tie.close
     (tie.spec
     Inv-loop
     μ-loop
-    loop-holds
+    (λ c. copied-none _ _ _ (c .pre))
     (λ c. omega arith)
     (λ c. omega arith)
     (λ c. omega arith)
     (λ c. omega arith)
     (λ c. omega arith)
-    loop-again
-    same-length
-    returns)
+    (λ c. copied-more _ _ _ _ _ _ (c .before .before .loop .inv) (c .before .loop-test .taken) refl)
+    (λ c. c .before .loop .inv .same)
+    (λ c. copied-all _ _ _ _ _ (c .before .loop .inv) (c .loop-test .left)))

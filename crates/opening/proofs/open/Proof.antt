@@ -12,17 +12,6 @@ use Rattle.opening.proofs.open.Tie as tie
 abbrev start : tie.After-serves → tie.Start
 start v = v .before .before .before .before .before .before
 
-shared-slice-read-serves : tie.Need-shared-slice-read-serves
-shared-slice-read-serves c =
-    let s : tie.Start = search in
-    bearer-there (now (s .args .bearer)) (s .pre .2)
-
-serves-requires : tie.Need-serves-requires
-serves-requires c κs =
-    let s : tie.Start = search in
-    let l = good-table _ _ (s .pre .0) in
-    omega arith
-
 returns : tie.Need-returns
 returns c =
     let i1 : tie.Then1 = search in
@@ -52,12 +41,6 @@ returns-3 c =
     let s : tie.Start = search in
     sizeless _ (now (s .args .pool)) (s .pre .0) (s .args .d) (now (s .args .bearer)) (s .args .size) (s .args .protocol) (s .args .ignored) _ (v .serves .ensures) _ _ _ (i1 .if1 .left) _ (a .is-served .ensures) (i2 .if2 .left) (i3 .if3 .taken) (r .tell-problem2 .ensures)
 
-channels-of-requires : tie.Need-channels-of-requires
-channels-of-requires c κs =
-    let s : tie.Start = search in
-    let l = good-table _ _ (s .pre .0) in
-    omega arith
-
 open-before-requires : tie.Need-open-before-requires
 open-before-requires c κs =
     let n : tie.After-channels-of = search in
@@ -77,11 +60,6 @@ returns-4 c =
     let v : tie.After-serves = search in
     let s = start v in
     numberless _ (now (s .args .pool)) (s .pre .0) (s .args .d) (now (s .args .bearer)) (s .args .size) (s .args .protocol) (s .args .ignored) _ (v .serves .ensures) _ _ _ (i1 .if1 .left) _ (a .is-served .ensures) (i2 .if2 .left) (i3 .if3 .left) _ _ (n .channels-of .ensures) (k .open-before .ensures) (i4 .if4 .taken) (r .tell-problem3 .ensures)
-
-free-cells-requires : tie.Need-free-cells-requires
-free-cells-requires c κs =
-    let s : tie.Start = search in
-    good-table _ _ (s .pre .0)
 
 returns-5 : tie.Need-returns-5
 returns-5 c =
@@ -171,8 +149,8 @@ pub open-spec : {M : Type 1} → statement M
 open-spec =
     tie.close
     (tie.spec
-    shared-slice-read-serves
-    serves-requires
+    (λ c. let s : tie.Start = search in bearer-there (now (s .args .bearer)) (s .pre .2))
+    (λ c κs. let s : tie.Start = search in let l = good-table _ _ (s .pre .0) in omega arith)
     (λ c κs. search needs)
     (λ c. search needs)
     returns
@@ -183,12 +161,12 @@ open-spec =
     (λ c κs. search needs)
     (λ c. search needs)
     returns-3
-    channels-of-requires
+    (λ c κs. let s : tie.Start = search in let l = good-table _ _ (s .pre .0) in omega arith)
     open-before-requires
     (λ c κs. search needs)
     (λ c. search needs)
     returns-4
-    free-cells-requires
+    (λ c κs. let s : tie.Start = search in good-table _ _ (s .pre .0))
     (λ c κs. search needs)
     (λ c. search needs)
     returns-5

@@ -13,11 +13,6 @@ Inv-loop ledger n k₀ k = Seen ledger n k
 abbrev μ-loop : tie.MeasureT-loop
 μ-loop ledger n k₀ k = n - k
 
-entry-requires : tie.Need-entry-requires Inv-loop μ-loop
-entry-requires c κs =
-    let s : tie.Start Inv-loop μ-loop = search in
-    (omega arith, omega (arith, s .pre .1), s .pre .0)
-
 returns : tie.Need-returns Inv-loop μ-loop
 returns c =
     let e : tie.After-entry Inv-loop μ-loop = search in
@@ -34,11 +29,6 @@ loop-again c =
     let s : tie.Start Inv-loop μ-loop = search in
     seen-more (now (s .args .ledger)) _ (l .loop .k) _ (l .loop .inv) (b .loop-test .taken) (e .entry .ensures) (c .if1 .left)
 
-returns-2 : tie.Need-returns-2 Inv-loop μ-loop
-returns-2 c =
-    let l : tie.At-loop Inv-loop μ-loop = search in
-    seen-all _ _ _ (l .loop .inv) (c .loop-test .left)
-
 pub open-before-spec : {M : Type 1} → statement M
 open-before-spec =
     tie.close
@@ -48,9 +38,9 @@ open-before-spec =
     (λ c. seen-none _ _)
     (λ c. omega arith)
     (λ c. omega arith)
-    entry-requires
+    (λ c κs. let s : tie.Start Inv-loop μ-loop = search in (omega arith, omega (arith, s .pre .1), s .pre .0))
     returns
     (λ c. omega arith)
     (λ c. omega arith)
     loop-again
-    returns-2)
+    (λ c. let l : tie.At-loop Inv-loop μ-loop = search in seen-all _ _ _ (l .loop .inv) (c .loop-test .left)))

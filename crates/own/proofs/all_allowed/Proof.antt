@@ -19,11 +19,6 @@ Inv-loop ledger events i₀ i = (every (allowsEvent ledger) events ≡ every (al
 abbrev μ-loop : tie.MeasureT-loop
 μ-loop ledger events i₀ i = length events - i
 
-allows-event-requires : tie.Need-allows-event-requires Inv-loop μ-loop
-allows-event-requires c κs =
-    let s : tie.Start Inv-loop μ-loop = search in
-    s .pre
-
 returns : tie.Need-returns Inv-loop μ-loop
 returns c =
     let a : tie.After-allows-event Inv-loop μ-loop = search in
@@ -56,7 +51,7 @@ all-allowed-spec =
     μ-loop
     (λ c. (refl, omega arith))
     (λ c. omega arith)
-    allows-event-requires
+    (λ c κs. let s : tie.Start Inv-loop μ-loop = search in s .pre)
     returns
     (λ c. omega arith)
     (λ c. omega arith)

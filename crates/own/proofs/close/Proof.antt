@@ -8,11 +8,6 @@ use borrow.Author.Needs.{needs}
 use Rattle.own.proofs.close.Statement.{statement}
 use Rattle.own.proofs.close.Tie as tie
 
-entry-requires : tie.Need-entry-requires
-entry-requires c κs =
-    let s : tie.Start = search in
-    (s .pre .0 .low, s .pre .0 .high, bounds _ _ _ (s .pre .0) .table)
-
 returns : tie.Need-returns
 returns c =
     let i : tie.Then1 = search in
@@ -20,12 +15,6 @@ returns c =
     let e : tie.After-entry = search in
     let s : tie.Start = search in
     close-unopened _ _ _ (s .pre .0) _ (e .entry .ensures) (s .args .d) (s .args .ignored) _ _ _ (i .if1 .taken) (p .tell-problem .ensures)
-
-close-channel-requires : tie.Need-close-channel-requires
-close-channel-requires c κs =
-    let e : tie.After-entry = search in
-    let s : tie.Start = search in
-    (s .pre .0, ap (λ (x : Channel). x .grant) (e .entry .ensures))
 
 returns-2 : tie.Need-returns-2
 returns-2 c =
@@ -41,11 +30,11 @@ pub close-spec : {M : Type 1} → statement M
 close-spec =
     tie.close
     (tie.spec
-    entry-requires
+    (λ c κs. let s : tie.Start = search in (s .pre .0 .low, s .pre .0 .high, bounds _ _ _ (s .pre .0) .table))
     (λ c κs. search needs)
     (λ c. search needs)
     returns
-    close-channel-requires
+    (λ c κs. let e : tie.After-entry = search in let s : tie.Start = search in (s .pre .0, ap (λ (x : Channel). x .grant) (e .entry .ensures)))
     (λ c κs. search needs)
     (λ c κs. search needs)
     (λ c. search needs)

@@ -9,12 +9,6 @@ use borrow.Author.Needs.{needs}
 use Rattle.own.proofs.list_events.Statement.{statement}
 use Rattle.own.proofs.list_events.Tie as tie
 
-all-allowed-requires : tie.Need-all-allowed-requires
-all-allowed-requires c κs =
-    let s : tie.Start = search in
-    let l = good-table _ _ (s .pre .0) in
-    omega arith
-
 returns : tie.Need-returns
 returns c =
     let i : tie.Then1 = search in
@@ -22,11 +16,6 @@ returns c =
     let a : tie.After-all-allowed = search in
     let s : tie.Start = search in
     list-forbidden _ (now (s .args .pool)) (now (s .args .events)) (s .args .ignored) _ (a .all-allowed .ensures) (s .pre .0) (s .args .d) _ _ _ (not-true _ (i .if1 .taken)) (r .tell-result .ensures)
-
-set-events-requires : tie.Need-set-events-requires
-set-events-requires c κs =
-    let s : tie.Start = search in
-    good-table _ _ (s .pre .0)
 
 returns-2 : tie.Need-returns-2
 returns-2 c =
@@ -45,13 +34,13 @@ pub list-events-spec : {M : Type 1} → statement M
 list-events-spec =
     tie.close
     (tie.spec
-    all-allowed-requires
+    (λ c κs. let s : tie.Start = search in let l = good-table _ _ (s .pre .0) in omega arith)
     (λ c κs. search needs)
     (λ c. search needs)
     returns
     (λ c κs. search needs)
     (λ c κs. search needs)
-    set-events-requires
+    (λ c κs. let s : tie.Start = search in good-table _ _ (s .pre .0))
     (λ c κs. search needs)
     (λ c κs. search needs)
     (λ c. search needs)

@@ -9,11 +9,6 @@ use borrow.Author.Needs.{needs}
 use Rattle.own.proofs.receive.Statement.{statement}
 use Rattle.own.proofs.receive.Tie as tie
 
-entry-requires : tie.Need-entry-requires
-entry-requires c κs =
-    let s : tie.Start = search in
-    (s .pre .0 .low, s .pre .0 .high, bounds _ _ _ (s .pre .0) .table)
-
 returns : tie.Need-returns
 returns c =
     let i : tie.Then1 = search in
@@ -21,12 +16,6 @@ returns c =
     let e : tie.After-entry = search in
     let s : tie.Start = search in
     receive-unopened _ _ _ (s .pre .0) _ (e .entry .ensures) (s .args .d) (s .args .request) (s .args .ignored) _ _ _ (i .if1 .taken) (p .tell-problem .ensures)
-
-at-once-requires : tie.Need-at-once-requires
-at-once-requires c κs =
-    let e : tie.After-entry = search in
-    let s : tie.Start = search in
-    (s .pre .0, e .entry .ensures)
 
 sub-capped : tie.Need-sub-capped
 sub-capped c =
@@ -37,11 +26,6 @@ sub-capped c =
     let s : tie.Start = search in
     let f = handed-few _ _ _ (s .pre .0) _ (e .entry .ensures) (s .args .request) _ _ _ (k .least2 .ensures) (m .least .ensures) (v .at-once .ensures) in
     omega arith
-
-start-of-requires : tie.Need-start-of-requires
-start-of-requires c κs =
-    let s : tie.Start = search in
-    (s .pre .0 .low, s .pre .0 .high, bounds _ _ _ (s .pre .0) .table)
 
 tell-received-requires : tie.Need-tell-received-requires
 unfolding heldIn
@@ -85,18 +69,18 @@ pub receive-spec : {M : Type 1} → statement M
 receive-spec =
     tie.close
     (tie.spec
-    entry-requires
+    (λ c κs. let s : tie.Start = search in (s .pre .0 .low, s .pre .0 .high, bounds _ _ _ (s .pre .0) .table))
     (λ c κs. search needs)
     (λ c. search needs)
     returns
     (λ c. search needs)
-    at-once-requires
+    (λ c κs. let e : tie.After-entry = search in let s : tie.Start = search in (s .pre .0, e .entry .ensures))
     (λ c κs. search needs)
     (λ c κs. search needs)
     (λ c κs. search needs)
     sub-capped
     (λ c κs. search needs)
-    start-of-requires
+    (λ c κs. let s : tie.Start = search in (s .pre .0 .low, s .pre .0 .high, bounds _ _ _ (s .pre .0) .table))
     (λ c. search needs)
     tell-received-requires
     remove-requires

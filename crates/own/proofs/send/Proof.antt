@@ -11,11 +11,6 @@ use borrow.Author.Needs.{needs}
 use Rattle.own.proofs.send.Statement.{statement}
 use Rattle.own.proofs.send.Tie as tie
 
-entry-requires : tie.Need-entry-requires
-entry-requires c κs =
-    let s : tie.Start = search in
-    (s .pre .0 .low, s .pre .0 .high, bounds _ _ _ (s .pre .0) .table)
-
 returns : tie.Need-returns
 returns c =
     let i : tie.Then1 = search in
@@ -53,12 +48,6 @@ returns-3 c =
     let e : tie.After-entry = search in
     let s : tie.Start = search in
     send-overfull _ _ _ (s .pre .0) _ (e .entry .ensures) (s .args .d) (now (s .args .bytes)) (s .args .ignored) _ _ _ _ (i .if1 .left) (g .is-dropped .ensures) (j .if2 .left) (k .if3 .taken) (p .tell-problem3 .ensures)
-
-lacks-place-requires : tie.Need-lacks-place-requires
-lacks-place-requires c κs =
-    let e : tie.After-entry = search in
-    let s : tie.Start = search in
-    (s .pre .0, e .entry .ensures)
 
 returns-4 : tie.Need-returns-4
 returns-4 c =
@@ -128,7 +117,7 @@ pub send-spec : {M : Type 1} → statement M
 send-spec =
     tie.close
     (tie.spec
-    entry-requires
+    (λ c κs. let s : tie.Start = search in (s .pre .0 .low, s .pre .0 .high, bounds _ _ _ (s .pre .0) .table))
     (λ c κs. search needs)
     (λ c. search needs)
     returns
@@ -141,7 +130,7 @@ send-spec =
     (λ c κs. search needs)
     (λ c. search needs)
     returns-3
-    lacks-place-requires
+    (λ c κs. let e : tie.After-entry = search in let s : tie.Start = search in (s .pre .0, e .entry .ensures))
     (λ c κs. search needs)
     (λ c. search needs)
     returns-4

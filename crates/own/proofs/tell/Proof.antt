@@ -7,11 +7,6 @@ use borrow.Author.Needs.{needs}
 use Rattle.own.proofs.tell.Statement.{statement}
 use Rattle.own.proofs.tell.Tie as tie
 
-tell-statuses-requires : tie.Need-tell-statuses-requires
-tell-statuses-requires c κs =
-    let s : tie.Start = search in
-    (good-table _ _ (s .pre .0), omega (arith, s .pre .1))
-
 returns : tie.Need-returns
 returns c =
     let r : tie.After-tell-statuses = search in
@@ -33,7 +28,7 @@ tell-spec =
     tie.close
     (tie.spec
     (λ c κs. search needs)
-    tell-statuses-requires
+    (λ c κs. let s : tie.Start = search in (good-table _ _ (s .pre .0), omega (arith, s .pre .1)))
     (λ c. search needs)
     returns
     (λ c κs. search needs)

@@ -12,9 +12,6 @@ use borrow.Author.Needs.{needs}
 use Rattle.profile.proofs.allowed.Statement.{statement}
 use Rattle.profile.proofs.allowed.Tie as tie
 
-div-result : tie.Need-div-result
-div-result c = let s : tie.Start = search in omega (arith, c .weight .ensures, pow-pos (s .args .place .bit - 1))
-
 returns : tie.Need-returns
 unfolding bit
 returns c =
@@ -29,5 +26,5 @@ allowed-spec =
     (λ c. search needs)
     (λ c. search needs)
     (λ c κs. search needs)
-    div-result
+    (λ c. let s : tie.Start = search in omega (arith, c .weight .ensures, pow-pos (s .args .place .bit - 1)))
     returns)

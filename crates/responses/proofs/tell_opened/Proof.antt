@@ -18,12 +18,6 @@ first pair bearer = 0x38 ∷ 0x02 ∷ getD pair 0 0 ∷ getD pair 1 0 ∷ 0x35 �
 abbrev last : ℕ → List ℕ
 last grant = 0x39 ∷ 0x02 ∷ (grant / 256) ∷ (grant % 256) ∷ []
 
-put-requires : tie.Need-put-requires
-put-requires c κs =
-    let h : tie.After-tell-result = search in
-    let s : tie.Start = search in
-    after-head _ _ _ _ _ 6 (h .tell-result .ensures) (omega (arith, s .pre .2))
-
 add-at : tie.Need-add-at
 add-at c =
     let h : tie.After-tell-result = search in
@@ -86,7 +80,7 @@ tell-opened-spec =
     (λ c. search needs)
     (λ c. search needs)
     (λ c. search needs)
-    put-requires
+    (λ c κs. let h : tie.After-tell-result = search in let s : tie.Start = search in after-head _ _ _ _ _ 6 (h .tell-result .ensures) (omega (arith, s .pre .2)))
     add-at
     put-requires-2
     add-behind

@@ -29,14 +29,6 @@ loop-holds c =
     let s : tie.Start Inv-loop μ-loop = search in
     sofar-none _ _ _ (after-head _ _ _ _ _ 28 (h .tell-result .ensures) (s .pre .1))
 
-entry-requires : tie.Need-entry-requires Inv-loop μ-loop
-entry-requires c κs = let s : tie.Start Inv-loop μ-loop = search in (omega arith, omega arith, s .pre .0)
-
-tell-status-requires : tie.Need-tell-status-requires Inv-loop μ-loop
-tell-status-requires c κs =
-    let l : tie.At-loop Inv-loop μ-loop = search in
-    (omega arith, sofar-fits _ _ _ _ _ _ (l .loop .inv) (omega (arith, l .loop .inv .few)))
-
 loop-again : tie.Need-loop-again Inv-loop μ-loop
 loop-again c =
     let w : tie.After-tell-status Inv-loop μ-loop = search in
@@ -63,12 +55,6 @@ returns c =
     let h : tie.After-tell-result Inv-loop μ-loop = search in
     let s : tie.Start Inv-loop μ-loop = search in
     some-stand _ _ _ _ _ _ _ _ (h .tell-result .ensures) (sofar-end _ _ _ _ _ _ (l .loop .inv) (b .loop-test .left)) (s .pre .1) (c .if2 .taken)
-
-put-requires : tie.Need-put-requires Inv-loop μ-loop
-put-requires c κs =
-    let f : tie.Else2 Inv-loop μ-loop = search in
-    let l : tie.At-loop Inv-loop μ-loop = search in
-    sofar-fits _ _ _ _ _ _ (l .loop .inv) (omega (arith, f .if2 .left))
 
 add-result : tie.Need-add-result Inv-loop μ-loop
 add-result c =
@@ -97,8 +83,8 @@ tell-statuses-spec =
     loop-holds
     (λ c. search needs)
     (λ c. search needs)
-    entry-requires
-    tell-status-requires
+    (λ c κs. let s : tie.Start Inv-loop μ-loop = search in (omega arith, omega arith, s .pre .0))
+    (λ c κs. let l : tie.At-loop Inv-loop μ-loop = search in (omega arith, sofar-fits _ _ _ _ _ _ (l .loop .inv) (omega (arith, l .loop .inv .few))))
     (λ c. search needs)
     loop-again
     (λ c. search needs)
@@ -106,7 +92,7 @@ tell-statuses-spec =
     (λ c. search needs)
     returns
     (λ c. search needs)
-    put-requires
+    (λ c κs. let f : tie.Else2 Inv-loop μ-loop = search in let l : tie.At-loop Inv-loop μ-loop = search in sofar-fits _ _ _ _ _ _ (l .loop .inv) (omega (arith, f .if2 .left)))
     add-result
     (λ c. search needs)
     returns-2)

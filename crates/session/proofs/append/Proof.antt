@@ -20,12 +20,6 @@ facts : (s : tie.Start) → let a = s .args in
     (heldIn (a .c) (a .way) + length (now (a .bytes)) ≤ grantCap)
 facts s = appending _ _ _ (s .pre .0 .0) (s .args .c) (s .args .way) _ (s .pre .0 .1) (s .pre .1 .0)
 
-start-of-requires : tie.Need-start-of-requires
-start-of-requires c κs =
-    let s : tie.Start = search in
-    let b = bounds _ _ _ (s .pre .0 .0) in
-    (s .pre .0 .0 .low, s .pre .0 .0 .high, b .table)
-
 add-at : tie.Need-add-at
 add-at c =
     let o : tie.After-start-of = search in
@@ -41,18 +35,6 @@ put-requires c κs =
     let s : tie.Start = search in
     let f = facts s in
     omega (arith, o .start-of .ensures, h .held .ensures)
-
-more-requires : tie.Need-more-requires
-more-requires c κs =
-    let s : tie.Start = search in
-    let f = facts s in
-    omega arith
-
-put-entry-requires : tie.Need-put-entry-requires
-put-entry-requires c κs =
-    let s : tie.Start = search in
-    let b = bounds _ _ _ (s .pre .0 .0) in
-    (s .pre .0 .0 .low, s .pre .0 .0 .high, b .table)
 
 returns : tie.Need-returns
 returns c =
@@ -97,12 +79,12 @@ pub append-spec : {M : Type 1} → statement M
 append-spec =
     tie.close
     (tie.spec
-    start-of-requires
+    (λ c κs. let s : tie.Start = search in let b = bounds _ _ _ (s .pre .0 .0) in (s .pre .0 .0 .low, s .pre .0 .0 .high, b .table))
     (λ c κs. search needs)
     add-at
     put-requires
-    more-requires
-    put-entry-requires
+    (λ c κs. let s : tie.Start = search in let f = facts s in omega arith)
+    (λ c κs. let s : tie.Start = search in let b = bounds _ _ _ (s .pre .0 .0) in (s .pre .0 .0 .low, s .pre .0 .0 .high, b .table))
     returns
     count-whole-requires
     returns-2)

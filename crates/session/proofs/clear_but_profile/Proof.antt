@@ -27,9 +27,6 @@ Inv-loop2 ledger₀ profile i count k₀ ledger k = Copied (replicate ledgerSize
 abbrev μ-loop2 : tie.MeasureT-loop2
 μ-loop2 ledger₀ profile i count k₀ ledger k = count - k
 
-loop-holds : tie.Need-loop-holds Inv-loop μ-loop Inv-loop2 μ-loop2
-loop-holds c = (copied-none _ 0 (replicate ledgerSize 0) (omega (arith, c .before .pre)), c .before .pre)
-
 loop-again : tie.Need-loop-again Inv-loop μ-loop Inv-loop2 μ-loop2
 loop-again c =
     let l = c .before .loop in
@@ -44,9 +41,6 @@ loop2-holds c =
     let e = c .least .ensures in
     let n = length-part 0 (c .least .result) p (omega arith) in
     (subst (λ (d : List ℕ). Copied (replicate ledgerSize 0) 0 (part 0 (c .least .result) p) 0 d) (sym all) (copied-none (replicate ledgerSize 0) 0 (part 0 (c .least .result) p) (omega arith)), e)
-
-cast-ledger : tie.Need-cast-ledger Inv-loop μ-loop Inv-loop2 μ-loop2
-cast-ledger c = omega (arith, c .shared-slice-known2 .given (c .before .before .loop2 .k))
 
 loop2-again : tie.Need-loop2-again Inv-loop μ-loop Inv-loop2 μ-loop2
 loop2-again c =
@@ -74,7 +68,7 @@ clear-but-profile-spec =
     μ-loop
     Inv-loop2
     μ-loop2
-    loop-holds
+    (λ c. (copied-none _ 0 (replicate ledgerSize 0) (omega (arith, c .before .pre)), c .before .pre))
     (λ c. omega arith)
     (λ c. omega arith)
     (λ c. omega arith)
@@ -83,7 +77,7 @@ clear-but-profile-spec =
     (λ c κs. tt)
     loop2-holds
     (λ c. omega arith)
-    cast-ledger
+    (λ c. omega (arith, c .shared-slice-known2 .given (c .before .before .loop2 .k)))
     (λ c. omega arith)
     (λ c. omega arith)
     (λ c. omega arith)

@@ -14,14 +14,6 @@ Inv-loop ledger₀ at i₀ ledger i = Copied ledger₀ at (replicate 32 0) i led
 abbrev μ-loop : tie.MeasureT-loop
 μ-loop ledger₀ at i₀ ledger i = 32 - i
 
-loop-holds : tie.Need-loop-holds Inv-loop μ-loop
-loop-holds c = let s = c .before in zeros-none _ _ (s .args .n) (c .lengths-at .ensures) (s .pre .1) (s .pre .2)
-
-loop-again : tie.Need-loop-again Inv-loop μ-loop
-loop-again c =
-    let l : tie.At-loop Inv-loop μ-loop = search in
-    zeros-more _ _ _ _ (l .loop .inv) (c .loop-test .taken)
-
 returns : tie.Need-returns Inv-loop μ-loop
 returns c =
     let l : tie.At-loop Inv-loop μ-loop = search in
@@ -36,12 +28,12 @@ clear-lengths-spec =
     Inv-loop
     μ-loop
     (λ c κs. omega arith)
-    loop-holds
+    (λ c. let s = c .before in zeros-none _ _ (s .args .n) (c .lengths-at .ensures) (s .pre .1) (s .pre .2))
     (λ c. omega arith)
     (λ c. omega arith)
     (λ c. omega arith)
     (λ c. omega arith)
     (λ c. omega arith)
     (λ c. omega arith)
-    loop-again
+    (λ c. let l : tie.At-loop Inv-loop μ-loop = search in zeros-more _ _ _ _ (l .loop .inv) (c .loop-test .taken))
     returns)

@@ -10,28 +10,7 @@ use borrow.Author.Needs.{needs}
 use Rattle.session.proofs.close_channel.Statement.{statement}
 use Rattle.session.proofs.close_channel.Tie as tie
 
-base-requires : tie.Need-base-requires
-base-requires c κs =
-    let s : tie.Start = search in
-    (omega (arith, s .pre .0 .high), bounds _ _ _ (s .pre .0) .table)
-
-free-cells-requires : tie.Need-free-cells-requires
-free-cells-requires c κs =
-    let s : tie.Start = search in
-    bounds _ _ _ (s .pre .0) .table
-
 -- the free cells are behind those that are used
-mul-used : tie.Need-mul-used
-mul-used c =
-    let f : tie.After-free-cells = search in
-    let s : tie.Start = search in
-    omega (arith, f .free-cells .ensures, bounds _ _ _ (s .pre .0) .free-few)
-
-sub-used : tie.Need-sub-used
-sub-used c =
-    let f : tie.After-free-cells = search in
-    let s : tie.Start = search in
-    omega (arith, f .free-cells .ensures, bounds _ _ _ (s .pre .0) .free-few)
 
 cut-requires : tie.Need-cut-requires
 unfolding space
@@ -42,18 +21,6 @@ cut-requires c κs =
     let k = bounds _ _ _ (s .pre .0) in
     let g = ap space (s .pre .1) in
     (omega (arith, b .base .ensures .0, f .free-cells .ensures, c .space .ensures .0, k .used-end, k .region-fits), omega (arith, k .size))
-
-put-entry-requires : tie.Need-put-entry-requires
-put-entry-requires c κs =
-    let s : tie.Start = search in
-    let b = bounds _ _ _ (s .pre .0) in
-    (s .pre .0 .low, s .pre .0 .high, b .table)
-
-clear-lengths-requires : tie.Need-clear-lengths-requires
-clear-lengths-requires c κs =
-    let e : tie.After-put-entry = search in
-    let s : tie.Start = search in
-    (s .pre .0 .low, s .pre .0 .high, entry-size _ _ _ (s .pre .0) _ _ (e .put-entry .ensures))
 
 -- no more cells are given back than there are
 add-free : tie.Need-add-put-free
@@ -95,15 +62,15 @@ close-channel-spec =
     (tie.spec
     (λ c. search needs)
     (λ c. search needs)
-    base-requires
-    free-cells-requires
-    mul-used
-    sub-used
+    (λ c κs. let s : tie.Start = search in (omega (arith, s .pre .0 .high), bounds _ _ _ (s .pre .0) .table))
+    (λ c κs. let s : tie.Start = search in bounds _ _ _ (s .pre .0) .table)
+    (λ c. let f : tie.After-free-cells = search in let s : tie.Start = search in omega (arith, f .free-cells .ensures, bounds _ _ _ (s .pre .0) .free-few))
+    (λ c. let f : tie.After-free-cells = search in let s : tie.Start = search in omega (arith, f .free-cells .ensures, bounds _ _ _ (s .pre .0) .free-few))
     (λ c κs. search needs)
     (λ c. search needs)
     cut-requires
-    put-entry-requires
-    clear-lengths-requires
+    (λ c κs. let s : tie.Start = search in let b = bounds _ _ _ (s .pre .0) in (s .pre .0 .low, s .pre .0 .high, b .table))
+    (λ c κs. let e : tie.After-put-entry = search in let s : tie.Start = search in (s .pre .0 .low, s .pre .0 .high, entry-size _ _ _ (s .pre .0) _ _ (e .put-entry .ensures)))
     (λ c κs. search needs)
     (λ c. search needs)
     add-free

@@ -28,15 +28,6 @@ returns c =
     let s : tie.Start Inv-loop μ-loop = search in
     less-first _ (s .args .n) (s .args .way) _ _ (a .lengths-at .ensures) (c .if1 .taken)
 
-loop-holds : tie.Need-loop-holds Inv-loop μ-loop
-loop-holds c = let a : tie.After-lengths-at Inv-loop μ-loop = search in shift-none _ _ (within a)
-
-loop-again : tie.Need-loop-again Inv-loop μ-loop
-loop-again c =
-    let l : tie.At-loop Inv-loop μ-loop = search in
-    let t : tie.In-loop Inv-loop μ-loop = search in
-    shift-more _ _ _ _ (l .loop .inv) (t .loop-test .taken)
-
 returns-2 : tie.Need-returns-2 Inv-loop μ-loop
 returns-2 c =
     let l : tie.At-loop Inv-loop μ-loop = search in
@@ -59,7 +50,7 @@ count-less-spec =
     (λ c. let a : tie.After-lengths-at Inv-loop μ-loop = search in omega (arith, within a))
     (λ c. let a : tie.After-lengths-at Inv-loop μ-loop = search in omega (arith, within a))
     returns
-    loop-holds
+    (λ c. let a : tie.After-lengths-at Inv-loop μ-loop = search in shift-none _ _ (within a))
     (λ c. omega arith)
     (λ c. omega arith)
     (λ c. omega arith)
@@ -69,7 +60,7 @@ count-less-spec =
     (λ c. omega arith)
     (λ c. omega arith)
     (λ c. omega arith)
-    loop-again
+    (λ c. let l : tie.At-loop Inv-loop μ-loop = search in let t : tie.In-loop Inv-loop μ-loop = search in shift-more _ _ _ _ (l .loop .inv) (t .loop-test .taken))
     (λ c. omega arith)
     (λ c. omega arith)
     (λ c. omega arith)

@@ -9,9 +9,6 @@ use borrow.Author.Needs.{needs}
 use Rattle.session.proofs.count_whole.Statement.{statement}
 use Rattle.session.proofs.count_whole.Tie as tie
 
-returns : tie.Need-returns
-returns c = let s : tie.Start = search in length-none _ (s .args .n) (s .args .way) _ (c .if1 .taken)
-
 abbrev place : tie.After-whole-count → tie.After-lengths-at
 place c = c .before .before
 
@@ -26,20 +23,15 @@ within c =
     let s = start c in
     place-fits (now (s .args .ledger)) (s .args .n) (s .args .way) _ _ _ (place c .lengths-at .ensures) (c .whole-count .ensures) (some c .if1 .left) (s .pre .0 .1) (s .pre .1)
 
-returns-2 : tie.Need-returns-2
-returns-2 c =
-    let s = start c in
-    length-put (now (s .args .ledger)) (s .args .n) (s .args .way) _ _ _ (place c .lengths-at .ensures) (c .whole-count .ensures) (some c .if1 .left)
-
 pub count-whole-spec : {M : Type 1} → statement M
 count-whole-spec =
     tie.close
     (tie.spec
-    returns
+    (λ c. let s : tie.Start = search in length-none _ (s .args .n) (s .args .way) _ (c .if1 .taken))
     (λ c κs. search needs)
     (λ c κs. search needs)
     (λ c. search needs)
     (λ c. omega (arith, within c))
     (λ c. omega (arith, within c))
     (λ c. omega (arith, within c))
-    returns-2)
+    (λ c. let s = start c in length-put (now (s .args .ledger)) (s .args .n) (s .args .way) _ _ _ (place c .lengths-at .ensures) (c .whole-count .ensures) (some c .if1 .left)))

@@ -5,18 +5,6 @@ use borrow.Author.Needs.{needs}
 use Rattle.session.proofs.lengths_at.Statement.{statement}
 use Rattle.session.proofs.lengths_at.Tie as tie
 
-returns : tie.Need-returns
-returns c =
-    let e : tie.After-enum-told = search in
-    let s : tie.Start = search in
-    at-receive (s .args .n) (s .args .way) (e .enum-told .given .1)
-
-returns-2 : tie.Need-returns-2
-returns-2 c =
-    let e : tie.After-enum-told2 = search in
-    let s : tie.Start = search in
-    at-send (s .args .n) (s .args .way) (e .enum-told2 .given .1)
-
 pub lengths-at-spec : {M : Type 1} → statement M
 lengths-at-spec =
     tie.close
@@ -29,5 +17,5 @@ lengths-at-spec =
     (λ c. search needs)
     (λ c. search needs)
     (λ c. search needs)
-    returns
-    returns-2)
+    (λ c. let e : tie.After-enum-told = search in let s : tie.Start = search in at-receive (s .args .n) (s .args .way) (e .enum-told .given .1))
+    (λ c. let e : tie.After-enum-told2 = search in let s : tie.Start = search in at-send (s .args .n) (s .args .way) (e .enum-told2 .given .1)))

@@ -10,28 +10,7 @@ use borrow.Author.Needs.{needs}
 use Rattle.session.proofs.open_channel.Statement.{statement}
 use Rattle.session.proofs.open_channel.Tie as tie
 
-base-requires : tie.Need-base-requires
-base-requires c κs =
-    let s : tie.Start = search in
-    (omega (arith, s .pre .0 .high), bounds _ _ _ (s .pre .0) .table)
-
-free-cells-requires : tie.Need-free-cells-requires
-free-cells-requires c κs =
-    let s : tie.Start = search in
-    bounds _ _ _ (s .pre .0) .table
-
 -- the free cells are behind those that are used
-mul-used : tie.Need-mul-used
-mul-used c =
-    let f : tie.After-free-cells = search in
-    let s : tie.Start = search in
-    omega (arith, f .free-cells .ensures, bounds _ _ _ (s .pre .0) .free-few)
-
-sub-used : tie.Need-sub-used
-sub-used c =
-    let f : tie.After-free-cells = search in
-    let s : tie.Start = search in
-    omega (arith, f .free-cells .ensures, bounds _ _ _ (s .pre .0) .free-few)
 
 spread-at-requires : tie.Need-spread-at-requires
 spread-at-requires c κs =
@@ -40,12 +19,6 @@ spread-at-requires c κs =
     let s : tie.Start = search in
     let k = bounds _ _ _ (s .pre .0) in
     (omega (arith, b .base .ensures .0, f .free-cells .ensures, k .used-end, k .region-fits), omega (arith, f .free-cells .ensures, c .space .ensures .0, s .pre .1 .1, k .free-is, k .free-few, k .size))
-
-put-entry-requires : tie.Need-put-entry-requires
-put-entry-requires c κs =
-    let s : tie.Start = search in
-    let b = bounds _ _ _ (s .pre .0) in
-    (s .pre .0 .low, s .pre .0 .high, b .table)
 
 -- no more cells are taken than are free
 sub-free : tie.Need-sub-put-free
@@ -85,16 +58,16 @@ open-channel-spec =
     (tie.spec
     (λ c. search needs)
     (λ c. search needs)
-    base-requires
-    free-cells-requires
-    mul-used
-    sub-used
+    (λ c κs. let s : tie.Start = search in (omega (arith, s .pre .0 .high), bounds _ _ _ (s .pre .0) .table))
+    (λ c κs. let s : tie.Start = search in bounds _ _ _ (s .pre .0) .table)
+    (λ c. let f : tie.After-free-cells = search in let s : tie.Start = search in omega (arith, f .free-cells .ensures, bounds _ _ _ (s .pre .0) .free-few))
+    (λ c. let f : tie.After-free-cells = search in let s : tie.Start = search in omega (arith, f .free-cells .ensures, bounds _ _ _ (s .pre .0) .free-few))
     (λ c κs. search needs)
     (λ c. search needs)
     spread-at-requires
     (λ c κs. search needs)
     (λ c κs. search needs)
-    put-entry-requires
+    (λ c κs. let s : tie.Start = search in let b = bounds _ _ _ (s .pre .0) in (s .pre .0 .low, s .pre .0 .high, b .table))
     (λ c κs. search needs)
     (λ c. search needs)
     sub-free

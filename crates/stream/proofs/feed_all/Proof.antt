@@ -28,21 +28,6 @@ add-next c =
     let s : tie.Start Inv-loop μ-loop = search in
     omega (arith, midway-within (l .loop .inv) (f .fill .ensures), s .good)
 
-slice-reshare-prefix-write-told : tie.Need-slice-reshare-prefix-write-told Inv-loop μ-loop
-slice-reshare-prefix-write-told c =
-    let f : tie.After-fill Inv-loop μ-loop = search in
-    fills-within (f .fill .ensures)
-
-slice-aggregate-write-told : tie.Need-slice-aggregate-write-told Inv-loop μ-loop
-slice-aggregate-write-told c =
-    let f : tie.After-fill Inv-loop μ-loop = search in
-    sym (length-take-le _ _ (fills-within (f .fill .ensures)))
-
-returns : tie.Need-returns Inv-loop μ-loop
-returns c =
-    let f : tie.After-fill Inv-loop μ-loop = search in
-    (f .fill .ensures .goes .ready, λ m. absurd (false≢true m))
-
 loop-less : tie.Need-loop-less Inv-loop μ-loop
 loop-less c =
     let f : tie.After-fill Inv-loop μ-loop = search in
@@ -75,12 +60,12 @@ feed-all-spec =
     (λ c. search needs)
     (λ c κs. let l : tie.At-loop Inv-loop μ-loop = search in l .loop .inv .ready)
     add-next
-    slice-reshare-prefix-write-told
-    slice-aggregate-write-told
+    (λ c. let f : tie.After-fill Inv-loop μ-loop = search in fills-within (f .fill .ensures))
+    (λ c. let f : tie.After-fill Inv-loop μ-loop = search in sym (length-take-le _ _ (fills-within (f .fill .ensures))))
     (λ c κs. search needs)
     (λ c. omega arith)
     (λ c. omega arith)
-    returns
+    (λ c. let f : tie.After-fill Inv-loop μ-loop = search in (f .fill .ensures .goes .ready, λ m. absurd (false≢true m)))
     loop-less
     loop-again
     (λ c. omega arith)

@@ -34,18 +34,6 @@ loop-again c =
     let l : tie.At-loop Inv-loop μ-loop = search in
     record { ready = t .take-turn .ensures; input = omega (arith, l .loop .inv .input); output = omega (arith, l .loop .inv .output) }
 
-same-length : tie.Need-same-length Inv-loop μ-loop
-same-length c =
-    let l : tie.At-loop Inv-loop μ-loop = search in
-    let s : tie.Start Inv-loop μ-loop = search in
-    omega (arith, l .loop .inv .ready .size, s .pre .1 .0)
-
-same-length-4 : tie.Need-same-length-4 Inv-loop μ-loop
-same-length-4 c =
-    let l : tie.At-loop Inv-loop μ-loop = search in
-    let s : tie.Start Inv-loop μ-loop = search in
-    l .loop .inv .ready .size ∙ sym (s .pre .1 .0)
-
 pub run-spec : {M : Type 1} → statement M
 run-spec =
     tie.close
@@ -55,14 +43,14 @@ run-spec =
     (λ c κs. search needs)
     loop-holds
     take-turn-requires
-    same-length
+    (λ c. let l : tie.At-loop Inv-loop μ-loop = search in let s : tie.Start Inv-loop μ-loop = search in omega (arith, l .loop .inv .ready .size, s .pre .1 .0))
     (λ c. let l : tie.At-loop Inv-loop μ-loop = search in omega (arith, l .loop .inv .input))
     (λ c. let l : tie.At-loop Inv-loop μ-loop = search in omega (arith, l .loop .inv .output))
     (λ c. tt)
     (λ c. omega arith)
     (λ c. omega arith)
     loop-again
-    same-length-4
+    (λ c. let l : tie.At-loop Inv-loop μ-loop = search in let s : tie.Start Inv-loop μ-loop = search in l .loop .inv .ready .size ∙ sym (s .pre .1 .0))
     (λ c. let l : tie.At-loop Inv-loop μ-loop = search in l .loop .inv .input)
     (λ c. let l : tie.At-loop Inv-loop μ-loop = search in l .loop .inv .output)
     (λ c. tt))

@@ -7,16 +7,6 @@ use borrow.Author.Needs.{needs}
 use Rattle.stream.proofs.take_turn.Statement.{statement}
 use Rattle.stream.proofs.take_turn.Tie as tie
 
-slice-reshare-prefix-write-told : tie.Need-slice-reshare-prefix-write-told
-slice-reshare-prefix-write-told c =
-    let f : tie.After-finish = search in
-    fills-within (f .finish .ensures)
-
-slice-aggregate-write-told : tie.Need-slice-aggregate-write-told
-slice-aggregate-write-told c =
-    let f : tie.After-finish = search in
-    sym (length-take-le _ _ (fills-within (f .finish .ensures)))
-
 pub take-turn-spec : {M : Type 1} → statement M
 take-turn-spec =
     tie.close
@@ -27,8 +17,8 @@ take-turn-spec =
     (λ c. search needs)
     (λ c. search needs)
     (λ c κs. search needs)
-    slice-reshare-prefix-write-told
-    slice-aggregate-write-told
+    (λ c. let f : tie.After-finish = search in fills-within (f .finish .ensures))
+    (λ c. let f : tie.After-finish = search in sym (length-take-le _ _ (fills-within (f .finish .ensures))))
     (λ c κs. search needs)
     (λ c. search needs)
     (λ c. search needs)

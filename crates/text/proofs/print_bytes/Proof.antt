@@ -13,11 +13,6 @@ Inv-loop out₀ at bytes i₀ out i = Hexed out₀ at bytes i out
 abbrev μ-loop : tie.MeasureT-loop
 μ-loop out₀ at bytes i₀ out i = length bytes - i
 
-digit-requires : tie.Need-digit-requires Inv-loop μ-loop
-digit-requires c κs =
-    let l : tie.At-loop Inv-loop μ-loop = search in
-    omega (arith, c .shared-slice-known2 .given (l .loop .i))
-
 pub print-bytes-spec : {M : Type 1} → statement M
 print-bytes-spec =
     tie.close
@@ -27,7 +22,7 @@ print-bytes-spec =
     (λ c. search hexed-none)
     (λ c. omega arith)
     (λ c. omega arith)
-    digit-requires
+    (λ c κs. let l : tie.At-loop Inv-loop μ-loop = search in omega (arith, c .shared-slice-known2 .given (l .loop .i)))
     (λ c. omega arith)
     (λ c. omega arith)
     (λ c. omega arith)

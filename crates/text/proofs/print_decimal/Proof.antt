@@ -19,12 +19,6 @@ put-part-requires c κs =
     digits-room (s .args .n) _ _ _ _ _ (g .last-digit .ensures) (f .last-digit2 .ensures) (e .last-digit3 .ensures) (d .last-digit4 .ensures)
     (z .zeros-before .ensures) (s .args .at) (length (now (s .args .out))) (s .pre .1)
 
-sub-result : tie.Need-sub-result
-sub-result c =
-    let z : tie.After-zeros-before = search in
-    let s : tie.Start = search in
-    omega (arith, z .zeros-before .ensures, zeros-few (s .args .n))
-
 returns : tie.Need-returns
 returns c =
     let w : tie.After-put-part = search in
@@ -48,7 +42,7 @@ print-decimal-spec =
     (λ c κs. search needs)
     (λ c. search needs)
     put-part-requires
-    sub-result
+    (λ c. let z : tie.After-zeros-before = search in let s : tie.Start = search in omega (arith, z .zeros-before .ensures, zeros-few (s .args .n)))
     (λ c. search needs)
     (λ c. search needs)
     returns)

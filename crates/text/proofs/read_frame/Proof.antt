@@ -12,11 +12,6 @@ Inv-loop line out₀ n i₀ out i = Fills line out₀ i out
 abbrev μ-loop : tie.MeasureT-loop
 μ-loop line out₀ n i₀ out i = n - i
 
-mul-out : tie.Need-mul-out Inv-loop μ-loop
-mul-out c =
-    let l : tie.At-loop Inv-loop μ-loop = search in
-    omega (arith, fills-small _ _ _ _ (l .loop .inv) _ _ (omega arith) (c .digit-value .ensures))
-
 add-out : tie.Need-add-out Inv-loop μ-loop
 add-out c =
     let d : tie.After-digit-value Inv-loop μ-loop = search in
@@ -37,7 +32,7 @@ read-frame-spec =
     (λ c. omega arith)
     (λ c. omega arith)
     (λ c κs. let l : tie.At-loop Inv-loop μ-loop = search in fills-digit _ _ _ _ (l .loop .inv) _ (omega arith))
-    mul-out
+    (λ c. let l : tie.At-loop Inv-loop μ-loop = search in omega (arith, fills-small _ _ _ _ (l .loop .inv) _ _ (omega arith) (c .digit-value .ensures)))
     (λ c. omega arith)
     (λ c. omega arith)
     (λ c κs. let l : tie.At-loop Inv-loop μ-loop = search in fills-digit _ _ _ _ (l .loop .inv) _ (omega arith))

@@ -19,18 +19,6 @@ returns c =
     let s : tie.Start = search in
     feeds-open (s .pre .0) (g .gather .ensures) keptIn (ends (s .args .tool)) (now (s .args .out)) (s .args .at) (not-true _ (i .if1 .taken))
 
-slice-reshare-prefix-answer : tie.Need-slice-reshare-prefix-answer
-slice-reshare-prefix-answer c =
-    let g : tie.After-gather = search in
-    let s : tie.Start = search in
-    len-fits (s .pre .0) (g .gather .ensures)
-
-slice-aggregate-answer : tie.Need-slice-aggregate-answer
-slice-aggregate-answer c =
-    let g : tie.After-gather = search in
-    let s : tie.Start = search in
-    sym (length-take-le _ _ (len-fits (s .pre .0) (g .gather .ensures)))
-
 answer-requires : tie.Need-answer-requires
 answer-requires c κs =
     let g : tie.After-gather = search in
@@ -53,8 +41,8 @@ feed-spec =
     (λ c κs. search needs)
     (λ c. search needs)
     returns
-    slice-reshare-prefix-answer
-    slice-aggregate-answer
+    (λ c. let g : tie.After-gather = search in let s : tie.Start = search in len-fits (s .pre .0) (g .gather .ensures))
+    (λ c. let g : tie.After-gather = search in let s : tie.Start = search in sym (length-take-le _ _ (len-fits (s .pre .0) (g .gather .ensures))))
     answer-requires
     (λ c. search needs)
     (λ c. search needs)

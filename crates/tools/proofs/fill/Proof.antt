@@ -20,11 +20,6 @@ Inv-loop tool ledger₀ pool₀ gathered₀ line₀ chunk out₀ kept₀ next₀
 abbrev μ-loop : tie.MeasureT-loop
 μ-loop tool ledger₀ pool₀ gathered₀ line₀ chunk out₀ kept₀ next₀ filled₀ ledger pool gathered line out kept next filled = length chunk - next
 
-sub-if1 : tie.Need-sub-if1 Inv-loop μ-loop
-sub-if1 c =
-    let l : tie.At-loop Inv-loop μ-loop = search in
-    omega (arith, filling-size (l .loop .inv), l .loop .inv .room)
-
 -- the loop's head, from the place behind its two tests
 abbrev head : tie.Then1 Inv-loop μ-loop → tie.At-loop Inv-loop μ-loop
 head i = i .before .before
@@ -56,17 +51,6 @@ loop-again c =
     let l : tie.At-loop Inv-loop μ-loop = search in
     filling-more (l .loop .inv) (n .loop-test .taken) (fits i) (f .feed .ensures) (omega arith)
 
-clear-requires : tie.Need-clear-requires Inv-loop μ-loop
-clear-requires c κs =
-    let l : tie.At-loop Inv-loop μ-loop = search in
-    let r = l .loop .inv .goes .ready in
-    (r .kept, omega (arith, r .size))
-
-same-length-2 : tie.Need-same-length-2 Inv-loop μ-loop
-same-length-2 c =
-    let l : tie.At-loop Inv-loop μ-loop = search in
-    filling-size (l .loop .inv)
-
 returns : tie.Need-returns Inv-loop μ-loop
 returns c =
     let k : tie.After-clear Inv-loop μ-loop = search in
@@ -82,11 +66,11 @@ fill-spec =
     Inv-loop
     μ-loop
     (λ c. search filling-none)
-    sub-if1
+    (λ c. let l : tie.At-loop Inv-loop μ-loop = search in omega (arith, filling-size (l .loop .inv), l .loop .inv .room))
     feed-requires
     loop-less
     loop-again
-    clear-requires
+    (λ c κs. let l : tie.At-loop Inv-loop μ-loop = search in let r = l .loop .inv .goes .ready in (r .kept, omega (arith, r .size)))
     (λ c. search needs)
-    same-length-2
+    (λ c. let l : tie.At-loop Inv-loop μ-loop = search in filling-size (l .loop .inv))
     returns)
