@@ -12,7 +12,7 @@ pub struct Details {
     pub qualifier: u8,
 }
 
-// The refusals R1 to R9, R11 and R12, by their numbers.
+// The refusals R1 to R9, R11, R12 and R16, by their numbers.
 pub enum Refusal {
     ShortBuffer,
     CommandSize,
@@ -25,6 +25,7 @@ pub enum Refusal {
     Unreadable,
     NoPlace,
     Undersized,
+    Unmendable,
 }
 
 impl Refusal {
@@ -44,6 +45,7 @@ impl Refusal {
             Refusal::Unreadable => 9,
             Refusal::NoPlace => 11,
             Refusal::Undersized => 12,
+            Refusal::Unmendable => 16,
         }
     }
 }
