@@ -16,6 +16,7 @@ import bench
 import details
 import fetch
 import generate
+import mend
 
 PROGRAM = os.path.join("crates", "pomerassol")      # both below the root of the tree
 NOTES = os.path.join("vectors", "notes")
@@ -61,6 +62,8 @@ def main(root):
             write_file(root, os.path.join("data", file + ".out"), out)
     for tool, maker in TOOLS.items():
         play(tool, tool, *maker.played())
+    for tool, file, lines, told in mend.cases():
+        play(tool, file, b"".join(line + b"\n" for line in lines), "".join(line + "\n" for line in told).encode("ascii"))
     write_file(root, "args", "".join(words).encode("ascii"))
     write_file(root, "stdout", b"".join(answers))
 

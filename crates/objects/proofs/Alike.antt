@@ -8,11 +8,14 @@ use native.Mathlib.Omega.{arith}
 use lib.ListN.{length, drop, length-take, length-drop}
 use Rattle.rules.specs.Frames as frames
 use Rattle.octets.specs.Parts.{part}
+use Rattle.objects.specs.declared.Tagged.{Tagged}
+use Rattle.objects.specs.declared.Tagged.the-variants as tagged
+use Rattle.objects.specs.declared.Tagged.the-variants.{As}
 use Rattle.objects.specs.declared.Sized.{Sized}
 use Rattle.objects.specs.declared.Sized.the-variants.{By, Not}
 use Rattle.objects.specs.declared.Found.{Found}
 use Rattle.objects.specs.declared.Found.the-variants.{Object, Fault}
-use Rattle.objects.specs.Places.{Measures, objectOf, Stands, Meets}
+use Rattle.objects.specs.Places.{Tags, Measures, objectOf, Stands, Meets}
 
 -- places within the bytes, with the same bytes behind them, are one place
 pub drop-alike : (s : List ℕ) (a b : ℕ) → a ≤ length s → b ≤ length s → drop a s ≡ drop b s → a ≡ b
@@ -32,6 +35,16 @@ part-alike s a b n m h k e = sym (part-size s a n h) ∙ ap length e ∙ part-si
 -- nothing is two things at once
 never : _≡_ {A = ℕ} 0 1 → ⊥
 never z = omega arith
+
+pub tagged-alike : (x y : Tagged) (s : List ℕ) (at : ℕ) → Tags x s at → Tags y s at → x ≡ y
+tagged-alike (As m f a) (As n g b) s at p q =
+    let number : m ≡ n = cc (p .is, q .is) in
+    let flag : f ≡ g = cc (p .is, q .is) in
+    let rest : drop a s ≡ drop b s = cc (p .is, q .is) in
+    λ i. As (number i) (flag i) (drop-alike s a b (p .within) (q .within) rest i)
+tagged-alike (As m f a) tagged.Not s at p q = absurd (never (cc (p .is, q)))
+tagged-alike tagged.Not (As n g b) s at p q = absurd (never (cc (p, q .is)))
+tagged-alike tagged.Not tagged.Not s at p q = refl
 
 pub sized-alike : (x y : Sized) (s : List ℕ) (at : ℕ) → Measures x s at → Measures y s at → x ≡ y
 sized-alike (By n a) (By m b) s at p q =

@@ -54,7 +54,7 @@ module _ (s : List ℕ) (at : ℕ) where
 
     pub long-read : (number ≡ 0 → ⊥) → LongTag s at number (leb 0x80 b) (at + 1 + 1)
     unfolding longTag
-    long-read n = record { is = both-there ∙ skip _ _ _ (ne-eqb number 0 n); behind = omega arith }
+    long-read n = record { is = both-there ∙ skip _ _ _ (ne-eqb number 0 n); behind = omega arith; within = omega arith }
 
 -- the tag at a place
 module _ (s : List ℕ) (at : ℕ) where
@@ -74,7 +74,7 @@ module _ (s : List ℕ) (at : ℕ) where
     by-rest e = by-byte ∙ stop _ _ _ (eq-eqb t 0x7F e)
 
     pub tag-long : (r : Tagged) → t ≡ 0x7F → LongTags r s (at + 1) → Tags r s at
-    tag-long (As number flag next) e w = record { is = by-rest e ∙ w .is; behind = omega (arith, w .behind) }
+    tag-long (As number flag next) e w = record { is = by-rest e ∙ w .is; behind = omega (arith, w .behind); within = w .within }
     tag-long tagged.Not e w = by-rest e ∙ w
 
     short : (t ≡ 0x7F → ⊥) → {b : Bool} → (eqb (t % 0x80) 0 || eqb (t % 0x80) 0x7F) ≡ b → tagAt (drop at s) ≡ (b ⇒ noTag else tag (t % 0x80) (leb 0x80 t) (drop (at + 1) s))
@@ -95,6 +95,7 @@ module _ (s : List ℕ) (at : ℕ) where
                 (λ i. ne-eqb (t % 0x80) 0 n₀ i || ne-eqb (t % 0x80) 0x7F (omega arith) i)
                 ∙ skip _ _ _ refl;
             behind = omega arith;
+            within = omega arith;
           }
 
       pub tag-last : 0x7F ≤ t % 0x80 → (t ≡ 0x7F → ⊥) → tagAt (drop at s) ≡ noTag

@@ -2,7 +2,9 @@
 -- Assumes nothing.
 use mathlib.Core.Path.{refl, sym, _∙_}
 use Rattle.outcomes.specs.Determined.{Determined}
-use Rattle.objects.proofs.Alike.{sized-alike, found-alike, same-place}
+use Rattle.objects.proofs.Alike.{tagged-alike, sized-alike, found-alike, same-place}
+use Rattle.objects.proofs.tag_at.Kinds as tag-at-kinds
+use Rattle.objects.proofs.tag_at.Reads as tag-at-reads
 use Rattle.objects.proofs.length_at.Kinds as length-at-kinds
 use Rattle.objects.proofs.length_at.Reads as length-at-reads
 use Rattle.objects.proofs.write_length.Kinds as write-length-kinds
@@ -11,6 +13,9 @@ use Rattle.objects.proofs.Cursor.object.Kinds as object-kinds
 use Rattle.objects.proofs.Cursor.object.Reads as object-reads
 use Rattle.objects.proofs.walk.Kinds as walk-kinds
 use Rattle.objects.proofs.walk.Reads as walk-reads
+
+pub tag-at-settled : Determined 1 tag-at-kinds.ps tag-at-kinds.r tag-at-reads.Pre tag-at-reads.Post
+tag-at-settled κs a _ x y v w p q = (tagged-alike x y _ _ p q, refl)
 
 pub length-at-settled : Determined 1 length-at-kinds.ps length-at-kinds.r length-at-reads.Pre length-at-reads.Post
 length-at-settled κs a _ x y v w p q = (sized-alike x y _ _ p q, refl)

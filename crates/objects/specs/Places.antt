@@ -20,6 +20,7 @@ use Rattle.objects.specs.declared.Found.the-variants.{Object, Fault}
 pub record Tag (s : List ℕ) (at number : ℕ) (flag : Bool) (next : ℕ) : Type 0 where
   pub is : tagAt (drop at s) ≡ tag number flag (drop next s)
   pub behind : at < next
+  pub within : next ≤ length s
 
 abbrev pub Tags : Tagged → List ℕ → ℕ → Type 0
 Tags (tagged.As number flag next) s at = Tag s at number flag next
@@ -29,6 +30,7 @@ Tags tagged.Not s at = tagAt (drop at s) ≡ noTag
 pub record LongTag (s : List ℕ) (at number : ℕ) (flag : Bool) (next : ℕ) : Type 0 where
   pub is : longTag (drop at s) ≡ tag number flag (drop next s)
   pub behind : at < next
+  pub within : next ≤ length s
 
 abbrev pub LongTags : Tagged → List ℕ → ℕ → Type 0
 LongTags (tagged.As number flag next) s at = LongTag s at number flag next

@@ -10,7 +10,7 @@ ghost use Rattle.rules.specs.Frames.{lengthBytes, walk};
 ghost use Rattle.objects.specs.Places.{LongTags, Tags, Measures, Meets};
 
 // A tag at a place: its number, its flag, and where its length stands.
-enum Tagged {
+pub enum Tagged {
     As(u16, bool, usize),
     Not,
 }
@@ -62,7 +62,7 @@ fn long_tag_at(s: &[u8], at: usize) -> Tagged
 }
 
 // The tag at `at`: three bytes from 7F on, else one, whose top bit is the flag and whose low seven bits are the number, which is not 0 or 127.
-fn tag_at(s: &[u8], at: usize) -> Tagged
+pub fn tag_at(s: &[u8], at: usize) -> Tagged
     ensures { λ r. ⌜ Tags r (now (s .entry)) at ⌝ }
 {
     if s.len() <= at {

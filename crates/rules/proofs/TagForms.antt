@@ -54,7 +54,7 @@ object-in-back f o s h =
     (λ e. object-back o s (record { some = h .some; seven-bits = ltb-false 126 (o .number) (either-right f (ltb 126 (o .number)) e) }))
 
 -- an object that is met has bytes
-walk-met : (t : List ℕ) (o : Object) (r : List ℕ) → objectAt t ≡ object o r → walk t ≡ record { objects = o ∷ walk r .objects; ending = walk r .ending; rest = walk r .rest }
+pub walk-met : (t : List ℕ) (o : Object) (r : List ℕ) → objectAt t ≡ object o r → walk t ≡ record { objects = o ∷ walk r .objects; ending = walk r .ending; rest = walk r .rest }
 unfolding objectAt tagAt afterTag
 walk-met [] o r e = absurd (let z : _≡_ {A = ℕ} 0 1 = cc in omega arith)
 walk-met (b ∷ t) o r e = walk-object b t o r e

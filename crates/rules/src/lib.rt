@@ -65,7 +65,7 @@ impl Limits {
     pub const VALUE: usize = 241;
 }
 
-// The refusals R1 to R9, R11 and R12, by their numbers.
+// The refusals R1 to R9, R11, R12 and R16, by their numbers.
 pub enum Refusal {
     ShortBuffer,
     CommandSize,
@@ -78,6 +78,7 @@ pub enum Refusal {
     Unreadable,
     NoPlace,
     Undersized,
+    Unmendable,
 }
 
 impl Refusal {
@@ -97,6 +98,7 @@ impl Refusal {
             Refusal::Unreadable => 9,
             Refusal::NoPlace => 11,
             Refusal::Undersized => 12,
+            Refusal::Unmendable => 16,
         }
     }
 }

@@ -2,11 +2,11 @@
 use Prim.Native.Nat.{ℕ}
 use mathlib.Core.List.{List, [], _∷_}
 use Rattle.rules.specs.Checks.{_⇒_else_, same}
-use Rattle.tools.specs.declared.Tool.the-variants.{Lines, Bench, Details, Fetch}
+use Rattle.tools.specs.declared.Tool.the-variants.{Lines, Bench, Details, Fetch, Mend}
 use Rattle.tools.specs.declared.Named.{Named}
 use Rattle.tools.specs.declared.Named.the-variants.{One, Unknown}
 
--- "lines", "bench", "details", "fetch"
+-- "lines", "bench", "details", "fetch", "mend"
 abbrev pub linesName : List ℕ
 linesName = 108 ∷ 105 ∷ 110 ∷ 101 ∷ 115 ∷ []
 
@@ -19,6 +19,9 @@ detailsName = 100 ∷ 101 ∷ 116 ∷ 97 ∷ 105 ∷ 108 ∷ 115 ∷ []
 abbrev pub fetchName : List ℕ
 fetchName = 102 ∷ 101 ∷ 116 ∷ 99 ∷ 104 ∷ []
 
+abbrev pub mendName : List ℕ
+mendName = 109 ∷ 101 ∷ 110 ∷ 100 ∷ []
+
 -- the tool that a word names
 unfoldable pub toolNamed : List ℕ → Named
 toolNamed w =
@@ -26,4 +29,5 @@ toolNamed w =
     same w benchName ⇒ One Bench else
     same w detailsName ⇒ One Details else
     same w fetchName ⇒ One Fetch else
+    same w mendName ⇒ One Mend else
     Unknown

@@ -8,11 +8,12 @@ use Rattle.session.specs.Picture as session
 use Rattle.fetch.specs.Gathers.{gatheredIn, Gathers}
 use Rattle.bench.specs.Printed.{benchLine}
 use Rattle.details.specs.Printed.{detailsLine}
+use Rattle.mending.specs.Printed.{mendLine}
 use Rattle.bursts.specs.Bursts.{Awaits, burstEnds}
 use Rattle.flow.specs.Flow.{Ends}
 use Rattle.flow.specs.Holds.{View}
 use Rattle.tools.specs.declared.Tool.{Tool}
-use Rattle.tools.specs.declared.Tool.the-variants.{Lines, Bench, Details, Fetch}
+use Rattle.tools.specs.declared.Tool.the-variants.{Lines, Bench, Details, Fetch, Mend}
 
 -- what is kept: whether the first line was read, the session's state, and the bytes gathered of a command
 pub record Kept : Type 0 where
@@ -60,3 +61,4 @@ ends Lines k l = inSession k (lineEnds (k .begun) (k .state) l)
 ends Bench k l = stays k (benchLine l)
 ends Details k l = stays k (detailsLine l)
 ends Fetch k l = inBursts (burstEnds (k .begun) (record { state = k .state; gathered = k .gathered }) l)
+ends Mend k l = stays k (mendLine l)

@@ -10,6 +10,7 @@ use flow::Running;
 use flow::Size;
 use flow::gather;
 use lines::end_line;
+use mending::tell_mended;
 use octets;
 use pool::Pool;
 use session::Ledger;
@@ -28,12 +29,13 @@ ghost use Rattle.flow.specs.Holds.{Ready, readerIn, Says, Goes, Keeps, Fills};
 ghost use Rattle.tools.specs.Names.{toolNamed};
 ghost use Rattle.tools.specs.Tools.{memory, GoodMemory, keptIn, ends};
 
-// The tools: document 01's program, the bench, what command is at hand, and bytes as they come off the line.
+// The tools: document 01's program, the bench, what command is at hand, bytes as they come off the line, and applet commands mended.
 pub enum Tool {
     Lines,
     Bench,
     Details,
     Fetch,
+    Mend,
 }
 
 // A word as the name of a tool.
@@ -58,6 +60,9 @@ pub fn tool_named(word: &[u8]) -> Named
     if check::same(word, b"fetch") {
         return Named::One(Tool::Fetch);
     }
+    if check::same(word, b"mend") {
+        return Named::One(Tool::Mend);
+    }
     Named::Unknown
 }
 
@@ -80,6 +85,7 @@ fn answer(
         Tool::Bench => tell_bench(line, out, at),
         Tool::Details => tell_details(line, out, at),
         Tool::Fetch => tell_burst(begun, ledger, pool, gathered, line, out, at),
+        Tool::Mend => tell_mended(line, out, at),
     }
 }
 

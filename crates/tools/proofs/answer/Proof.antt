@@ -1,6 +1,6 @@
 -- `tools::answer` meets its contract: each arm by the law of its tool.
 -- Assumes nothing.
-use Rattle.tools.proofs.Answering.{lines-answer, bench-answer, details-answer, fetch-answer}
+use Rattle.tools.proofs.Answering.{lines-answer, bench-answer, details-answer, fetch-answer, mend-answer}
 use borrow.Author.Needs.{needs}
 use Rattle.tools.proofs.answer.Statement.{statement}
 use Rattle.tools.proofs.answer.Tie as tie
@@ -33,10 +33,19 @@ returns-4 c =
     let s : tie.Start = search in
     fetch-answer _ _ _ _ _ _ (s .pre .0) _ _ _ _ _ _ _ (t .enum-told4 .given .1) (a .tell-burst .ensures)
 
+returns-5 : tie.Need-returns-5
+returns-5 c =
+    let a : tie.After-tell-mended = search in
+    let t : tie.After-enum-told5 = search in
+    let s : tie.Start = search in
+    mend-answer _ _ _ _ _ _ (s .pre .0) _ _ _ _ (t .enum-told5 .given .1) (a .tell-mended .ensures)
+
 pub answer-spec : {M : Type 1} → statement M
 answer-spec =
     tie.close
     (tie.spec
+    (λ c. search needs)
+    (λ c κs. search needs)
     (λ c. search needs)
     (λ c κs. search needs)
     (λ c. search needs)
@@ -52,4 +61,6 @@ answer-spec =
     (λ c. search needs)
     returns-3
     (λ c. search needs)
-    returns-4)
+    returns-4
+    (λ c. search needs)
+    returns-5)

@@ -1,0 +1,10 @@
+pub mod Parts
+pub mod Walked
+pub mod Kept
+pub mod Told
+pub mod Theorems
+pub mod Reading
+pub mod Left
+pub mod Lines
+pub mod Examples
+pub mod Settled

@@ -1,0 +1,4 @@
+pub mod Mends
+pub mod Unmends
+pub mod Printed
+pub mod Places
