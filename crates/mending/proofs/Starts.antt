@@ -11,7 +11,7 @@ use Rattle.rules.specs.Checks.{_⇒_else_}
 use Rattle.rules.specs.Frames.{lengthBytes, Object, object, objectAt}
 use Rattle.rules.specs.Sound.{Each}
 use Rattle.rules.proofs.Laws.{skip}
-use Rattle.mending.specs.Mends.{Change, shortened, isOverlong, LooseRead, loose, fault, looseAt, Mended, none-left, cut-from, withObject, mendFrom}
+use Rattle.mending.specs.Mends.{Change, shortened, isOverlong, LooseRead, loose, fault, looseAt, Mended, withObject, mendFrom}
 use Rattle.mending.specs.Unmends.{unmended}
 use Rattle.mending.proofs.Parts.{LooseParts, LooseIs, loose-parts}
 use Rattle.mending.proofs.Walked.{mend-end, mend-fault, mend-object, holds, form-size, some-length}

@@ -1,18 +1,18 @@
 -- What comes out is sound, sound frames stay, the objects are those that stood there, and the list of changes is right.
 -- Assumes nothing.
-use Prim.Native.Nat.{ℕ, _+_, _-_, _≤_, _<_}
+use Prim.Native.Nat.{ℕ, _+_, _-_, _≤_}
 use mathlib.Core.Path.{_≡_, refl, sym, ap, subst, _∙_}
 use mathlib.Core.Logic.{_⊎_, ⊎-elim}
-use mathlib.Core.Bool.{Bool, true, false, not, _&&_, false≢true}
+use mathlib.Core.Bool.{Bool, true, false, not, false≢true}
 use mathlib.Core.List.{List, [], _∷_, _++_}
 use native.Mathlib.Omega.{arith}
-use lib.ListN.{length, take, drop, getD, length-append}
+use lib.ListN.{length, take, drop, length-append}
 use lib.Seq.{take-append-seam, drop-append-seam}
 use lib.Dec.{ltb, eqb}
 use borrow.Author.Tests.{lt-ltb, le-ltb, eq-eqb, ltb-false, eqb-true}
 use Rattle.rules.specs.declared.Ending.the-variants.{End}
 use Rattle.rules.specs.Checks.{_⇒_else_, isEmpty, same}
-use Rattle.rules.specs.Frames.{LengthRead, len, noLength, lengthAt, lengthBytes, Object, Walk, walk, fills, following, framed, contents}
+use Rattle.rules.specs.Frames.{LengthRead, len, noLength, lengthAt, lengthBytes, Walk, walk, fills, following, framed, contents}
 use Rattle.rules.proofs.Laws.{branch, stop, skip, both-left, both-right}
 use Rattle.rules.proofs.Forms.{length-back, same-refl}
 use Rattle.octets.specs.Parts.{part}
