@@ -10,13 +10,11 @@ use lib.ListN.{length, take, drop}
 use lib.Seq.{length-take-le}
 use lib.Dec.{ltb, eqb}
 use borrow.Author.Tests.{le-ltb, ne-eqb, ltb-true, ltb-false, leb-true, eqb-true}
-use Rattle.rules.specs.declared.Ending.{Ending}
-use Rattle.rules.specs.declared.Ending.the-variants.{End, BadTag, BadLength, CutValue}
-use Rattle.rules.specs.Checks.{_⇒_else_}
+use Rattle.rules.specs.declared.Ending.the-variants.{End}
 use Rattle.rules.specs.Frames.{LengthRead, len, noLength, longLength, lengthAt, lengthBytes, Object, TagRead, tag, noTag, tagAt, ObjectRead, object, faulty, valueAfter, afterTag, objectAt, Walk, walk}
 use Rattle.rules.proofs.Laws.{branch, stop, skip}
 use Rattle.rules.proofs.Walks.{walk-end, walk-fault, walk-object}
-use Rattle.mending.specs.Mends.{shortened, inFront, anyLength, looseLengthAt, isOverlong, LooseRead, loose, looseValue, looseTag, looseAt, Mended, withObject, mendFrom}
+use Rattle.mending.specs.Mends.{shortened, inFront, anyLength, looseLengthAt, isOverlong, loose, looseValue, looseTag, looseAt, Mended, withObject, mendFrom}
 use Rattle.mending.proofs.Parts.{in-front, LooseIs, loose-parts}
 use Rattle.mending.proofs.Walked.{shorter, mend-end, mend-object}
 

@@ -2,6 +2,7 @@ pub mod Parts
 pub mod Walked
 pub mod Kept
 pub mod Told
+pub mod Starts
 pub mod Theorems
 pub mod Reading
 pub mod Left

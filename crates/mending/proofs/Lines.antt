@@ -1,27 +1,26 @@
 -- The line of a frame, case by case: what cannot be mended, and the mended frame with its changes.
 -- Assumes nothing.
-use Prim.Native.Nat.{ℕ, _+_, _*_, _≤_, _<_}
-use mathlib.Core.Path.{_≡_, refl, sym, ap, subst, _∙_}
+use Prim.Native.Nat.{ℕ, _+_, _≤_, _<_}
+use mathlib.Core.Path.{_≡_, refl, sym, ap, _∙_}
 use mathlib.Core.Bool.{Bool, true, false, _&&_, true≢false}
 use mathlib.Core.List.{List, [], _∷_, _++_, append-assoc}
 use mathlib.Core.Option.{some}
 use native.Mathlib.Omega.{arith}
 use lib.ListN.{length, take, drop, getD, length-append}
 use lib.Dec.{ltb, eqb}
-use borrow.Author.Tests.{lt-ltb, le-ltb, eq-eqb, ne-eqb, eqb-true, eqb-false, ltb-true, ltb-false}
+use borrow.Author.Tests.{lt-ltb, le-ltb, eq-eqb, ne-eqb, eqb-true, eqb-false, ltb-true}
 use Rattle.rules.specs.declared.Refusal.the-variants.{Unreadable, Unmendable}
 use Rattle.rules.specs.Checks.{_⇒_else_, isEmpty, same}
-use Rattle.rules.specs.Frames.{LengthRead, len, noLength, lengthAt, lengthBytes}
+use Rattle.rules.specs.Frames.{noLength, lengthAt, lengthBytes}
 use Rattle.rules.specs.Command.{refused}
 use Rattle.rules.specs.Lines.{hex}
 use Rattle.rules.proofs.Laws.{branch, stop, skip, and-false, empty-length}
 use Rattle.rules.proofs.Forms.{length-back, same-refl, same-true}
 use Rattle.octets.specs.Parts.{part}
 use Rattle.octets.proofs.Copies.{length-part}
-use Rattle.text.specs.Sizes.{frameCap}
 use Rattle.text.specs.Prints.{lineOf, Prints}
 use Rattle.text.proofs.Printing.{hex-size, prints-after, prints-as}
-use Rattle.mending.specs.Mends.{Change, outerLength, looseLengthAt, isOverlong, Mended, mendFrom, Head, head, noHead, headOf, outerHead, Mending, mended, unmendable, framing, outerChange, mendsBehind, mends}
+use Rattle.mending.specs.Mends.{Change, outerLength, looseLengthAt, isOverlong, Mended, mendFrom, Head, head, noHead, headOf, outerHead, mended, unmendable, framing, outerChange, mendsBehind, mends}
 use Rattle.mending.specs.Printed.{room, frameRoom, objectsCap, changeCap, changesText, mendingLine, frameLine}
 use Rattle.mending.specs.Places.{Length, outerPlace, headAt, outerText}
 use Rattle.mending.proofs.Walked.{mend-few}
@@ -136,7 +135,7 @@ module _ {s : List ℕ} {said kept start : ℕ} (h : Length s outerPlace said ke
           ∙ ap (λ (x : List ℕ). x ++ 10 ∷ []) (sym (append-assoc f (outerText said kept count) (changesText (m .changes))))
           ∙ ap (λ (x : List ℕ). ((hex (framing x) ++ outerText said kept count) ++ changesText (m .changes)) ++ 10 ∷ []) (sym objects-are)
 
-      -- how many characters each part has at most
+      -- how many characters each part has at most; there are at most 127 changes of objects
       pub frame-few : length (hex (framing (take count buffer))) ≤ frameRoom
       frame-few =
           let e = ap (λ (x : List ℕ). length (hex (framing x))) objects-are ∙ hex-size (framing (m .bytes)) in

@@ -58,15 +58,17 @@ Formed l n = l ≡ (isOverlong l ⇒ 0x81 ∷ [] else []) ++ lengthBytes n
 pub record LengthParts (s : List ℕ) (n : ℕ) (r : List ℕ) : Type 0 where
   pub parts : s ≡ inFront s r ++ r
   pub form : Formed (inFront s r) n
+  pub some : 1 ≤ length (inFront s r)
+  pub few : length (inFront s r) ≤ 2
 
 abbrev pub LengthIs : List ℕ → LengthRead → Type 0
 LengthIs s noLength = Unit {0}
 LengthIs s (len n r) = LengthParts s n r
 
-length-of : (l r : List ℕ) (n : ℕ) → Formed l n → LengthParts (l ++ r) n r
-length-of l r n h =
+length-of : (l r : List ℕ) (n : ℕ) → 1 ≤ length l → length l ≤ 2 → Formed l n → LengthParts (l ++ r) n r
+length-of l r n some few h =
     let e = sym (in-front l r) in
-    record { parts = ap (λ (x : List ℕ). x ++ r) e; form = subst (λ (x : List ℕ). Formed x n) e h }
+    record { parts = ap (λ (x : List ℕ). x ++ r) e; form = subst (λ (x : List ℕ). Formed x n) e h; some = omega (arith, ap length e); few = omega (arith, ap length e) }
 
 short-form : (b : ℕ) → ltb b 0x80 ≡ true → Formed (b ∷ []) b
 unfolding isOverlong lengthBytes
@@ -85,13 +87,13 @@ long-form b = by (ltb b 0x80)
 any-parts : (s : List ℕ) → LengthIs (0x81 ∷ s) (anyLength s)
 unfolding anyLength
 any-parts [] = tt
-any-parts (b ∷ s) = length-of (0x81 ∷ b ∷ []) s b (long-form b)
+any-parts (b ∷ s) = length-of (0x81 ∷ b ∷ []) s b (omega arith) (omega arith) (long-form b)
 
 pub length-parts : (s : List ℕ) → LengthIs s (looseLengthAt s)
 unfolding looseLengthAt
 length-parts [] = tt
 length-parts (b ∷ s) =
-    branch (LengthIs (b ∷ s)) _ _ _ (λ e. length-of (b ∷ []) s b (short-form b e))
+    branch (LengthIs (b ∷ s)) _ _ _ (λ e. length-of (b ∷ []) s b (omega arith) (omega arith) (short-form b e))
     (λ _. branch (LengthIs (b ∷ s)) _ _ _ (λ e. subst (λ (x : ℕ). LengthIs (x ∷ s) (anyLength s)) (sym (eqb-true b 0x81 e)) (any-parts s)) (λ _. tt))
 
 -- an object: it stands in front of the rest, and comes out so that it is read, whatever follows it

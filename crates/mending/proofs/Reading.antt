@@ -1,16 +1,16 @@
 -- A length and an object at a place, case by case.
 -- Assumes nothing.
 use Prim.Native.Nat.{ℕ, _+_, _-_, _≤_, _<_}
-use mathlib.Core.Path.{_≡_, refl, sym, ap, subst, _∙_}
-use mathlib.Core.Bool.{Bool, true, false, _&&_}
+use mathlib.Core.Path.{_≡_, sym, ap, subst, _∙_}
+use mathlib.Core.Bool.{Bool, _&&_}
 use mathlib.Core.List.{List, [], _∷_, _++_}
 use native.Mathlib.Omega.{arith}
-use lib.ListN.{length, take, drop, getD, length-append, length-drop, drop-of-length-le, take-append-drop}
+use lib.ListN.{length, take, drop, getD, length-append, length-drop, drop-of-length-le}
 use lib.Seq.{drop-drop, take-add}
-use lib.Dec.{ltb, eqb}
+use lib.Dec.{ltb}
 use borrow.Author.Tests.{lt-ltb, le-ltb, eq-eqb, ne-eqb}
 use Rattle.rules.specs.Checks.{_⇒_else_}
-use Rattle.rules.specs.Frames.{LengthRead, len, noLength, lengthBytes, Object, tag, noTag, tagAt}
+use Rattle.rules.specs.Frames.{len, noLength, lengthBytes, Object, noTag, tagAt}
 use Rattle.rules.proofs.Laws.{stop, skip}
 use Rattle.octets.specs.Parts.{part}
 use Rattle.octets.proofs.Copies.{length-part}
@@ -20,7 +20,7 @@ use Rattle.mending.specs.declared.Sized.{Sized}
 use Rattle.mending.specs.declared.Sized.the-variants.{By, Not}
 use Rattle.mending.specs.declared.Found.{Found}
 use Rattle.mending.specs.declared.Found.the-variants as found
-use Rattle.mending.specs.Mends.{shortened, inFront, anyLength, looseLengthAt, isOverlong, LooseRead, loose, fault, looseValue, looseTag, looseAt, Mended, cut-from, withObject, mendFrom}
+use Rattle.mending.specs.Mends.{shortened, inFront, anyLength, looseLengthAt, isOverlong, loose, fault, looseValue, looseTag, looseAt, Mended, cut-from, withObject, mendFrom}
 use Rattle.mending.specs.Places.{Length, Measures, Stands, Finds}
 use Rattle.mending.proofs.Walked.{mend-fault, mend-object}
 

@@ -1,26 +1,28 @@
 -- What comes out is sound, sound frames stay, the objects are those that stood there, and the list of changes is right.
 -- Assumes nothing.
-use Prim.Native.Nat.{ℕ, _+_, _-_, _≤_, _<_}
+use Prim.Native.Nat.{ℕ, _+_, _-_, _≤_}
 use mathlib.Core.Path.{_≡_, refl, sym, ap, subst, _∙_}
-use mathlib.Core.Bool.{Bool, true, false, not, _&&_, false≢true}
+use mathlib.Core.Logic.{_⊎_, ⊎-elim}
+use mathlib.Core.Bool.{Bool, true, false, not, false≢true}
 use mathlib.Core.List.{List, [], _∷_, _++_}
 use native.Mathlib.Omega.{arith}
-use lib.ListN.{length, take, drop, getD, length-append}
+use lib.ListN.{length, take, drop, length-append}
 use lib.Seq.{take-append-seam, drop-append-seam}
 use lib.Dec.{ltb, eqb}
 use borrow.Author.Tests.{lt-ltb, le-ltb, eq-eqb, ltb-false, eqb-true}
 use Rattle.rules.specs.declared.Ending.the-variants.{End}
 use Rattle.rules.specs.Checks.{_⇒_else_, isEmpty, same}
-use Rattle.rules.specs.Frames.{LengthRead, len, noLength, lengthAt, lengthBytes, Object, Walk, walk, fills, following, framed, contents}
+use Rattle.rules.specs.Frames.{LengthRead, len, noLength, lengthAt, lengthBytes, Walk, walk, fills, following, framed, contents}
 use Rattle.rules.proofs.Laws.{branch, stop, skip, both-left, both-right}
 use Rattle.rules.proofs.Forms.{length-back, same-refl}
 use Rattle.octets.specs.Parts.{part}
-use Rattle.mending.specs.Mends.{Change, outerLength, looseLengthAt, inFront, Mended, mendFrom, Head, head, noHead, headOf, outerHead, Mending, mended, unmendable, framing, outerChange, mendsBehind, mends}
+use Rattle.mending.specs.Mends.{Change, outerLength, shortened, truncated, looseLengthAt, inFront, Mended, mendFrom, Head, head, noHead, headOf, outerHead, Mending, mended, unmendable, framing, outerChange, mendsBehind, mends}
 use Rattle.mending.specs.Unmends.{unmended, cutOf, tellsOuter, tellsCut}
 use Rattle.mending.proofs.Parts.{LengthIs, length-parts}
 use Rattle.mending.proofs.Walked.{mend-walks}
 use Rattle.mending.proofs.Kept.{StrictLength, strict-length, mend-kept}
 use Rattle.mending.proofs.Told.{mend-told}
+use Rattle.mending.proofs.Starts.{Free, one-start}
 
 -- a right frame of at most 256 bytes whose objects the walk passes to the end, at least one
 pub record SoundFrame (s : List ℕ) : Type 0 where
@@ -119,20 +121,29 @@ sound-kept (b ∷ r) h =
 pub mended-again : (s t : List ℕ) (cs : List Change) → mends s ≡ mended t cs → mends t ≡ mended t []
 mended-again s t cs e = sound-kept t (mended-sound s t cs e)
 
--- the bytes of a head and those behind it are all
-length-head : (b : ℕ) (s l r : List ℕ) (x : LengthRead) → eqb b 0xD0 ≡ true → LengthIs s x → headOf s x ≡ head l r → b ∷ s ≡ 0xD0 ∷ l ++ r
+-- the bytes of a head, one or two of them the length, and those behind it are all
+record HeadParts (s l r : List ℕ) : Type 0 where
+  parts : s ≡ 0xD0 ∷ l ++ r
+  some : 1 ≤ length l
+  few : length l ≤ 2
+
+length-head : (b : ℕ) (s l r : List ℕ) (x : LengthRead) → eqb b 0xD0 ≡ true → LengthIs s x → headOf s x ≡ head l r → HeadParts (b ∷ s) l r
 unfolding headOf
 length-head b s l r noLength d g z = absurd (let clash : _≡_ {A = ℕ} 0 1 = cc in omega arith)
 length-head b s l r (len n v) d g z =
     let front : inFront s v ≡ l = cc in
     let rest : v ≡ r = cc in
-    λ i. eqb-true b 0xD0 d i ∷ (g .parts ∙ (λ j. front j ++ rest j)) i
+    record {
+      parts = λ i. eqb-true b 0xD0 d i ∷ (g .parts ∙ (λ j. front j ++ rest j)) i;
+      some = omega (arith, ap length front, g .some);
+      few = omega (arith, ap length front, g .few);
+    }
 
-head-parts : (s l r : List ℕ) → outerHead s ≡ head l r → s ≡ 0xD0 ∷ l ++ r
+head-parts : (s l r : List ℕ) → outerHead s ≡ head l r → HeadParts s l r
 unfolding outerHead
 head-parts [] l r e = absurd (let clash : _≡_ {A = ℕ} 0 1 = cc in omega arith)
 head-parts (b ∷ s) l r e =
-    branch (λ (x : Head). x ≡ head l r → b ∷ s ≡ 0xD0 ∷ l ++ r) _ _ _ (λ d. length-head b s l r (looseLengthAt s) d (length-parts s))
+    branch (λ (x : Head). x ≡ head l r → HeadParts (b ∷ s) l r) _ _ _ (λ d. length-head b s l r (looseLengthAt s) d (length-parts s))
     (λ _ z. absurd (let clash : _≡_ {A = ℕ} 0 1 = cc in omega arith)) e
 
 -- L is told or not, and nothing else by it
@@ -147,6 +158,21 @@ left-behind : (a : ℕ) (s : List ℕ) → not (isEmpty s) ≡ ltb a (a + length
 unfolding isEmpty
 left-behind a [] = sym (le-ltb a (a + 0) (omega arith))
 left-behind a (b ∷ s) = sym (lt-ltb a (a + length (b ∷ s)) (omega arith))
+
+-- behind L the changes are those of the objects
+inner : List Change → List Change
+inner [] = []
+inner (outerLength ∷ cs) = cs
+inner (shortened p ∷ cs) = shortened p ∷ cs
+inner (truncated p ∷ cs) = truncated p ∷ cs
+
+inner-is : (kept : Bool) (cs : List Change) → tellsOuter cs ≡ false → inner ((kept ⇒ [] else outerLength ∷ []) ++ cs) ≡ cs
+unfolding inner tellsOuter _⇒_else_
+inner-is false cs e = refl
+inner-is true [] e = refl
+inner-is true (outerLength ∷ cs) e = absurd (false≢true (sym e))
+inner-is true (shortened p ∷ cs) e = refl
+inner-is true (truncated p ∷ cs) e = refl
 
 -- from the output and the list of changes: the input's objects up to the cut, whether and where it was cut, and whether its outer length was right
 pub record ChangesTold (s l t : List ℕ) (cs : List Change) : Type 0 where
@@ -180,7 +206,7 @@ module _ (s l r t : List ℕ) (cs : List Change) (q : outerHead s ≡ head l r) 
       let size = lengthBytes (length (m .bytes)) in
       let passed = outer-passed (same l size) place (length s) (m .bytes) (m .changes) (f .inner) in
       let listed = sym (made .list) in
-      let parts = head-parts s l r q in
+      let parts = head-parts s l r q .parts in
       let long = ap length parts ∙ length-append (0xD0 ∷ l) r in
       let all : length s ≡ place + length r = omega arith in
       let one : place ≡ length (0xD0 ∷ l) = omega arith in
@@ -194,3 +220,40 @@ module _ (s l r t : List ℕ) (cs : List Change) (q : outerHead s ≡ head l r) 
         cut = ap tellsCut listed ∙ passed .2 ∙ f .told ∙ left-behind (place + length u) (f .rest) ∙ sym (λ i. ltb (cut-is i) (end i));
         outer = ap tellsOuter listed ∙ passed .3 ∙ ap (λ (x : List ℕ). not (same l (lengthBytes (length x)))) (sym contents-are);
       }
+
+  inner-listed : inner cs ≡ m .changes
+  unfolding outerChange
+  inner-listed = ap inner (sym (made .list)) ∙ inner-is (same l (lengthBytes (length (m .bytes)))) (m .changes) (mend-told place r .inner)
+
+  unmended-listed : (n : ℕ) → unmended n (contents t) cs ≡ unmended n (contents t) (m .changes)
+  unfolding outerChange
+  unmended-listed n =
+      ap (unmended n (contents t)) (sym (made .list))
+      ∙ outer-passed (same l (lengthBytes (length (m .bytes)))) n 0 (contents t) (m .changes) (mend-told place r .inner) .0
+
+-- frames that come out alike with the same changes had the same objects up to the cut, whatever form their outer lengths had
+module _
+    (s l r s′ l′ r′ t : List ℕ)
+    (cs : List Change)
+    (q : outerHead s ≡ head l r)
+    (e : mends s ≡ mended t cs)
+    (q′ : outerHead s′ ≡ head l′ r′)
+    (e′ : mends s′ ≡ mended t cs) where
+  starts : (1 + length l ≡ 1 + length l′) ⊎ Free (mendFrom (1 + length l) r .changes)
+  starts =
+      let h = head-parts s l r q in
+      let h′ = head-parts s′ l′ r′ q′ in
+      one-start (1 + length l) r .1 (1 + length l′) r′ (sym (contents-are s l r t cs q e) ∙ contents-are s′ l′ r′ t cs q′ e′)
+      (sym (inner-listed s l r t cs q e) ∙ inner-listed s′ l′ r′ t cs q′ e′)
+      (omega (arith, h .some, h .few, h′ .some, h′ .few))
+      (omega (arith, h .some, h .few, h′ .some, h′ .few))
+
+  pub told-alike : part (1 + length l) (cutOf (length s) cs) s ≡ part (1 + length l′) (cutOf (length s′) cs) s′
+  told-alike =
+      sym (changes-told s l r t cs q e .objects)
+      ∙ ⊎-elim (λ same-start. ap (λ (n : ℕ). unmended n (contents t) cs) same-start)
+      (λ free.
+      let as-it-stands : (n : ℕ) → unmended n (contents t) cs ≡ contents t = λ n. unmended-listed s l r t cs q e n ∙ free n (contents t) in
+      as-it-stands (1 + length l) ∙ sym (as-it-stands (1 + length l′)))
+      starts
+      ∙ changes-told s′ l′ r′ t cs q′ e′ .objects

@@ -1,6 +1,6 @@
 -- What came out and the changes tell what stood there.
 -- Assumes nothing.
-use Prim.Native.Nat.{ℕ, _+_, _-_, _≤_}
+use Prim.Native.Nat.{ℕ, _+_, _-_, _≤_, _<_}
 use mathlib.Core.Path.{_≡_, refl, sym, ap, subst, _∙_}
 use mathlib.Core.Bool.{Bool, true, false, not}
 use mathlib.Core.List.{List, [], _∷_, _++_, append-assoc}
@@ -16,10 +16,10 @@ use Rattle.mending.specs.Unmends.{unmended, cutOf, tellsOuter, tellsCut}
 use Rattle.mending.proofs.Parts.{LooseParts}
 use Rattle.mending.proofs.Walked.{holds}
 
--- a change of objects, at a place or behind it
-abbrev From : ℕ → Change → Type 0
+-- a change of objects from a place on; an object's length stands behind its tag
+abbrev pub From : ℕ → Change → Type 0
 From place outerLength = ⊥
-From place (shortened p) = place ≤ p
+From place (shortened p) = place < p
 From place (truncated p) = place ≤ p
 
 earlier : (p q : ℕ) (cs : List Change) → p ≤ q → Each (From q) cs → Each (From p) cs
@@ -66,7 +66,7 @@ unfolding _⇒_else_ cutOf tellsCut tellsOuter
 passed true p end cs = (refl, refl, refl)
 passed false p end cs = (refl, refl, refl)
 
-from-here : (over : Bool) (place p : ℕ) → place ≤ p → Each (From place) (over ⇒ shortened p ∷ [] else [])
+from-here : (over : Bool) (place p : ℕ) → place < p → Each (From place) (over ⇒ shortened p ∷ [] else [])
 unfolding _⇒_else_
 from-here true place p h = (h, tt)
 from-here false place p h = tt
@@ -90,7 +90,7 @@ module _ (place : ℕ) (s t l : List ℕ) (o : Object) (r : List ℕ) (m : Mende
   back-more : unmended place ((t ++ (lengthBytes (length (o .value)) ++ o .value)) ++ m .bytes) ((isOverlong l ⇒ shortened (place + length t) ∷ [] else []) ++ m .changes) ≡ whole ++ behind
   back-more = put-back (isOverlong l) place t l (lengthBytes (length (o .value))) (o .value) (m .bytes) (m .changes) (h .form) (f .later)
 
-  told-more : Told place s (withObject place t l o m)
+  pub told-more : Told place s (withObject place t l o m)
   unfolding withObject
   told-more =
       let same = passed (isOverlong l) (place + length t) (place + length s) (m .changes) in
@@ -104,11 +104,16 @@ module _ (place : ℕ) (s t l : List ℕ) (o : Object) (r : List ℕ) (m : Mende
         cut = same .0 ∙ ap (λ (x : ℕ). cutOf x (m .changes)) e ∙ f .cut ∙ d ∙ ap (λ (x : List ℕ). place + length x) (sym back-more);
         told = same .1 ∙ f .told;
         inner = same .2 ∙ f .inner;
-        later = each-append (From place) (isOverlong l ⇒ shortened (place + length t) ∷ [] else []) (m .changes) (from-here (isOverlong l) place (place + length t) (omega arith)) (earlier place _ (m .changes) (omega arith) (f .later));
+        later = each-append (From place) (isOverlong l ⇒ shortened (place + length t) ∷ [] else []) (m .changes) (from-here (isOverlong l) place (place + length t) (omega (arith, h .some))) (earlier place _ (m .changes) (omega arith) (f .later));
       }
 
-pub mend-told : (place : ℕ) (s : List ℕ) → Told place s (mendFrom place s)
+pub told-none : (place : ℕ) → Told place [] none-left
 unfolding unmended cutOf tellsCut tellsOuter isEmpty
-mend-told =
-    holds Told (λ place. record { rest = []; back = refl; cut = refl; told = refl; inner = refl; later = tt })
-    (λ place b s. record { rest = b ∷ s; back = refl; cut = omega arith; told = refl; inner = refl; later = (omega arith, tt) }) told-more
+told-none place = record { rest = []; back = refl; cut = refl; told = refl; inner = refl; later = tt }
+
+pub told-cut : (place b : ℕ) (s : List ℕ) → Told place (b ∷ s) (cut-from place)
+unfolding unmended cutOf tellsCut tellsOuter isEmpty
+told-cut place b s = record { rest = b ∷ s; back = refl; cut = omega arith; told = refl; inner = refl; later = (omega arith, tt) }
+
+pub mend-told : (place : ℕ) (s : List ℕ) → Told place s (mendFrom place s)
+mend-told = holds Told told-none told-cut told-more

@@ -94,9 +94,15 @@ mend-walks =
     walk-met _ o (m .bytes) (h .reads (m .bytes))
     ∙ ap (λ (w : Walk). record { objects = o ∷ w .objects; ending = w .ending; rest = w .rest }) e)
 
-some-length : (n : ℕ) → 1 ≤ length (lengthBytes n)
+pub some-length : (n : ℕ) → 1 ≤ length (lengthBytes n)
 unfolding lengthBytes
 some-length n = branch (λ (l : List ℕ). 1 ≤ length l) _ _ _ (λ _. omega arith) (λ _. omega arith)
+
+-- how long a length is, as it stands
+pub form-size :
+    {s t l : List ℕ} {o : Object} {r : List ℕ} → LooseParts s t l o r →
+    length l ≡ length {A = ℕ} (isOverlong l ⇒ 0x81 ∷ [] else []) + length (lengthBytes (length (o .value)))
+form-size {l = l} {o} h = ap length (h .form) ∙ length-append (isOverlong l ⇒ 0x81 ∷ [] else []) (lengthBytes (length (o .value)))
 
 one-at-most : (b : Bool) (c : Change) → length (b ⇒ c ∷ [] else []) ≤ 1
 unfolding _⇒_else_
@@ -116,7 +122,7 @@ few-more place s t l o r m h f =
     let was = ap length (h .parts) ∙ length-append (t ++ (l ++ o .value)) r in
     let was₂ = length-append t (l ++ o .value) in
     let was₃ = length-append l (o .value) in
-    let was₄ = ap length (h .form) ∙ length-append (isOverlong l ⇒ 0x81 ∷ [] else []) (lengthBytes (length (o .value))) in
+    let was₄ = form-size h in
     let is = length-append (t ++ v) (m .bytes) in
     let is₂ = length-append t v in
     let is₃ = length-append (lengthBytes (length (o .value))) (o .value) in

@@ -149,7 +149,7 @@ fn print_changes(s: &[u8], from: usize, out: &mut [u8], start: usize) -> usize
     to
 }
 
-// Prints L where the outer length said another number than there are bytes, or did so in the longer form; tells the place behind it.
+// Prints L where the outer length said another number than there are bytes, or said it in two bytes where one does; tells the place behind it.
 fn print_outer(out: &mut [u8], at: usize, said: usize, kept: usize, count: usize) -> usize
     requires { ⌜ at + changeCap ≤ length (now out) ⌝ }
     ensures { λ r. ⌜ Prints (outerText said kept count) r (now (out .entry)) at (now (out .exit)) ⌝ }

@@ -1,8 +1,6 @@
 -- `mending::print_behind` meets its contract: R16 for no object and for too many bytes, else the frame and its changes.
 -- Assumes nothing.
 use native.Mathlib.Omega.{arith}
-use mathlib.Core.Path.{ap}
-use lib.ListN.{length, take}
 use borrow.Author.Needs.{needs}
 use Rattle.mending.proofs.Left.{front-size}
 use Rattle.mending.proofs.Lines.{none-left-told, too-long-told, frame-few, outer-few, changes-few, mended-told}

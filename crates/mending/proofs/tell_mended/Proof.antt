@@ -2,7 +2,7 @@
 -- Assumes nothing.
 use mathlib.Core.Path.{sym, ap}
 use native.Mathlib.Omega.{arith}
-use Rattle.text.proofs.Bounds.{Read, frame-read, frame-unread}
+use Rattle.text.proofs.Bounds.{frame-read, frame-unread}
 use Rattle.text.proofs.Printing.{prints-as}
 use Rattle.mending.specs.Printed.{frameLine, mendLine}
 use borrow.Author.Needs.{needs}
