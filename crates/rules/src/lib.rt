@@ -12,7 +12,7 @@ pub struct Details {
     pub qualifier: u8,
 }
 
-// The refusals R1 to R9, R11 and R12, by their numbers.
+// The refusals R1 to R9, R11, R12, R17 and R18, by their numbers.
 pub enum Refusal {
     ShortBuffer,
     CommandSize,
@@ -25,6 +25,8 @@ pub enum Refusal {
     Unreadable,
     NoPlace,
     Undersized,
+    NoRecord,
+    WrongCount,
 }
 
 impl Refusal {
@@ -44,6 +46,8 @@ impl Refusal {
             Refusal::Unreadable => 9,
             Refusal::NoPlace => 11,
             Refusal::Undersized => 12,
+            Refusal::NoRecord => 17,
+            Refusal::WrongCount => 18,
         }
     }
 }

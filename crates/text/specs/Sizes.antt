@@ -25,7 +25,7 @@ takeCap = 1500
 abbrev pub leastValue : ℕ
 leastValue = 2
 
--- the longest printed line without bytes, R11 or R12, and the longest of all
+-- the longest printed line without bytes, R and two digits, and the longest of all
 abbrev pub shortLine : ℕ
 shortLine = 4
 
