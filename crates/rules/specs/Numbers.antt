@@ -34,7 +34,7 @@ row : List Call → Call → Outcome → ℕ → Number
 row b c e s = record { before = b; call = c; ends = e; size = s }
 
 -- a text's characters, and the bytes that its hexadecimal digits stand for
-pub chars : String → List ℕ
+unfoldable pub chars : String → List ℕ
 chars String.[] = []
 chars (String._∷_ c s) = code c ∷ chars s
 
