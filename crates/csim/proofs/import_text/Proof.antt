@@ -3,54 +3,25 @@
 use mathlib.Core.Path.{sym, _∙_}
 use native.Mathlib.Omega.{arith}
 use denote.Ref.{now}
-use Rattle.csim.proofs.Shapes.{shape-is, quoted-few}
+use Rattle.csim.proofs.Shapes.{Shaping, shape-is, quoted-few}
 use Rattle.csim.proofs.Telling.{counted-told, other-told}
 use borrow.Author.Needs.{needs}
 use Rattle.csim.proofs.import_text.Statement.{statement}
 use Rattle.csim.proofs.import_text.Tie as tie
 
-add-import-counted : tie.Need-add-import-counted
-add-import-counted c =
-    let k : tie.After-k = search in
-    let f : tie.After-shape-of = search in
-    omega (arith, shape-is _ _ (sym (k .k .given .1) ∙ f .shape-of .ensures) .long)
+abbrev start : tie.After-k → tie.Start
+start c = c .before .before .before .before .before
 
-part-import-counted-end : tie.Need-part-import-counted-end
-part-import-counted-end c =
-    let k : tie.After-k = search in
+shaping : (c : tie.After-k) → Shaping (now (start c .args .text)) (c .k .given .0 .0)
+shaping c =
     let f : tie.After-shape-of = search in
-    omega (arith, shape-is _ _ (sym (k .k .given .1) ∙ f .shape-of .ensures) .long)
-
-add-import-counted-2 : tie.Need-add-import-counted-2
-add-import-counted-2 c =
-    let k : tie.After-k = search in
-    let f : tie.After-shape-of = search in
-    omega (arith, shape-is _ _ (sym (k .k .given .1) ∙ f .shape-of .ensures) .long)
-
-sub-import-counted-2 : tie.Need-sub-import-counted-2
-sub-import-counted-2 c =
-    let k : tie.After-k = search in
-    let f : tie.After-shape-of = search in
-    omega (arith, shape-is _ _ (sym (k .k .given .1) ∙ f .shape-of .ensures) .long)
-
-sub-import-counted-3 : tie.Need-sub-import-counted-3
-sub-import-counted-3 c =
-    let k : tie.After-k = search in
-    let f : tie.After-shape-of = search in
-    omega (arith, shape-is _ _ (sym (k .k .given .1) ∙ f .shape-of .ensures) .long)
-
-part-import-counted-start-2 : tie.Need-part-import-counted-start-2
-part-import-counted-start-2 c =
-    let k : tie.After-k = search in
-    let f : tie.After-shape-of = search in
-    omega (arith, shape-is _ _ (sym (k .k .given .1) ∙ f .shape-of .ensures) .long)
+    shape-is _ _ (sym (c .k .given .1) ∙ f .shape-of .ensures)
 
 import-counted-requires : tie.Need-import-counted-requires
 import-counted-requires c κs =
     let k : tie.After-k = search in
-    let f : tie.After-shape-of = search in
     let s : tie.Start = search in
-    (shape-is _ _ (sym (k .k .given .1) ∙ f .shape-of .ensures) .counting, quoted-few (now (s .args .text)) (k .k .given .0 .0) (s .pre .0), s .pre .1)
+    (shaping k .counting, quoted-few (now (s .args .text)) (k .k .given .0 .0) (s .pre .0), s .pre .1)
 
 returns : tie.Need-returns
 returns c =
@@ -72,14 +43,14 @@ import-text-spec =
     (tie.spec
     (λ c κs. search needs)
     (λ c. search needs)
-    add-import-counted
+    (λ c. let k : tie.After-k = search in omega (arith, shaping k .long))
     (λ c. search needs)
     (λ c. search needs)
-    part-import-counted-end
-    add-import-counted-2
-    sub-import-counted-2
-    sub-import-counted-3
-    part-import-counted-start-2
+    (λ c. let k : tie.After-k = search in omega (arith, shaping k .long))
+    (λ c. let k : tie.After-k = search in omega (arith, shaping k .long))
+    (λ c. let k : tie.After-k = search in omega (arith, shaping k .long))
+    (λ c. let k : tie.After-k = search in omega (arith, shaping k .long))
+    (λ c. let k : tie.After-k = search in omega (arith, shaping k .long))
     (λ c. search needs)
     import-counted-requires
     (λ c. search needs)

@@ -1,43 +1,27 @@
 -- `csim::shape_of` meets its contract: a law for each test.
 -- Assumes nothing.
+use Prim.Native.Nat.{_+_, _≤_}
 use native.Mathlib.Omega.{arith}
+use denote.Ref.{now}
+use lib.ListN.{length}
 use Rattle.csim.proofs.Shapes.{unopened, opened-long, uncounted, count-within, unquoted, quoted-long, unended, unclosed, closed}
 use borrow.Author.Needs.{needs}
 use Rattle.csim.proofs.shape_of.Statement.{statement}
 use Rattle.csim.proofs.shape_of.Tie as tie
 
-sub-count-digits : tie.Need-sub-count-digits
-sub-count-digits c =
-    let f : tie.Else1 = search in
-    let b : tie.After-leads = search in
-    omega (arith, opened-long _ _ (b .leads .ensures) (f .if1 .left))
+abbrev start : tie.Else1 → tie.Start
+start c = c .before .before .before .before
 
-part-count-digits-start : tie.Need-part-count-digits-start
-part-count-digits-start c =
-    let f : tie.Else1 = search in
+long : (c : tie.Else1) → 8 ≤ length (now (start c .args .text))
+long c =
     let b : tie.After-leads = search in
-    omega (arith, opened-long _ _ (b .leads .ensures) (f .if1 .left))
+    opened-long _ _ (b .leads .ensures) (c .if1 .left)
 
-add-leads : tie.Need-add-leads
-add-leads c =
-    let d : tie.After-count-digits = search in
+within : (c : tie.After-count-digits) → let f : tie.Else1 = c .before .before in 8 + c .count-digits .result ≤ length (now (start f .args .text))
+within c =
     let f : tie.Else1 = search in
     let b : tie.After-leads = search in
-    omega (arith, count-within _ _ (b .leads .ensures) (f .if1 .left) _ (d .count-digits .ensures))
-
-sub-leads : tie.Need-sub-leads
-sub-leads c =
-    let d : tie.After-count-digits = search in
-    let f : tie.Else1 = search in
-    let b : tie.After-leads = search in
-    omega (arith, count-within _ _ (b .leads .ensures) (f .if1 .left) _ (d .count-digits .ensures))
-
-part-leads-start : tie.Need-part-leads-start
-part-leads-start c =
-    let d : tie.After-count-digits = search in
-    let f : tie.Else1 = search in
-    let b : tie.After-leads = search in
-    omega (arith, count-within _ _ (b .leads .ensures) (f .if1 .left) _ (d .count-digits .ensures))
+    count-within _ _ (b .leads .ensures) (f .if1 .left) _ (c .count-digits .ensures)
 
 add-if4 : tie.Need-add-if4
 add-if4 c =
@@ -56,15 +40,15 @@ shape-of-spec =
     (λ c. search needs)
     (λ c κs. search needs)
     (λ c. search unopened)
-    sub-count-digits
-    part-count-digits-start
+    (λ c. let f : tie.Else1 = search in omega (arith, long f))
+    (λ c. let f : tie.Else1 = search in omega (arith, long f))
     (λ c. search needs)
     (λ c κs. search needs)
     (λ c. search uncounted)
     (λ c. search needs)
-    add-leads
-    sub-leads
-    part-leads-start
+    (λ c. let d : tie.After-count-digits = search in omega (arith, within d))
+    (λ c. let d : tie.After-count-digits = search in omega (arith, within d))
+    (λ c. let d : tie.After-count-digits = search in omega (arith, within d))
     (λ c. search needs)
     (λ c κs. search needs)
     (λ c. search unquoted)
