@@ -9,6 +9,7 @@ use native.Mathlib.Omega.{arith}
 use lib.ListN.{length, getD, drop, drop-of-length-le}
 use lib.Dec.{eqb, ltb, leb}
 use borrow.Author.Tests.{ltb-true, ltb-false, lt-ltb, le-ltb, leb-true, eqb-true, eqb-false, eq-eqb, ne-eqb}
+use Rattle.rules.specs.Sound.{Each}
 use Rattle.rules.specs.Lines.{lastDigit, zerosBefore, decimal}
 use Rattle.rules.proofs.Laws.{stop, skip, both-left, both-right, and-false}
 use Rattle.csim.specs.Kinds.{leads}
@@ -99,17 +100,34 @@ three-value n h =
     let c : n / 100 % 10 ≡ n / 100 = omega arith in
     omega arith
 
+from-digits :
+    {a n : ℕ} {ds : List ℕ} → Each (λ (c : ℕ). isDecimal c ≡ true) (a ∷ ds) → leadingZero (a ∷ ds) ≡ false → valueFrom 0 (a ∷ ds) ≡ n → Gives (a ∷ ds) n
+from-digits h b v = record { proper = record { counting = record { digits = h; some = omega arith }; bare = b }; value = v }
+
 pub decimal-gives : (n : ℕ) → n < 10000 → Gives (decimal n) n
 unfolding valueFrom
-decimal-gives n h =
-    ⊎-elim (λ k. subst G (sym (one-digit n k)) (record { proper = record { counting = record { digits = (last-decimal n, tt); some = omega arith }; bare = sym (bare-short (lastDigit n ∷ []) (omega arith)) }; value = omega arith }))
-    (λ k. ⊎-elim (λ l. subst G (sym (two-digits n k l)) (record { proper = record { counting = record { digits = (last-decimal (n / 10), (last-decimal n, tt)); some = omega arith }; bare = first-counts (lastDigit (n / 10)) _ (λ e. omega (arith, e)) }; value = omega arith }))
-    (λ l. ⊎-elim (λ m. subst G (sym (three-digits n l m)) (record { proper = record { counting = record { digits = (last-decimal (n / 100), (last-decimal (n / 10), (last-decimal n, tt))); some = omega arith }; bare = first-counts (lastDigit (n / 100)) _ (λ e. omega (arith, e)) }; value = three-value n m }))
-    (λ m. subst G (sym (four-digits n m)) (record { proper = record { counting = record { digits = (last-decimal (n / 1000), (last-decimal (n / 100), (last-decimal (n / 10), (last-decimal n, tt)))); some = omega arith }; bare = first-counts (lastDigit (n / 1000)) _ (λ e. omega (arith, e)) }; value = four-value n h }))
-    (below n 1000)) (below n 100)) (below n 10)
+decimal-gives n h = ⊎-elim one (λ k. ⊎-elim (two k) (λ l. ⊎-elim (three l) four (below n 1000)) (below n 100)) (below n 10)
   where
     G : List ℕ → Type 0
     G ds = Gives ds n
+
+    one : n < 10 → G (decimal n)
+    one k = subst G (sym (one-digit n k)) (from-digits (last-decimal n, tt) (sym (bare-short (lastDigit n ∷ []) (omega arith))) (omega arith))
+
+    two : 10 ≤ n → n < 100 → G (decimal n)
+    two k l =
+        subst G (sym (two-digits n k l)) (from-digits (last-decimal (n / 10), (last-decimal n, tt)) (first-counts (lastDigit (n / 10)) _ (λ e. omega (arith, e))) (omega arith))
+
+    three : 100 ≤ n → n < 1000 → G (decimal n)
+    three k l =
+        subst G (sym (three-digits n k l))
+        (from-digits (last-decimal (n / 100), (last-decimal (n / 10), (last-decimal n, tt))) (first-counts (lastDigit (n / 100)) _ (λ e. omega (arith, e))) (three-value n l))
+
+    four : 1000 ≤ n → G (decimal n)
+    four k =
+        subst G (sym (four-digits n k))
+        (from-digits (last-decimal (n / 1000), (last-decimal (n / 100), (last-decimal (n / 10), (last-decimal n, tt))))
+        (first-counts (lastDigit (n / 1000)) _ (λ e. omega (arith, e))) (four-value n h))
 
 -- and no other digits do
 value-grows : (n : ℕ) (ds : List ℕ) → n ≤ valueFrom n ds
