@@ -8,11 +8,13 @@ that folder instead.
     python3 gate.py [FOLDER]
 """
 
+import itertools
 import os
 import shutil
 import sys
 
 import bench
+import csim
 import details
 import fetch
 import generate
@@ -62,7 +64,7 @@ def main(root):
             write_file(root, os.path.join("data", file + ".out"), out)
     for tool, maker in TOOLS.items():
         play(tool, tool, *maker.played())
-    for tool, file, lines, told in mend.cases():
+    for tool, file, lines, told in itertools.chain(mend.cases(), csim.cases()):
         play(tool, file, b"".join(line + b"\n" for line in lines), "".join(line + "\n" for line in told).encode("ascii"))
     write_file(root, "args", "".join(words).encode("ascii"))
     write_file(root, "stdout", b"".join(answers))

@@ -11,7 +11,7 @@ use Rattle.rules.specs.declared.ChannelNumber.{ChannelNumber}
 use Rattle.rules.specs.declared.DeviceIdentity.{DeviceIdentity}
 use Rattle.rules.specs.declared.Ending.{Ending}
 use Rattle.rules.specs.declared.Refusal.{Refusal}
-use Rattle.rules.specs.declared.Refusal.the-variants.{ShortBuffer, CommandSize, NoChannel, Unopened, Unlinked, Overfull, UnfitRecord, NoResponse, Unreadable, NoPlace, Undersized, Unmendable}
+use Rattle.rules.specs.declared.Refusal.the-variants.{ShortBuffer, CommandSize, NoChannel, Unopened, Unlinked, Overfull, UnfitRecord, NoResponse, Unreadable, NoPlace, Undersized, Unmendable, NoRecord, WrongCount}
 use Rattle.rules.specs.Checks.{_⇒_else_, isEmpty}
 use Rattle.rules.specs.Words.{numberOf, refusalOf, identityOf, channelOf}
 use Rattle.rules.specs.Frames.{ObjectRead, faulty, objectAt, onward, walkUpTo, walk}
@@ -41,9 +41,11 @@ refusal-back Unreadable = refl
 refusal-back NoPlace = refl
 refusal-back Undersized = refl
 refusal-back Unmendable = refl
+refusal-back NoRecord = refl
+refusal-back WrongCount = refl
 
 -- the numbers of refusals are small
-pub number-small : (r : Refusal) → numberOf r ≤ 16
+pub number-small : (r : Refusal) → numberOf r ≤ 18
 number-small ShortBuffer = omega arith
 number-small CommandSize = omega arith
 number-small NoChannel = omega arith
@@ -56,6 +58,8 @@ number-small Unreadable = omega arith
 number-small NoPlace = omega arith
 number-small Undersized = omega arith
 number-small Unmendable = omega arith
+number-small NoRecord = omega arith
+number-small WrongCount = omega arith
 
 -- a channel's number and its identity, there and back
 pub number-back : (c : ChannelNumber) → c .0 < 256 → channelOf (identityOf c) ≡ c

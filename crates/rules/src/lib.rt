@@ -65,7 +65,7 @@ impl Limits {
     pub const VALUE: usize = 241;
 }
 
-// The refusals R1 to R9, R11, R12 and R16, by their numbers.
+// The refusals R1 to R9, R11, R12 and R16 to R18, by their numbers.
 pub enum Refusal {
     ShortBuffer,
     CommandSize,
@@ -79,6 +79,8 @@ pub enum Refusal {
     NoPlace,
     Undersized,
     Unmendable,
+    NoRecord,
+    WrongCount,
 }
 
 impl Refusal {
@@ -99,6 +101,8 @@ impl Refusal {
             Refusal::NoPlace => 11,
             Refusal::Undersized => 12,
             Refusal::Unmendable => 16,
+            Refusal::NoRecord => 17,
+            Refusal::WrongCount => 18,
         }
     }
 }

@@ -12,10 +12,11 @@ use Rattle.text.specs.Prints.{Prints}
 use Rattle.bench.specs.Printed.{benchLine}
 use Rattle.details.specs.Printed.{detailsLine}
 use Rattle.mending.specs.Printed.{mendLine}
+use Rattle.csim.specs.Printed.{importLine, exportLine}
 use Rattle.bursts.specs.Bursts.{awaitsIn, burstEnds, Tells}
 use Rattle.flow.specs.Holds.{Says}
 use Rattle.tools.specs.declared.Tool.{Tool}
-use Rattle.tools.specs.declared.Tool.the-variants.{Lines, Bench, Details, Fetch, Mend}
+use Rattle.tools.specs.declared.Tool.the-variants.{Lines, Bench, Details, Fetch, Mend, CsimImport, CsimExport}
 use Rattle.tools.specs.Tools.{memory, GoodMemory, keptIn, stays, ends}
 
 module _ (tool : Tool) (b : Bool) (t p g l : List ℕ) (y : GoodMemory (memory t p g)) (r : ℕ) (out : List ℕ) (at : ℕ) (out′ : List ℕ) where
@@ -47,6 +48,14 @@ module _ (tool : Tool) (b : Bool) (t p g l : List ℕ) (y : GoodMemory (memory t
   pub mend-answer : tool ≡ Mend → Prints (mendLine l) r out at out′ → Says GoodMemory keptIn (ends tool (keptIn b (memory t p g)) l) (memory t p g) r out at out′
   unfolding ends
   mend-answer e h = rw e (stays-answer (mendLine l) h)
+
+  pub import-answer : tool ≡ CsimImport → Prints (importLine l) r out at out′ → Says GoodMemory keptIn (ends tool (keptIn b (memory t p g)) l) (memory t p g) r out at out′
+  unfolding ends
+  import-answer e h = rw e (stays-answer (importLine l) h)
+
+  pub export-answer : tool ≡ CsimExport → Prints (exportLine l) r out at out′ → Says GoodMemory keptIn (ends tool (keptIn b (memory t p g)) l) (memory t p g) r out at out′
+  unfolding ends
+  export-answer e h = rw e (stays-answer (exportLine l) h)
 
   pub fetch-answer :
       (t′ p′ g′ : List ℕ) → tool ≡ Fetch → Tells (burstEnds b (awaitsIn t p g) l) t′ p′ g′ r out at out′ →

@@ -2,11 +2,11 @@
 use Prim.Native.Nat.{ℕ}
 use mathlib.Core.List.{List, [], _∷_}
 use Rattle.rules.specs.Checks.{_⇒_else_, same}
-use Rattle.tools.specs.declared.Tool.the-variants.{Lines, Bench, Details, Fetch, Mend}
+use Rattle.tools.specs.declared.Tool.the-variants.{Lines, Bench, Details, Fetch, Mend, CsimImport, CsimExport}
 use Rattle.tools.specs.declared.Named.{Named}
 use Rattle.tools.specs.declared.Named.the-variants.{One, Unknown}
 
--- "lines", "bench", "details", "fetch", "mend"
+-- "lines", "bench", "details", "fetch", "mend", "csim-import", "csim-export"
 abbrev pub linesName : List ℕ
 linesName = 108 ∷ 105 ∷ 110 ∷ 101 ∷ 115 ∷ []
 
@@ -22,6 +22,12 @@ fetchName = 102 ∷ 101 ∷ 116 ∷ 99 ∷ 104 ∷ []
 abbrev pub mendName : List ℕ
 mendName = 109 ∷ 101 ∷ 110 ∷ 100 ∷ []
 
+abbrev pub importName : List ℕ
+importName = 99 ∷ 115 ∷ 105 ∷ 109 ∷ 45 ∷ 105 ∷ 109 ∷ 112 ∷ 111 ∷ 114 ∷ 116 ∷ []
+
+abbrev pub exportName : List ℕ
+exportName = 99 ∷ 115 ∷ 105 ∷ 109 ∷ 45 ∷ 101 ∷ 120 ∷ 112 ∷ 111 ∷ 114 ∷ 116 ∷ []
+
 -- the tool that a word names
 unfoldable pub toolNamed : List ℕ → Named
 toolNamed w =
@@ -30,4 +36,6 @@ toolNamed w =
     same w detailsName ⇒ One Details else
     same w fetchName ⇒ One Fetch else
     same w mendName ⇒ One Mend else
+    same w importName ⇒ One CsimImport else
+    same w exportName ⇒ One CsimExport else
     Unknown

@@ -9,11 +9,12 @@ use Rattle.fetch.specs.Gathers.{gatheredIn, Gathers}
 use Rattle.bench.specs.Printed.{benchLine}
 use Rattle.details.specs.Printed.{detailsLine}
 use Rattle.mending.specs.Printed.{mendLine}
+use Rattle.csim.specs.Printed.{importLine, exportLine}
 use Rattle.bursts.specs.Bursts.{Awaits, burstEnds}
 use Rattle.flow.specs.Flow.{Ends}
 use Rattle.flow.specs.Holds.{View}
 use Rattle.tools.specs.declared.Tool.{Tool}
-use Rattle.tools.specs.declared.Tool.the-variants.{Lines, Bench, Details, Fetch, Mend}
+use Rattle.tools.specs.declared.Tool.the-variants.{Lines, Bench, Details, Fetch, Mend, CsimImport, CsimExport}
 
 -- what is kept: whether the first line was read, the session's state, and the bytes gathered of a command
 pub record Kept : Type 0 where
@@ -62,3 +63,5 @@ ends Bench k l = stays k (benchLine l)
 ends Details k l = stays k (detailsLine l)
 ends Fetch k l = inBursts (burstEnds (k .begun) (record { state = k .state; gathered = k .gathered }) l)
 ends Mend k l = stays k (mendLine l)
+ends CsimImport k l = stays k (importLine l)
+ends CsimExport k l = stays k (exportLine l)

@@ -2,6 +2,8 @@
 use bench::tell_bench;
 use bursts::tell_burst;
 use check;
+use csim::tell_export;
+use csim::tell_import;
 use details::tell_details;
 use fetch::Gathered;
 use fetch::start_gathered;
@@ -29,13 +31,15 @@ ghost use Rattle.flow.specs.Holds.{Ready, readerIn, Says, Goes, Keeps, Fills};
 ghost use Rattle.tools.specs.Names.{toolNamed};
 ghost use Rattle.tools.specs.Tools.{memory, GoodMemory, keptIn, ends};
 
-// The tools: document 01's program, the bench, what command is at hand, bytes as they come off the line, and applet commands mended.
+// The tools: document 01's program, the bench, what command is at hand, bytes as they come off the line, applet commands mended, and lines of +CSIM logs in and out.
 pub enum Tool {
     Lines,
     Bench,
     Details,
     Fetch,
     Mend,
+    CsimImport,
+    CsimExport,
 }
 
 // A word as the name of a tool.
@@ -63,6 +67,12 @@ pub fn tool_named(word: &[u8]) -> Named
     if check::same(word, b"mend") {
         return Named::One(Tool::Mend);
     }
+    if check::same(word, b"csim-import") {
+        return Named::One(Tool::CsimImport);
+    }
+    if check::same(word, b"csim-export") {
+        return Named::One(Tool::CsimExport);
+    }
     Named::Unknown
 }
 
@@ -86,6 +96,8 @@ fn answer(
         Tool::Details => tell_details(line, out, at),
         Tool::Fetch => tell_burst(begun, ledger, pool, gathered, line, out, at),
         Tool::Mend => tell_mended(line, out, at),
+        Tool::CsimImport => tell_import(line, out, at),
+        Tool::CsimExport => tell_export(line, out, at),
     }
 }
 

@@ -1,6 +1,6 @@
 -- `tools::answer` meets its contract: each arm by the law of its tool.
 -- Assumes nothing.
-use Rattle.tools.proofs.Answering.{lines-answer, bench-answer, details-answer, fetch-answer, mend-answer}
+use Rattle.tools.proofs.Answering.{lines-answer, bench-answer, details-answer, fetch-answer, mend-answer, import-answer, export-answer}
 use borrow.Author.Needs.{needs}
 use Rattle.tools.proofs.answer.Statement.{statement}
 use Rattle.tools.proofs.answer.Tie as tie
@@ -40,10 +40,28 @@ returns-5 c =
     let s : tie.Start = search in
     mend-answer _ _ _ _ _ _ (s .pre .0) _ _ _ _ (t .enum-told5 .given .1) (a .tell-mended .ensures)
 
+returns-6 : tie.Need-returns-6
+returns-6 c =
+    let a : tie.After-tell-import = search in
+    let t : tie.After-enum-told6 = search in
+    let s : tie.Start = search in
+    import-answer _ _ _ _ _ _ (s .pre .0) _ _ _ _ (t .enum-told6 .given .1) (a .tell-import .ensures)
+
+returns-7 : tie.Need-returns-7
+returns-7 c =
+    let a : tie.After-tell-export = search in
+    let t : tie.After-enum-told7 = search in
+    let s : tie.Start = search in
+    export-answer _ _ _ _ _ _ (s .pre .0) _ _ _ _ (t .enum-told7 .given .1) (a .tell-export .ensures)
+
 pub answer-spec : {M : Type 1} → statement M
 answer-spec =
     tie.close
     (tie.spec
+    (λ c. search needs)
+    (λ c κs. search needs)
+    (λ c. search needs)
+    (λ c κs. search needs)
     (λ c. search needs)
     (λ c κs. search needs)
     (λ c. search needs)
@@ -63,4 +81,8 @@ answer-spec =
     (λ c. search needs)
     returns-4
     (λ c. search needs)
-    returns-5)
+    returns-5
+    (λ c. search needs)
+    returns-6
+    (λ c. search needs)
+    returns-7)
