@@ -13,8 +13,8 @@ use Rattle.rules.specs.State.{State, Chan, closed, chan, queue, held}
 use Rattle.rules.specs.Pool.{cellSize, poolSize, cells, promisedTo, promised, unpromised}
 use Rattle.rules.specs.Sound.{Each, SoundChan, Sound}
 use Rattle.octets.specs.Parts.{pad}
-use Rattle.session.specs.Book.{numbersOf, places, listedNumber}
-use Rattle.session.specs.Picture.{space, region, regions, poolOf, linkNumber, carriesNumber, entry, chanNumbers, entriesOf, headsOf, ledgerOf, offset, shown, GoodIn}
+use Rattle.session.specs.Book.{numbersOf, places}
+use Rattle.session.specs.Picture.{space, region, regions, poolOf, linkNumber, carriesNumber, entry, chanNumbers, entriesOf, headsWith, headsOf, ledgerOf, offset, shown, GoodIn}
 use Rattle.session.specs.Cells.{HeldAt, SameLengths}
 use Rattle.session.proofs.Regions.{Fits, length-way, length-region}
 use Rattle.session.proofs.Owners.{first-start}
@@ -157,5 +157,5 @@ ledger-by-lengths t p u q g h profile events same =
     let grants = promised-same (a .chans) (b .chans) (g .sound .seven ∙ sym (h .sound .seven)) each in
     let entries = entries-same (a .chans) (b .chans) (g .sound .seven ∙ sym (h .sound .seven)) each in
     g .shows .ledger
-    ∙ (λ i. profile i ++ ((listedNumber (events i .available) ∷ listedNumber (events i .status) ∷ (256 - grants i) ∷ []) ++ entries i))
+    ∙ (λ i. profile i ++ (headsWith (events i) (256 - grants i) ++ entries i))
     ∙ sym (h .shows .ledger)

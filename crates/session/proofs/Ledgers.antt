@@ -245,7 +245,7 @@ module _ (a : State) (thirteen : length (a .profile) ≡ profileSize) where
     unfolding withChan ledgerOf headsOf
     ledger-with d f e =
         ap (λ (t : List ℕ). set t freeAt f) (entries-with d) ∙ head-written (headsOf a ++ entriesOf (set (a .chans) k d)) 2 freeAt f refl
-        ∙ (λ i. a .profile ++ (headsWith a (e i) ++ entriesOf (set (a .chans) k d)))
+        ∙ (λ i. a .profile ++ (headsWith (a .events) (e i) ++ entriesOf (set (a .chans) k d)))
 
     -- a channel of the same grant leaves them
     pub ledger-same : (d : Chan) → d .grant ≡ chan a n .grant → numbersWith d ≡ ledgerOf (withChan a n d)
@@ -255,7 +255,7 @@ module _ (a : State) (thirteen : length (a .profile) ≡ profileSize) where
         let g = ap cells e in
         let same : promisedTo (a .chans) ≡ promisedTo (set (a .chans) k d) = omega arith in
         entries-with d
-        ∙ (λ i. a .profile ++ (headsWith a (256 - same i) ++ entriesOf (set (a .chans) k d)))
+        ∙ (λ i. a .profile ++ (headsWith (a .events) (256 - same i) ++ entriesOf (set (a .chans) k d)))
 
     pub ledger-parts : ledgerOf a ≡ before ++ (chanNumbers (chan a n) ++ behind)
     unfolding before behind chan

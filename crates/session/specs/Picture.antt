@@ -6,6 +6,7 @@ use lib.ListN.{length, take, drop, getD}
 use Rattle.rules.specs.declared.Carries.{Carries}
 use Rattle.rules.specs.declared.Carries.the-variants.{Stream, Datagrams}
 use Rattle.rules.specs.declared.ChannelNumber.{ChannelNumber}
+use Rattle.rules.specs.declared.Events.{Events}
 use Rattle.rules.specs.Datagrams.{placeCount}
 use Rattle.rules.specs.declared.Link.{Link}
 use Rattle.rules.specs.declared.Link.the-variants.{NotYet, Established, Dropped}
@@ -78,11 +79,11 @@ entriesOf [] = []
 entriesOf (c ∷ cs) = chanNumbers c ++ entriesOf cs
 
 -- the numbers between the profile and the entries: whether 09 and 0A are listed, and the cells that are not promised
-abbrev pub headsWith : State → ℕ → List ℕ
-headsWith a free = listedNumber (a .events .available) ∷ listedNumber (a .events .status) ∷ free ∷ []
+abbrev pub headsWith : Events → ℕ → List ℕ
+headsWith e free = listedNumber (e .available) ∷ listedNumber (e .status) ∷ free ∷ []
 
 unfoldable pub headsOf : State → List ℕ
-headsOf a = headsWith a (unpromised a)
+headsOf a = headsWith (a .events) (unpromised a)
 
 -- the ledger: the profile, these, and an entry for each channel
 unfoldable pub ledgerOf : State → List ℕ
