@@ -167,7 +167,7 @@ def damaged():
 def sizes():
     """One object of each size about the forms and the bounds, in either form, with and without one more behind it."""
     for size in (0, 1, 2, 0x7C, 0x7D, 0x7E, 0x7F, 0x80, 0x81, 247, 248, 249, 250, 251, 252, 253, 254, 255):
-        for length in {bytes([size % 256]), bytes([0x81, size])}:
+        for length in (bytes([size % 256]), bytes([0x81, size])):
             for behind in (b"", b"\x01\x00", b"\x01\x81\x00", b"\xFF"):
                 for outer in (b"\x00", b"\x81\xFD", bytes([(size + 2) % 0x80])):
                     yield b"\xD0" + outer + b"\x36" + length + b"\x41" * size + behind
