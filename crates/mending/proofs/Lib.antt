@@ -4,6 +4,7 @@ pub mod Kept
 pub mod Told
 pub mod Starts
 pub mod Theorems
+pub mod Mendable
 pub mod Reading
 pub mod Left
 pub mod Lines

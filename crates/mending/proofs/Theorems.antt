@@ -38,10 +38,10 @@ pub record Came (l r t : List ℕ) (cs : List Change) : Type 0 where
   pub frame : framing (mendFrom (1 + length l) r .bytes) ≡ t
   pub list : outerChange l (lengthBytes (length (mendFrom (1 + length l) r .bytes))) ++ mendFrom (1 + length l) r .changes ≡ cs
 
-never : (t : List ℕ) (cs : List Change) → unmendable ≡ mended t cs → ⊥
+pub never : (t : List ℕ) (cs : List Change) → unmendable ≡ mended t cs → ⊥
 never t cs z = let clash : _≡_ {A = ℕ} 0 1 = cc in omega arith
 
-came : (l r t : List ℕ) (cs : List Change) → mendsBehind (head l r) ≡ mended t cs → Came l r t cs
+pub came : (l r t : List ℕ) (cs : List Change) → mendsBehind (head l r) ≡ mended t cs → Came l r t cs
 unfolding mendsBehind
 came l r t cs =
     branch (λ (x : Mending). x ≡ mended t cs → Came l r t cs) _ _ _ (λ _ z. absurd (never t cs z))
@@ -122,10 +122,10 @@ pub mended-again : (s t : List ℕ) (cs : List Change) → mends s ≡ mended t 
 mended-again s t cs e = sound-kept t (mended-sound s t cs e)
 
 -- the bytes of a head, one or two of them the length, and those behind it are all
-record HeadParts (s l r : List ℕ) : Type 0 where
-  parts : s ≡ 0xD0 ∷ l ++ r
-  some : 1 ≤ length l
-  few : length l ≤ 2
+pub record HeadParts (s l r : List ℕ) : Type 0 where
+  pub parts : s ≡ 0xD0 ∷ l ++ r
+  pub some : 1 ≤ length l
+  pub few : length l ≤ 2
 
 length-head : (b : ℕ) (s l r : List ℕ) (x : LengthRead) → eqb b 0xD0 ≡ true → LengthIs s x → headOf s x ≡ head l r → HeadParts (b ∷ s) l r
 unfolding headOf
@@ -139,7 +139,7 @@ length-head b s l r (len n v) d g z =
       few = omega (arith, ap length front, g .few);
     }
 
-head-parts : (s l r : List ℕ) → outerHead s ≡ head l r → HeadParts s l r
+pub head-parts : (s l r : List ℕ) → outerHead s ≡ head l r → HeadParts s l r
 unfolding outerHead
 head-parts [] l r e = absurd (let clash : _≡_ {A = ℕ} 0 1 = cc in omega arith)
 head-parts (b ∷ s) l r e =
