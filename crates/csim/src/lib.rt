@@ -29,6 +29,27 @@ pub enum Kind {
     Envelope,
 }
 
+// The numbers of a command string and of its lines.
+pub struct Log {}
+
+impl Log {
+    // The place of P3, the bytes before the data, the fewest of all, and the most of the data.
+    pub const P3: usize = 4;
+
+    pub const HEAD: usize = 5;
+
+    pub const LEAST: usize = 6;
+
+    pub const DATA: usize = 255;
+
+    // The characters of the longest word of ours with its blank, of `AT+CSIM=`, and of that with the comma and the quote behind the count.
+    pub const LEAD: usize = 9;
+
+    pub const OPENING: usize = 8;
+
+    pub const AROUND: usize = 10;
+}
+
 // The shape of a line without blanks: a count of so many digits, and characters between quotes; or another one.
 pub enum Shape {
     Counted(usize),
@@ -137,14 +158,14 @@ fn shape_of(text: &[u8]) -> Shape
     if !leads(b"AT+CSIM=", text) {
         return Shape::Other;
     }
-    let k = count_digits(&text[8..]);
+    let k = count_digits(&text[Log::OPENING..]);
     if k == 0 {
         return Shape::Other;
     }
-    if !leads(b",\"", &text[8 + k..]) {
+    if !leads(b",\"", &text[Log::OPENING + k..]) {
         return Shape::Other;
     }
-    if text.len() <= 10 + k {
+    if text.len() <= Log::AROUND + k {
         return Shape::Other;
     }
     if text[text.len() - 1] != b'"' {
@@ -220,17 +241,17 @@ fn import_kind(kind: Kind, count: &[u8], s: &[u8], out: &mut [u8], at: usize) ->
     ensures { λ r. ⌜ Prints (recordLine (checked kind (now (count .entry)) (now (s .entry)))) r (now (out .entry)) at (now (out .exit)) ⌝ }
 {
     let n = s.len();
-    if n < 6 {
+    if n < Log::LEAST {
         return print_refusal(out, at, Refusal::NoRecord);
     }
     if !count_is(count, 2 * n) {
         return print_refusal(out, at, Refusal::WrongCount);
     }
-    let stated = wide(s[4]);
-    if stated != n - 5 {
+    let stated = wide(s[Log::P3]);
+    if stated != n - Log::HEAD {
         return print_refusal(out, at, Refusal::WrongCount);
     }
-    print_record(kind, &s[5..], out, at)
+    print_record(kind, &s[Log::HEAD..], out, at)
 }
 
 // Prints what a frame gives behind its count, by its header.
@@ -272,8 +293,8 @@ fn import_text(text: &[u8], out: &mut [u8], at: usize) -> usize
 {
     match shape_of(text) {
         Shape::Counted(k) => import_counted(
-            &text[8..8 + k],
-            &text[10 + k..text.len() - 1],
+            &text[Log::OPENING..Log::OPENING + k],
+            &text[Log::AROUND + k..text.len() - 1],
             out,
             at,
         ),
@@ -301,7 +322,7 @@ fn print_csim(kind: Kind, bytes: &[u8], out: &mut [u8], at: usize) -> usize
 {
     let header = [0x80u8, instruction(kind), 0, 0, bytes.len() as u8];
     let count = print_string(out, at, b"AT+CSIM=");
-    let quote = print_decimal(out, count, 2 * (5 + bytes.len()));
+    let quote = print_decimal(out, count, 2 * (Log::HEAD + bytes.len()));
     let first = print_string(out, quote, b",\"");
     let behind = print_bytes(out, first, &header);
     let end = print_bytes(out, behind, bytes);
@@ -316,7 +337,7 @@ fn export_frame(kind: Kind, s: &[u8], out: &mut [u8], at: usize) -> usize
     if s.len() == 0 {
         return print_refusal(out, at, Refusal::NoRecord);
     }
-    if 255 < s.len() {
+    if Log::DATA < s.len() {
         return print_refusal(out, at, Refusal::NoRecord);
     }
     print_csim(kind, s, out, at)
@@ -326,7 +347,7 @@ fn export_frame(kind: Kind, s: &[u8], out: &mut [u8], at: usize) -> usize
 fn is_named(line: &[u8], kind: Kind) -> bool
     ensures { λ r. ⌜ r ≡ leads (leadOf kind) (now (line .entry)) ⌝ }
 {
-    let mut lead = [0u8; 9];
+    let mut lead = [0u8; Log::LEAD];
     let n = print_lead(&mut lead, 0, kind);
     leads(&lead[..n], line)
 }
