@@ -1,5 +1,5 @@
 -- What the bench prints for a line: what a response says, or the command of a record.
-use Prim.Native.Nat.{ℕ, _+_}
+use Prim.Native.Nat.{ℕ, _+_, _/_, _%_}
 use mathlib.Core.List.{List, [], _∷_, _++_}
 use mathlib.Core.Option.{Option, none, some}
 use lib.ListN.{length, getD, take, drop}
@@ -22,9 +22,14 @@ room = 3209
 abbrev pub commandRoom : ℕ
 commandRoom = 516
 
--- the text of an object: the bytes of its value, "--" where there are none
+-- swapped digits in their order: of each byte the tens, then the units
+unfoldable pub digitsText : List ℕ → List ℕ
+digitsText [] = []
+digitsText (b ∷ v) = (b % 16 + 48) ∷ (b / 16 + 48) ∷ digitsText v
+
+-- the text of an object: the digits of a time, hours first; else the bytes of its value, "--" where there are none
 unfoldable pub objectText : Object → List ℕ
-objectText o = printed (wrote (o .value))
+objectText o = eqb (o .number) 0x25 ⇒ digitsText (o .value) else printed (wrote (o .value))
 
 -- what stands behind an object on its line: a blank and the next one, or the line feed
 unfoldable pub objectsBehind : List Object → List ℕ

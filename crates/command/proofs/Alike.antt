@@ -2,14 +2,14 @@
 -- Assumes nothing.
 use Prim.Native.Nat.{ℕ}
 use mathlib.Core.Path.{_≡_, refl, sym, ap, _∙_}
-use mathlib.Core.Bool.{true≢false, false≢true, true}
+use mathlib.Core.Bool.{true≢false, false≢true, true, not, _&&_}
 use mathlib.Core.List.{List}
 use native.Mathlib.Omega.{arith}
 use lib.ListN.{length}
 use lib.Dec.{eqb}
-use borrow.Author.Tests.{eqb-true}
+use borrow.Author.Tests.{eqb-true, not-true}
 use Rattle.rules.specs.Own.{bareTypes}
-use Rattle.rules.proofs.Laws.{each-member}
+use Rattle.rules.proofs.Laws.{each-member, skip, both-left, both-right}
 use Rattle.rules.specs.declared.Details.{Details}
 use Rattle.rules.specs.Checks.{_⇒_else_}
 use Rattle.rules.specs.Frames.{walk}
@@ -19,12 +19,14 @@ use Rattle.objects.proofs.Alike.{drop-alike}
 use Rattle.command.specs.declared.Framed.{Framed}
 use Rattle.command.specs.declared.Framed.the-variants.{At, Not}
 use Rattle.command.specs.declared.Handler.{Handler}
-use Rattle.command.specs.declared.Handler.the-variants.{Bare, EventList, Open, Close, Receive, Send}
+use Rattle.command.specs.declared.Handler.the-variants.{Bare, EventList, Open, Close, Receive, Send, StartTimer, ManageTimer}
 use Rattle.command.specs.declared.Request.{Request}
 use Rattle.command.specs.declared.Read.{Read}
 use Rattle.command.specs.declared.Read.the-variants.{Wrong, Asked}
 use Rattle.command.specs.Plans.{handles, ownNumber, furtherNumber}
 use Rattle.command.specs.Requests.{Frames, AskedFor, Reads}
+use Rattle.rules.specs.Timers.{isStart, actionOf, startAction}
+use Rattle.rules.proofs.Readings.{start-kind, starts}
 
 -- where the objects start
 pub framed-alike : (x y : Framed) (s : List ℕ) → Frames x s → Frames y s → x ≡ y
@@ -33,24 +35,33 @@ framed-alike (At a) Not s p q = absurd (true≢false (sym (p .is) ∙ q))
 framed-alike Not (At b) s p q = absurd (false≢true (sym p ∙ q .is))
 framed-alike Not Not s p q = refl
 
--- a handler, read back from its type
-handlerIn : ℕ → Handler
-handlerIn k =
+-- a handler, read back from its details
+handlerIn : Details → Handler
+handlerIn d =
+    let k = d .kind in
     eqb k 0x05 ⇒ EventList else
     eqb k 0x40 ⇒ Open else
     eqb k 0x41 ⇒ Close else
     eqb k 0x42 ⇒ Receive else
     eqb k 0x43 ⇒ Send else
+    isStart d ⇒ StartTimer else
+    eqb k 0x27 ⇒ ManageTimer else
     Bare
 
-handler-back : (h : Handler) (k : ℕ) → handles h k ≡ true → handlerIn k ≡ h
-unfolding handlerIn _⇒_else_
-handler-back Bare k e = each-member (λ (t : ℕ). handlerIn t ≡ Bare) k bareTypes (refl, (refl, tt)) e
-handler-back EventList k e = rw (eqb-true k 0x05 e)
-handler-back Open k e = rw (eqb-true k 0x40 e)
-handler-back Close k e = rw (eqb-true k 0x41 e)
-handler-back Receive k e = rw (eqb-true k 0x42 e)
-handler-back Send k e = rw (eqb-true k 0x43 e)
+handler-back : (h : Handler) (d : Details) → handles h d ≡ true → handlerIn d ≡ h
+unfolding handlerIn isStart _⇒_else_
+handler-back Bare d e =
+    each-member (λ (t : ℕ). handlerIn (record { number = d .number; kind = t; qualifier = d .qualifier }) ≡ Bare) (d .kind) bareTypes (refl, (refl, tt)) e
+handler-back EventList d e = rw (eqb-true (d .kind) 0x05 e)
+handler-back Open d e = rw (eqb-true (d .kind) 0x40 e)
+handler-back Close d e = rw (eqb-true (d .kind) 0x41 e)
+handler-back Receive d e = rw (eqb-true (d .kind) 0x42 e)
+handler-back Send d e = rw (eqb-true (d .kind) 0x43 e)
+handler-back StartTimer d e = rw (start-kind d e, starts d e)
+handler-back ManageTimer d e = by-start (d .kind) (eqb-true (d .kind) 0x27 (both-left (eqb (d .kind) 0x27) _ e)) (both-right (eqb (d .kind) 0x27) _ e)
+  where
+    by-start : (k : ℕ) → k ≡ 0x27 → not (eqb k 0x27 && eqb (actionOf (d .qualifier)) startAction) ≡ true → handlerIn (record { number = d .number; kind = k; qualifier = d .qualifier }) ≡ ManageTimer
+    by-start k q f = rw q (skip _ _ _ (not-true (eqb (actionOf (d .qualifier)) startAction) (rw q at f)))
 
 module _ {q r : Request} {p s : List ℕ} (u : AskedFor q p s) (w : AskedFor r p s) where
   details-alike : q .details ≡ r .details
@@ -58,7 +69,7 @@ module _ {q r : Request} {p s : List ℕ} (u : AskedFor q p s) (w : AskedFor r p
 
   handler-alike : q .handler ≡ r .handler
   handler-alike =
-      sym (handler-back (q .handler) _ (u .kind)) ∙ ap (λ (d : Details). handlerIn (d .kind)) details-alike ∙ handler-back (r .handler) _ (w .kind)
+      sym (handler-back (q .handler) _ (u .kind)) ∙ ap handlerIn details-alike ∙ handler-back (r .handler) _ (w .kind)
 
   ignored-alike : q .ignored ≡ r .ignored
   ignored-alike = cc (u .is, w .is)

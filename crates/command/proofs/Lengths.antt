@@ -78,24 +78,24 @@ module _ (s : List ℕ) (start n : ℕ) (w : start + n ≤ length s) where
     abbrev fits : ℕ → Bool
     fits k = lengthFits k v
 
-    pub fits-three : OneOf (0x01 ∷ 0x3C ∷ []) t → eqb n 3 ≡ lengthFits t v
+    pub fits-three : OneOf (0x01 ∷ 0x25 ∷ 0x3C ∷ []) t → eqb n 3 ≡ lengthFits t v
     unfolding lengthFits _⇒_else_
-    fits-three = arm fits (eqb n 3) (0x01 ∷ 0x3C ∷ []) t (size 3, (size 3, tt))
+    fits-three = arm fits (eqb n 3) (0x01 ∷ 0x25 ∷ 0x3C ∷ []) t (size 3, (size 3, (size 3, tt)))
 
     pub fits-two : OneOf (0x02 ∷ 0x04 ∷ 0x1E ∷ 0x39 ∷ []) t → eqb n 2 ≡ lengthFits t v
     unfolding lengthFits _⇒_else_
     fits-two = arm fits (eqb n 2) (0x02 ∷ 0x04 ∷ 0x1E ∷ 0x39 ∷ []) t (size 2, (size 2, (size 2, (size 2, tt))))
 
-    pub fits-one : t ≡ 0x37 → eqb n 1 ≡ lengthFits t v
+    pub fits-one : OneOf (0x24 ∷ 0x37 ∷ []) t → eqb n 1 ≡ lengthFits t v
     unfolding lengthFits _⇒_else_
-    fits-one = arm fits (eqb n 1) (0x37 ∷ []) t (size 1, tt)
+    fits-one = arm fits (eqb n 1) (0x24 ∷ 0x37 ∷ []) t (size 1, (size 1, tt))
 
     pub fits-bearer : t ≡ 0x35 → bearerFits v ≡ lengthFits t v
     unfolding lengthFits _⇒_else_
     fits-bearer = arm fits (bearerFits v) (0x35 ∷ []) t (refl, tt)
 
     pub fits-any :
-        (((Unit {0} × (OneOf (0x01 ∷ 0x3C ∷ []) t → ⊥)) × (OneOf (0x02 ∷ 0x04 ∷ 0x1E ∷ 0x39 ∷ []) t → ⊥)) × (t ≡ 0x37 → ⊥)) × (t ≡ 0x35 → ⊥) →
+        (((Unit {0} × (OneOf (0x01 ∷ 0x25 ∷ 0x3C ∷ []) t → ⊥)) × (OneOf (0x02 ∷ 0x04 ∷ 0x1E ∷ 0x39 ∷ []) t → ⊥)) × (OneOf (0x24 ∷ 0x37 ∷ []) t → ⊥)) × (t ≡ 0x35 → ⊥) →
         true ≡ lengthFits t v
     unfolding lengthFits _⇒_else_
     fits-any o =
@@ -103,11 +103,13 @@ module _ (s : List ℕ) (start n : ℕ) (w : start + n ≤ length s) where
         let two = o .0 .0 .1 in
         simp (
           ne-eqb t 0x01 (λ e. three (inl e)),
-          ne-eqb t 0x3C (λ e. three (inr e)),
+          ne-eqb t 0x25 (λ e. three (inr (inl e))),
+          ne-eqb t 0x3C (λ e. three (inr (inr e))),
           ne-eqb t 0x02 (λ e. two (inl e)),
           ne-eqb t 0x04 (λ e. two (inr (inl e))),
           ne-eqb t 0x1E (λ e. two (inr (inr (inl e)))),
           ne-eqb t 0x39 (λ e. two (inr (inr (inr e)))),
-          ne-eqb t 0x37 (o .0 .1),
+          ne-eqb t 0x24 (λ e. o .0 .1 (inl e)),
+          ne-eqb t 0x37 (λ e. o .0 .1 (inr e)),
           ne-eqb t 0x35 (o .1),
         )

@@ -13,14 +13,14 @@ use Rattle.rules.specs.declared.Details.{Details}
 use Rattle.rules.specs.Checks.{_⇒_else_, some-of, member}
 use Rattle.rules.specs.Frames.{Object, walk}
 use Rattle.rules.specs.Table.{rowOf, present, valueOf, lengthFits}
-use Rattle.rules.specs.Reading.{Transport, bare, eventList, openChannel, receiveData, sendData, transportIn, pairIn, bearerIn, bodyIn, commandIn, addressed, readObjects, wrong}
+use Rattle.rules.specs.Reading.{Transport, bare, eventList, openChannel, receiveData, sendData, startTimer, manageTimer, transportIn, pairIn, bearerIn, bodyIn, commandIn, addressed, readObjects, wrong}
 use Rattle.rules.specs.Own.{bareTypes, protocolOf}
-use Rattle.rules.proofs.Laws.{branch, stop, skip, each-member}
-use Rattle.rules.proofs.Readings.{value-fits}
+use Rattle.rules.proofs.Laws.{branch, stop, skip, each-member, both-right, both-left}
+use Rattle.rules.proofs.Readings.{value-fits, start-kind}
 use Rattle.octets.specs.Parts.{part}
 use Rattle.objects.specs.Places.{placeOf}
 use Rattle.command.specs.declared.Handler.{Handler}
-use Rattle.command.specs.declared.Handler.the-variants.{Bare, EventList, Open, Close, Receive, Send}
+use Rattle.command.specs.declared.Handler.the-variants.{Bare, EventList, Open, Close, Receive, Send, StartTimer, ManageTimer}
 use Rattle.command.specs.declared.Plan.{Plan}
 use Rattle.command.specs.declared.Request.{Request}
 use Rattle.command.specs.declared.Sorted.{Sorted}
@@ -30,6 +30,7 @@ use Rattle.command.proofs.Counting.{Alike, alike}
 use Rattle.command.proofs.Known.{known-misaddressed, known-asked, fit, needed-there, needed-value, needed-fits}
 use Rattle.command.proofs.Lengths.{part-first, part-at}
 use Rattle.command.proofs.Tables.{own-needed, further-needed}
+use Rattle.rules.specs.Timers.{isStart}
 
 -- a value that stands somewhere, and is so long
 module _ {at n : ℕ} {s : List ℕ} (w : StandsAt at s n) {k : ℕ} (l : length (valueOf n (walk s .objects)) ≡ k) where
@@ -41,6 +42,14 @@ module _ {at n : ℕ} {s : List ℕ} (w : StandsAt at s n) {k : ℕ} (l : length
 
   byte-at : (i : ℕ) → i + 1 ≤ k → getD (valueOf n (walk s .objects)) i 0 ≡ getD s (at + i) 0
   byte-at i h = ap (λ (v : List ℕ). getD v i 0) (w .value) ∙ part-at s at (length (valueOf n (walk s .objects))) i (omega arith)
+
+-- a command that starts a timer, and one of type 27 that does not, at the type's number
+starts-at : (d : Details) → isStart d ≡ true → isStart (record { number = d .number; kind = 0x27; qualifier = d .qualifier }) ≡ true
+unfolding isStart
+starts-at d e = both-right (eqb (d .kind) 0x27) _ e
+
+starts-not-at : (d : Details) → d .kind ≡ 0x27 → isStart d ≡ false → isStart (record { number = d .number; kind = 0x27; qualifier = d .qualifier }) ≡ false
+starts-not-at d k e = (λ i. isStart (record { number = d .number; kind = sym k i; qualifier = d .qualifier })) ∙ e
 
 -- the values of a type, by its number
 module _ (d : Details) (os : List Object) where
@@ -101,7 +110,7 @@ module _ {s : List ℕ} {d : Details} {plan : Plan} {v : Sorted} (z : Fitted s d
   -- an OPEN CHANNEL has its size in two bytes, and its transport level in three where one stands
   module _ (h : plan .handler ≡ Open) where
     o : plan .row .opening ≡ true
-    o = z .begun .planned .opening-is ∙ subst (λ (k : Handler). handles k (theDetails s .kind) ≡ true) h (z .begun .planned .kind-is)
+    o = z .begun .planned .opening-is ∙ subst (λ (k : Handler). handles k (theDetails s) ≡ true) h (z .begun .planned .kind-is)
 
     further-is : plan .row .further ≡ 0x39
     further-is = z .begun .planned .further-is ∙ ap furtherNumber h
@@ -200,16 +209,42 @@ module _ {s : List ℕ} {d : Details} {plan : Plan} {v : Sorted} (z : Fitted s d
       own-fits : lengthFits (ownNumber h) ownValue ≡ true
       own-fits = subst (λ (n : ℕ). lengthFits n ownValue ≡ true) number-is (ap (lengthFits (plan .row .own)) (sym own-part) ∙ needed-fits z (plan .row .own) needs-own)
 
-      handled : handles h (theDetails s .kind) ≡ true
-      handled = subst (λ (k : Handler). handles k (theDetails s .kind) ≡ true) eh (z .begun .planned .kind-is)
+      handled : handles h (theDetails s) ≡ true
+      handled = subst (λ (k : Handler). handles k (theDetails s) ≡ true) eh (z .begun .planned .kind-is)
 
       body-is : (k : ℕ) → theDetails s .kind ≡ k → theCommand s .body ≡ bodyIn (record { number = theDetails s .number; kind = k; qualifier = theDetails s .qualifier }) counts
       unfolding commandIn
       body-is k e = body-at (theDetails s) counts k e
 
+    -- a value of one byte, by its handler
+    one : (h : Handler) → plan .handler ≡ h → ownNumber h ≡ 0x24 → getD s (v .own - 1) 0 ≡ 1
+    unfolding lengthFits _⇒_else_
+    one h e n = own-size ∙ ap length own-part ∙ eqb-true (length ownValue) 1 (subst (λ (k : ℕ). lengthFits k ownValue ≡ true) n (own-fits h e))
+
+    -- the time of a start, in three bytes
+    module _ (h : plan .handler ≡ StartTimer) where
+      time-further : plan .row .further ≡ 0x25
+      time-further = z .begun .planned .further-is ∙ ap furtherNumber h
+
+      time-needed : member 0x25 (needed (plan .row)) ≡ true
+      time-needed = subst (λ (n : ℕ). member n (needed (plan .row)) ≡ true) time-further needs-further
+
+      time-stands : StandsAt (v .further) s 0x25
+      time-stands = subst (λ (n : ℕ). StandsAt (v .further) s n) time-further (z .begun .sorted .further)
+
+      time-three : length (valueOf 0x25 all) ≡ 3
+      unfolding lengthFits _⇒_else_
+      time-three = eqb-true (length (valueOf 0x25 all)) 3 (needed-fits z 0x25 time-needed)
+
+      time-within : v .further + 3 ≤ length s
+      time-within = stands-within time-stands time-three
+
+      time-is : valueOf 0x25 counts ≡ part (v .further) (v .further + 3) s
+      time-is = needed-value z 0x25 time-needed ∙ time-stands .value ∙ ap (λ (k : ℕ). part (v .further) (v .further + k) s) time-three
+
     -- the values that are asked with, type by type
     asked-body : (h : Handler) → plan .handler ≡ h → BodyIs h (asks h) s (theCommand s .body)
-    unfolding bodyIn lengthFits _⇒_else_
+    unfolding bodyIn isStart lengthFits _⇒_else_
     asked-body Bare e =
         each-member (λ (k : ℕ). theDetails s .kind ≡ k → theCommand s .body ≡ bare k) (theDetails s .kind) bareTypes
         (body-is Bare e 0x02, (body-is Bare e 0x44, tt)) (handled Bare e) refl
@@ -229,6 +264,20 @@ module _ {s : List ℕ} {d : Details} {plan : Plan} {v : Sorted} (z : Fitted s d
         let one = own-size ∙ ap length own-part ∙ eqb-true (length ownValue) 1 (own-fits Receive e) in
         (body-is Receive e 0x42 (eqb-true _ _ (handled Receive e)) ∙ ap (λ (l : List ℕ). receiveData (getD l 0 0)) (own-value Receive e) ∙ ap receiveData (part-first s (v .own) (getD s (v .own - 1) 0) (omega arith)), one)
     asked-body Send e = body-is Send e 0x43 (eqb-true _ _ (handled Send e)) ∙ ap sendData (own-value Send e)
+    asked-body StartTimer e =
+        let b = start-kind (theDetails s) (handled StartTimer e) in (
+          body-is StartTimer e 0x27 b ∙ stop _ _ _ (starts-at (theDetails s) (handled StartTimer e))
+              ∙ (λ i. startTimer ((ap (λ (l : List ℕ). getD l 0 0) (own-value StartTimer e) ∙ part-first s (v .own) (getD s (v .own - 1) 0) (omega (arith, one StartTimer e refl))) i) (time-is e i)),
+          one StartTimer e refl,
+          time-within e,
+        )
+    asked-body ManageTimer e =
+        let k = both-left (eqb (theDetails s .kind) 0x27) _ (handled ManageTimer e) in
+        let not-start = not-true (isStart (theDetails s)) (both-right (eqb (theDetails s .kind) 0x27) _ (handled ManageTimer e)) in (
+          body-is ManageTimer e 0x27 (eqb-true _ _ k) ∙ skip _ _ _ (starts-not-at (theDetails s) (eqb-true _ _ k) not-start)
+              ∙ ap manageTimer (ap (λ (l : List ℕ). getD l 0 0) (own-value ManageTimer e) ∙ part-first s (v .own) (getD s (v .own - 1) 0) (omega (arith, one ManageTimer e refl))),
+          one ManageTimer e refl,
+        )
 
     transport-placed : v .transport ≡ placeOrNone 0x3C s
     transport-placed =
@@ -245,7 +294,7 @@ module _ {s : List ℕ} {d : Details} {plan : Plan} {v : Sorted} (z : Fitted s d
         record {
           is = known-asked z right p ty;
           details = z .begun .details;
-          kind = subst (λ (x : Details). handles (plan .handler) (x .kind) ≡ true) (z .begun .details) (z .begun .planned .kind-is);
+          kind = subst (λ (x : Details). handles (plan .handler) x ≡ true) (z .begun .details) (z .begun .planned .kind-is);
           destination = destination-is;
           devices = right;
           body = asked-body (plan .handler) refl;

@@ -7,19 +7,22 @@ use mathlib.Core.List.{List, [], _∷_, map}
 use native.Mathlib.Omega.{arith}
 use types.Run.{OneOf}
 use lib.Dec.{ltb, leb, eqb}
-use borrow.Author.Tests.{ltb-true, leb-true, le-leb, lt-leb, eqb-true, eq-eqb}
+use borrow.Author.Tests.{ltb-true, leb-true, le-leb, lt-leb, eqb-true, eq-eqb, ne-eqb}
 use Rattle.rules.specs.declared.Details.{Details}
 use Rattle.rules.specs.Checks.{_⇒_else_, every, some-of, member}
 use Rattle.rules.specs.Profile.{profileSize, bit, allowsType}
 use Rattle.rules.specs.Table as rules
-use Rattle.rules.specs.Table.{table, rowAmong, rowOf, times, known}
-use Rattle.rules.proofs.Laws.{branch, stop, skip, both-left, both-right, or-right, either-left}
+use Rattle.rules.specs.Table.{table, rowAmong, rowOf, times, known, startRow}
+use Rattle.rules.proofs.Laws.{branch, stop, skip, both-left, both-right, or-right, either-left, both}
 use Rattle.profile.specs.declared.Place.{Place}
 use Rattle.command.specs.declared.Plan.{Plan}
 use Rattle.command.specs.declared.Row.{Row}
 use Rattle.command.specs.Plans.{handles, ownNumber, furtherNumber, needed, besidesBy, timesBy, PlaceFor, PlanOf}
 use Rattle.command.specs.Surveys.{slots, slotOf}
 use Rattle.command.proofs.Keys.{arm, out-keys, Outside, outside, every-member, no-member, all-true}
+use Rattle.rules.specs.Timers.{isStart, actionOf, askAction}
+use Rattle.command.specs.declared.Handler.the-variants.{StartTimer, ManageTimer}
+use Rattle.command.specs.declared.Handler.{Handler}
 
 -- the slot of a number that a row may have is its own
 abbrev pub has-slot : ℕ → Bool
@@ -64,7 +67,7 @@ row-has f t (r ∷ rs) z e =
 
 slotted : (d : Details) → row-all has-slot (rowOf d) ≡ true
 unfolding rowOf table every
-slotted d = row-has (row-all has-slot) (d .kind) table refl refl
+slotted d = branch (λ (r : rules.Row). row-all has-slot r ≡ true) (isStart d) _ _ (λ _. refl) (λ _. row-has (row-all has-slot) (d .kind) table refl refl)
 
 pub times-none : (d : Details) (n : ℕ) → has-slot n ≡ false → times (rowOf d) n ≡ 0
 times-none d n h = times-out has-slot (rowOf d) n (slotted d) h
@@ -163,12 +166,10 @@ same-true true false e = sym e
 same-true false true e = e
 same-true false false e = refl
 
--- what makes a plan that of a type
-abbrev tests : Plan → ℕ → List Bool
-tests p t =
-    let r = rowAmong t table in
+-- what makes a plan that of a type with that row
+abbrev tests : Plan → ℕ → rules.Row → List Bool
+tests p t r =
     known t ∷
-    handles (p .handler) t ∷
     eqb (p .row .own) (ownNumber (p .handler)) ∷
     eqb (p .row .further) (furtherNumber (p .handler)) ∷
     same (p .row .opening) (eqb t 0x40) ∷
@@ -179,30 +180,42 @@ tests p t =
     every (λ n. member n (needed (p .row))) (r .required) ∷
     []
 
-unfoldable pub rightly : Plan → ℕ → Bool
-rightly p t = every (λ (b : Bool). b) (tests p t)
+unfoldable pub rightly : Plan → ℕ → rules.Row → Bool
+rightly p t r = every (λ (b : Bool). b) (tests p t r)
 
-pub plan-right : (p : Plan) (d : Details) (k : ℕ) → d .kind ≡ k → PlaceFor (p .place) d → rightly p k ≡ true → PlanOf p d
-unfolding rightly rowOf
-plan-right p d k q place e =
+pub plan-right :
+    (p : Plan) (d : Details) (k : ℕ) (r : rules.Row) → d .kind ≡ k → rowOf d ≡ r → handles (p .handler) d ≡ true → PlaceFor (p .place) d →
+    rightly p k r ≡ true → PlanOf p d
+unfolding rightly
+plan-right p d k r q row-is handled place e =
     let t = d .kind in
-    let w = all-true (tests p t) (ap (rightly p) q ∙ e) in
-    let x = w .1 .1 .1 in
+    let w = all-true (tests p t (rowOf d)) ((λ i. rightly p (q i) (row-is i)) ∙ e) in
+    let x = w .1 .1 in
     let y = x .1 .1 in
     record {
       known-is = w .0;
-      kind-is = w .1 .0;
-      own-is = eqb-true (p .row .own) (ownNumber (p .handler)) (w .1 .1 .0);
+      kind-is = handled;
+      own-is = eqb-true (p .row .own) (ownNumber (p .handler)) (w .1 .0);
       further-is = eqb-true (p .row .further) (furtherNumber (p .handler)) (x .0);
       opening-is = same-true (p .row .opening) (eqb t 0x40) (x .1 .0);
       place = place;
       row =
           record {
-            times-are = times-alike (p .row) (rowAmong t table) (y .0) (y .1 .0) (y .1 .1 .0);
+            times-are = times-alike (p .row) (rowOf d) (y .0) (y .1 .0) (y .1 .1 .0);
             required = y .1 .1 .1 .0;
             looked-for = y .1 .1 .1 .1 .0;
           };
     }
+
+-- the row and the handler of a type whose row does not go by the qualifier
+abbrev at-kind : Details → ℕ → Details
+at-kind d k = record { number = d .number; kind = k; qualifier = d .qualifier }
+
+pub plan-plain :
+    (p : Plan) (d : Details) (k : ℕ) → d .kind ≡ k → PlaceFor (p .place) d → rowOf (at-kind d k) ≡ rowAmong k table → handles (p .handler) (at-kind d k) ≡ true →
+    rightly p k (rowAmong k table) ≡ true → PlanOf p d
+plan-plain p d k q place row handled e =
+    plan-right p d k (rowAmong k table) q ((λ i. rowOf (at-kind d (q i))) ∙ row) ((λ i. handles (p .handler) (at-kind d (q i))) ∙ handled) place e
 
 -- a place that is written out for one type
 pub place-at :
@@ -219,9 +232,40 @@ place-at p d t e is tried =
       bit-high = leb-true (p .bit) 8 (w .1 .1 .1 .0);
     }
 
+-- the place of a timer: asking has its own bit
+pub timer-place :
+    (d : Details) (b : ℕ) → d .kind ≡ 0x27 → b ≡ (eqb (actionOf (d .qualifier)) askAction ⇒ 2 else 1) → PlaceFor (record { byte = 8; bit = b }) d
+unfolding allowsType _⇒_else_
+timer-place d b k e =
+    let few = branch (λ (n : ℕ). (1 ≤ n) × (n ≤ 2)) (eqb (actionOf (d .qualifier)) askAction) 2 1 (λ _. (omega arith, omega arith)) (λ _. (omega arith, omega arith)) in
+    record {
+      is = λ q. ap (bit q 8) e ∙ sym (λ i. allowsType q (record { number = d .number; kind = k i; qualifier = d .qualifier }));
+      byte-low = omega arith;
+      byte-high = omega arith;
+      bit-low = omega (arith, few .0, e);
+      bit-high = omega (arith, few .1, e);
+    }
+
+-- the plan of a start and that of all else that is done with a timer
+pub start-plan :
+    (p : Plan) (d : Details) → d .kind ≡ 0x27 → actionOf (d .qualifier) ≡ 0 → p .handler ≡ StartTimer → PlaceFor (p .place) d → rightly p 0x27 startRow ≡ true → PlanOf p d
+unfolding rowOf isStart
+start-plan p d k a h place e =
+    let start : isStart d ≡ true = both (eqb (d .kind) 0x27) _ (eq-eqb (d .kind) 0x27 k) (eq-eqb (actionOf (d .qualifier)) 0 a) in
+    plan-right p d 0x27 startRow k (stop _ _ _ start) (ap (λ (x : Handler). handles x d) h ∙ start) place e
+
+pub manage-plan :
+    (p : Plan) (d : Details) → d .kind ≡ 0x27 → (actionOf (d .qualifier) ≡ 0 → ⊥) → p .handler ≡ ManageTimer → PlaceFor (p .place) d →
+    rightly p 0x27 (rowAmong 0x27 table) ≡ true → PlanOf p d
+unfolding rowOf isStart
+manage-plan p d k a h place e =
+    let none : isStart d ≡ false = (λ i. eq-eqb (d .kind) 0x27 k i && ne-eqb (actionOf (d .qualifier)) 0 a i) in
+    plan-right p d 0x27 (rowAmong 0x27 table) k (skip _ _ _ none ∙ ap (λ (t : ℕ). rowAmong t table) k)
+    (ap (λ (x : Handler). handles x d) h ∙ (λ i. eq-eqb (d .kind) 0x27 k i && not (none i))) place e
+
 -- the types that have a plan: those that have an arm of their own, and the range
 abbrev alone : List ℕ
-alone = 0x02 ∷ 0x05 ∷ []
+alone = 0x02 ∷ 0x05 ∷ 0x27 ∷ []
 
 abbrev planned : ℕ → Bool
 planned t = member t alone || (leb 0x40 t && leb t 0x44)

@@ -1,30 +1,33 @@
 -- What a plan says of a type.
 use Prim.Native.Nat.{ℕ, _≤_}
 use mathlib.Core.Path.{_≡_}
-use mathlib.Core.Bool.{true, false, Bool}
+use mathlib.Core.Bool.{true, false, Bool, not, _&&_}
 use mathlib.Core.List.{List, [], _∷_}
 use lib.Dec.{eqb}
 use Rattle.rules.specs.declared.Details.{Details}
 use Rattle.rules.specs.Checks.{_⇒_else_, every, member}
+use Rattle.rules.specs.Timers.{isStart}
 use Rattle.rules.specs.Profile.{profileSize, bit, allowsType}
 use Rattle.rules.specs.Table.{known, rowOf, times}
 use Rattle.rules.specs.Own.{bareTypes}
 use Rattle.command.specs.declared.Handler.{Handler}
-use Rattle.command.specs.declared.Handler.the-variants.{Bare, EventList, Open, Close, Receive, Send}
+use Rattle.command.specs.declared.Handler.the-variants.{Bare, EventList, Open, Close, Receive, Send, StartTimer, ManageTimer}
 use Rattle.profile.specs.declared.Place.{Place}
 use Rattle.command.specs.declared.Row.{Row}
 use Rattle.command.specs.declared.Plan.{Plan}
 use Rattle.command.specs.declared.Planned.{Planned}
 use Rattle.command.specs.declared.Planned.the-variants.{Of, Unknown}
 
--- a handler has a type
-abbrev pub handles : Handler → ℕ → Bool
-handles Bare t = member t bareTypes
-handles EventList t = eqb t 0x05
-handles Open t = eqb t 0x40
-handles Close t = eqb t 0x41
-handles Receive t = eqb t 0x42
-handles Send t = eqb t 0x43
+-- a handler is for commands with such details
+abbrev pub handles : Handler → Details → Bool
+handles Bare d = member (d .kind) bareTypes
+handles EventList d = eqb (d .kind) 0x05
+handles Open d = eqb (d .kind) 0x40
+handles Close d = eqb (d .kind) 0x41
+handles Receive d = eqb (d .kind) 0x42
+handles Send d = eqb (d .kind) 0x43
+handles StartTimer d = isStart d
+handles ManageTimer d = eqb (d .kind) 0x27 && not (isStart d)
 
 -- the required object that carries a type's own value, and the further one; 02 where there is none
 abbrev pub ownNumber : Handler → ℕ
@@ -34,6 +37,8 @@ ownNumber Open = 0x35
 ownNumber Close = 0x02
 ownNumber Receive = 0x37
 ownNumber Send = 0x36
+ownNumber StartTimer = 0x24
+ownNumber ManageTimer = 0x24
 
 abbrev pub furtherNumber : Handler → ℕ
 furtherNumber Bare = 0x02
@@ -42,6 +47,8 @@ furtherNumber Open = 0x39
 furtherNumber Close = 0x02
 furtherNumber Receive = 0x02
 furtherNumber Send = 0x02
+furtherNumber StartTimer = 0x25
+furtherNumber ManageTimer = 0x02
 
 -- the objects that a row requires
 abbrev pub needed : Row → List ℕ
@@ -75,7 +82,7 @@ pub record PlaceFor (p : Place) (d : Details) : Type 0 where
 -- the plan is that of a command with these details
 pub record PlanOf (p : Plan) (d : Details) : Type 0 where
   pub known-is : known (d .kind) ≡ true
-  pub kind-is : handles (p .handler) (d .kind) ≡ true
+  pub kind-is : handles (p .handler) d ≡ true
   pub own-is : p .row .own ≡ ownNumber (p .handler)
   pub further-is : p .row .further ≡ furtherNumber (p .handler)
   pub opening-is : p .row .opening ≡ eqb (d .kind) 0x40

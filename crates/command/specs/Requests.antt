@@ -11,7 +11,7 @@ use Rattle.rules.specs.Checks.{_⇒_else_, isEmpty}
 use Rattle.rules.specs.Frames.{framed, contents, walk}
 use Rattle.rules.specs.Profile.{allowsType}
 use Rattle.rules.specs.Table.{known, rowOf, Sifted, sift, present, valueOf, complete, bearerFits}
-use Rattle.rules.specs.Reading.{wrong, asked, Command, Body, Transport, bare, eventList, openChannel, closeChannel, receiveData, sendData, bearerIn, zeros, detailsIn, commandIn, startsWithDetails, isFault, addressed, readObjects}
+use Rattle.rules.specs.Reading.{wrong, asked, Command, Body, Transport, bare, eventList, openChannel, closeChannel, receiveData, sendData, startTimer, manageTimer, bearerIn, zeros, detailsIn, commandIn, startsWithDetails, isFault, addressed, readObjects}
 use Rattle.rules.specs.Own.{protocolOf}
 use Rattle.octets.specs.Parts.{part}
 use Rattle.objects.specs.Places.{Stands, placeOf}
@@ -20,7 +20,7 @@ use Rattle.command.specs.declared.First.the-variants.{Told, Absent}
 use Rattle.command.specs.declared.Framed.{Framed}
 use Rattle.command.specs.declared.Framed.the-variants.{At, Not}
 use Rattle.command.specs.declared.Handler.{Handler}
-use Rattle.command.specs.declared.Handler.the-variants.{Bare, EventList, Open, Close, Receive, Send}
+use Rattle.command.specs.declared.Handler.the-variants.{Bare, EventList, Open, Close, Receive, Send, StartTimer, ManageTimer}
 use Rattle.command.specs.declared.Plan.{Plan}
 use Rattle.command.specs.declared.Read.{Read}
 use Rattle.command.specs.declared.Read.the-variants.{Wrong, Asked}
@@ -77,6 +77,8 @@ BodyIs Open q s b = Opens q s b
 BodyIs Close q s b = b ≡ closeChannel
 BodyIs Receive q s b = (b ≡ receiveData (getD s (q .start) 0)) × (q .len ≡ 1)
 BodyIs Send q s b = b ≡ sendData (own q s)
+BodyIs StartTimer q s b = (b ≡ startTimer (getD s (q .start) 0) (part (q .further) (q .further + 3) s)) × (q .len ≡ 1) × (q .further + 3 ≤ length s)
+BodyIs ManageTimer q s b = (b ≡ manageTimer (getD s (q .start) 0)) × (q .len ≡ 1)
 
 -- where the value of the first object of a number starts; 0 where none stands
 abbrev pub placeOrNone : ℕ → List ℕ → ℕ
@@ -86,7 +88,7 @@ placeOrNone n s = present n (walk s .objects) ⇒ placeOf n s else 0
 pub record AskedFor (q : Request) (p s : List ℕ) : Type 0 where
   pub is : readObjects p s ≡ asked (theCommand s) (q .ignored)
   pub details : theDetails s ≡ q .details
-  pub kind : handles (q .handler) (q .details .kind) ≡ true
+  pub kind : handles (q .handler) (q .details) ≡ true
   pub destination : theCommand s .destination ≡ q .destination
   pub devices : addressed (theDetails s .kind) (theCommand s .source) (theCommand s .destination) ≡ true
   pub body : BodyIs (q .handler) q s (theCommand s .body)

@@ -17,7 +17,9 @@ ghost use mathlib.Core.Bool.{true, false};
 ghost use mathlib.Core.List.{List};
 ghost use Prim.Native.Nat.{ℕ, _+_, _-_, _≤_, _<_};
 ghost use lib.ListN.{length};
+ghost use lib.Dec.{eqb};
 ghost use Rattle.rules.specs.Checks.{_⇒_else_, member};
+ghost use Rattle.rules.specs.Timers.{actionOf, askAction};
 ghost use Rattle.rules.specs.Profile.{profileSize};
 ghost use Rattle.rules.specs.Table.{known, bearerFits, lengthFits};
 ghost use Rattle.octets.specs.Parts.{part};
@@ -40,6 +42,10 @@ const TEXT: u16 = 0x0D;
 const EVENTS: u16 = 0x19;
 
 const ICON: u16 = 0x1E;
+
+const TIMER: u16 = 0x24;
+
+const TIME: u16 = 0x25;
 
 const BEARER: u16 = 0x35;
 
@@ -66,6 +72,8 @@ pub enum Handler {
     Close,
     Receive,
     Send,
+    StartTimer,
+    ManageTimer,
 }
 
 // The objects of a type: the two that it requires besides 01 and 02, which is 02 again where there is none, whether 05 and 1E may stand, and whether those of OPEN CHANNEL may.
@@ -91,7 +99,7 @@ struct Plan {
     row: Row,
 }
 
-// The plan of a type, or none where it is not one of the seven.
+// The plan of a type, or none where it is not one of the table.
 enum Planned {
     Of(Plan),
     Unknown,
@@ -169,6 +177,56 @@ fn channel_plan(d: Details) -> Plan
     }
 }
 
+// What is done with a timer, by the qualifier's two low bits: a start, and an ask.
+const ACTIONS: u8 = 4;
+
+const START: u8 = 0;
+
+const ASK: u8 = 2;
+
+// The bit of byte 8 that allows what a qualifier does with a timer: asking has its own.
+fn timer_bit(qualifier: u8) -> u8
+    ensures { λ r. ⌜ r ≡ (eqb (actionOf qualifier) askAction ⇒ 2 else 1) ⌝ }
+{
+    if qualifier % ACTIONS == ASK {
+        return 2;
+    }
+    1
+}
+
+// The plan of TIMER MANAGEMENT: a start requires the time too.
+fn timer_plan(d: Details) -> Plan
+    requires { ⌜ d .kind ≡ 0x27 ⌝ }
+    ensures { λ r. ⌜ PlanOf r d ⌝ }
+{
+    let place = Place {
+        byte: 8,
+        bit: timer_bit(d.qualifier),
+    };
+    if d.qualifier % ACTIONS == START {
+        return Plan {
+            handler: Handler::StartTimer,
+            place,
+            row: Row {
+                own: TIMER,
+                further: TIME,
+                named: false,
+                opening: false,
+            },
+        };
+    }
+    Plan {
+        handler: Handler::ManageTimer,
+        place,
+        row: Row {
+            own: TIMER,
+            further: DEVICES,
+            named: false,
+            opening: false,
+        },
+    }
+}
+
 // The plan of a command with these details.
 fn plan_of(d: Details) -> Planned
     ensures { λ r. ⌜ Plans r d ⌝ }
@@ -190,6 +248,7 @@ fn plan_of(d: Details) -> Planned
                 opening: false,
             },
         }),
+        0x27 => Planned::Of(timer_plan(d)),
         0x40..=0x44 => Planned::Of(channel_plan(d)),
         _ => Planned::Unknown,
     }
@@ -271,9 +330,9 @@ fn fits(number: u16, s: &[u8], start: usize, len: usize) -> bool
     ensures { λ r. ⌜ r ≡ lengthFits number (part start (start + len) (now (s .entry))) ⌝ }
 {
     match number {
-        DETAILS | TRANSPORT => len == 3,
+        DETAILS | TIME | TRANSPORT => len == 3,
         DEVICES | DURATION | ICON | SIZE => len == 2,
-        COUNT => len == 1,
+        TIMER | COUNT => len == 1,
         BEARER => bearer_fits(s, start, len),
         _ => true,
     }
@@ -485,7 +544,7 @@ fn read_known(s: &[u8], d: Details, plan: Plan, v: Sorted) -> Read
     settle(s, d, plan, v)
 }
 
-// Steps 4 and 5 of a command whose type is not one of the seven.
+// Steps 4 and 5 of a command whose type is not one of the table.
 fn read_unknown(s: &[u8], d: Details) -> Read
     requires { ⌜ Detailed (now s) d × (known (d .kind) ≡ false) ⌝ }
     ensures { λ r. ⌜ ((p : List ℕ) → Reads r p (now (s .entry))) ⌝ }

@@ -10,6 +10,7 @@ use lib.Seq.{drop-cons}
 use lib.Dec.{leb}
 use borrow.Author.Tests.{le-leb, lt-leb}
 use Rattle.rules.specs.Checks.{_⇒_else_}
+use Rattle.rules.specs.Timers.{timerCount}
 use Rattle.rules.specs.Profile.{profileSize}
 use Rattle.rules.specs.State.{State, closed, isOpen}
 use Rattle.rules.specs.Own.{openBefore}
@@ -59,14 +60,14 @@ module _ (t : List ℕ) (n : ℕ) where
       omega arith
 
 -- it is the count of the state whose ledger it is
-from-entries : (a : State) → length (a .profile) ≡ profileSize → (k m : ℕ) → k + m ≤ length (a .chans) → openFrom (ledgerOf a) k m ≡ openBefore m (drop k (a .chans))
+from-entries : (a : State) → length (a .profile) ≡ profileSize → length (a .timers) ≡ timerCount → (k m : ℕ) → k + m ≤ length (a .chans) → openFrom (ledgerOf a) k m ≡ openBefore m (drop k (a .chans))
 unfolding openFrom openBefore isOpen
-from-entries a h k zero e = refl
-from-entries a h k (suc m) e =
-    let later = from-entries a h (k + 1) m (omega arith) ∙ ap (λ (j : ℕ). openBefore m (drop j (a .chans))) (add-one k) in
-    (λ i. leb 1 (grant-read a h k i) ⇒ suc (later i) else 0)
+from-entries a h g k zero e = refl
+from-entries a h g k (suc m) e =
+    let later = from-entries a h g (k + 1) m (omega arith) ∙ ap (λ (j : ℕ). openBefore m (drop j (a .chans))) (add-one k) in
+    (λ i. leb 1 (grant-read a h g k i) ⇒ suc (later i) else 0)
     ∙ sym (ap (openBefore (suc m)) (drop-cons (a .chans) k closed (omega arith)))
 
 pub open-shown : (t p : List ℕ) → GoodIn t p → (n : ℕ) → n ≤ 7 → openFrom t 0 n ≡ openBefore n (shown t p .chans)
 open-shown t p g n h =
-    ap (λ (u : List ℕ). openFrom u 0 n) (g .shows .ledger) ∙ from-entries (shown t p) (g .sound .thirteen) 0 n (omega (arith, g .sound .seven))
+    ap (λ (u : List ℕ). openFrom u 0 n) (g .shows .ledger) ∙ from-entries (shown t p) (g .sound .thirteen) (g .sound .eight) 0 n (omega (arith, g .sound .seven))

@@ -27,7 +27,7 @@ use Rattle.own.proofs.Replies.{told-answers, left-answers, plain-stands
 -- a state with another event list is as sound
 events-sound : (a : State) (e : Events) → Sound a → Sound (withEvents a e)
 unfolding promised
-events-sound a e h = record { thirteen = h .thirteen; seven = h .seven; each = h .each; within = h .within }
+events-sound a e h = record { thirteen = h .thirteen; seven = h .seven; each = h .each; within = h .within; eight = h .eight; timed = h .timed }
 
 module _ (t p es : List ℕ) (i : Bool) (all : Bool) (f : all ≡ every (allowsEvent t) es) (g : GoodIn t p) (d : Details) (k : ℕ) (before after : List ℕ) where
   -- the profile is the front of the ledger

@@ -100,7 +100,7 @@ nothing-arrives : (a : State) (n : ChannelNumber) (s : List ℕ) → length s �
 unfolding withChan chan
 nothing-arrives a n [] e =
     ap (λ (c : Chan). withChan a n c) (arrived-nothing (chan a n))
-    ∙ (λ i. record { profile = a .profile; events = a .events; chans = set-getD (a .chans) (n .0 - 1) closed i })
+    ∙ (λ i. record { profile = a .profile; events = a .events; chans = set-getD (a .chans) (n .0 - 1) closed i; timers = a .timers })
 nothing-arrives a n (x ∷ s) e = absurd (let z : suc (length s) ≡ 0 = e in omega arith)
 
 -- R11 of the places: bytes need one, and no bytes need none

@@ -8,6 +8,10 @@ use Rattle.responses.proofs.tell_problem.Kinds as tell-problem-kinds
 use Rattle.responses.proofs.tell_problem.Reads as tell-problem-reads
 use Rattle.responses.proofs.tell_sent.Kinds as tell-sent-kinds
 use Rattle.responses.proofs.tell_sent.Reads as tell-sent-reads
+use Rattle.responses.proofs.tell_started.Kinds as tell-started-kinds
+use Rattle.responses.proofs.tell_started.Reads as tell-started-reads
+use Rattle.responses.proofs.tell_left.Kinds as tell-left-kinds
+use Rattle.responses.proofs.tell_left.Reads as tell-left-reads
 use Rattle.responses.proofs.tell_received.Kinds as tell-received-kinds
 use Rattle.responses.proofs.tell_received.Reads as tell-received-reads
 use Rattle.responses.proofs.tell_opened.Kinds as tell-opened-kinds
@@ -23,6 +27,12 @@ tell-problem-settled κs a _ x y v w p q = (count-alike p q, λ i. (out-alike p 
 
 pub tell-sent-settled : Determined 1 tell-sent-kinds.ps tell-sent-kinds.r tell-sent-reads.Pre tell-sent-reads.Post
 tell-sent-settled κs a _ x y v w p q = (count-alike p q, λ i. (out-alike p q i, v .1))
+
+pub tell-started-settled : Determined 1 tell-started-kinds.ps tell-started-kinds.r tell-started-reads.Pre tell-started-reads.Post
+tell-started-settled κs a _ x y v w p q = (count-alike p q, λ i. (out-alike p q i, v .1))
+
+pub tell-left-settled : Determined 1 tell-left-kinds.ps tell-left-kinds.r tell-left-reads.Pre tell-left-reads.Post
+tell-left-settled κs a _ x y v w p q = (count-alike p q, λ i. (out-alike p q i, v .1))
 
 pub tell-received-settled : Determined 2 tell-received-kinds.ps tell-received-kinds.r tell-received-reads.Pre tell-received-reads.Post
 tell-received-settled κs a _ x y v w p q = (count-alike p q, λ i. (out-alike p q i, v .1))

@@ -16,6 +16,7 @@ use Rattle.rules.specs.declared.Link.{Link}
 use Rattle.rules.specs.declared.Link.the-variants.{NotYet, Established, Dropped}
 use Rattle.rules.specs.Checks.{_⇒_else_}
 use Rattle.rules.specs.Frames.{lengthBytes, objectBytes, written}
+use Rattle.rules.specs.Timers.{timerCount}
 use Rattle.rules.specs.Profile.{profileSize}
 use Rattle.rules.specs.State.{State, closed, isOpen}
 use Rattle.rules.specs.Own.{Status, error, done, statuses, reports, statusesFrom}
@@ -201,18 +202,18 @@ module _ (d : Details) (x : ℕ) (t : List ℕ) (before : List ℕ) (head : ℕ)
       (more (response d (error x) ++ bytesOf ss) (0x38 ∷ 0x02 ∷ 0x00 ∷ 0x00 ∷ []) at (at + 4) before out after text-stands refl (omega arith) e)
 
 -- the statuses that the ledger tells are those of the state whose ledger it is
-from-entries : (a : State) → length (a .profile) ≡ profileSize → (k m : ℕ) → k + m ≡ length (a .chans) → statusesIn (ledgerOf a) k m ≡ statusesFrom (k + 1) (drop k (a .chans))
+from-entries : (a : State) → length (a .profile) ≡ profileSize → length (a .timers) ≡ timerCount → (k m : ℕ) → k + m ≡ length (a .chans) → statusesIn (ledgerOf a) k m ≡ statusesFrom (k + 1) (drop k (a .chans))
 unfolding statusesIn statusesFrom isOpen
-from-entries a h k zero e =
+from-entries a h g k zero e =
     sym (ap (statusesFrom (k + 1)) (ap (λ (j : ℕ). drop j (a .chans)) (let q : k ≡ length (a .chans) = omega arith in q) ∙ drop-length (a .chans)))
-from-entries a h k (suc m) e =
+from-entries a h g k (suc m) e =
     let c = getD (a .chans) k closed in
-    let l = ap linkOf (link-read a h k) ∙ link-back (c .link) in
-    let later = from-entries a h (k + 1) m (omega arith) ∙ ap (λ (j : ℕ). statusesFrom (k + 1 + 1) (drop j (a .chans))) (add-one k) in
-    (λ i. leb 1 (grant-read a h k i) ⇒ record { number = record { 0 = k + 1 }; link = l i } ∷ later i else later i)
+    let l = ap linkOf (link-read a h g k) ∙ link-back (c .link) in
+    let later = from-entries a h g (k + 1) m (omega arith) ∙ ap (λ (j : ℕ). statusesFrom (k + 1 + 1) (drop j (a .chans))) (add-one k) in
+    (λ i. leb 1 (grant-read a h g k i) ⇒ record { number = record { 0 = k + 1 }; link = l i } ∷ later i else later i)
     ∙ sym (ap (statusesFrom (k + 1)) (drop-cons (a .chans) k closed (omega arith)))
 
 -- and so those of the state that a good session shows
 pub statuses-shown : (t p : List ℕ) → GoodIn t p → statusesIn t 0 7 ≡ statusesFrom 1 (shown t p .chans)
 statuses-shown t p g =
-    ap (λ (u : List ℕ). statusesIn u 0 7) (g .shows .ledger) ∙ from-entries (shown t p) (g .sound .thirteen) 0 7 (sym (g .sound .seven))
+    ap (λ (u : List ℕ). statusesIn u 0 7) (g .shows .ledger) ∙ from-entries (shown t p) (g .sound .thirteen) (g .sound .eight) 0 7 (sym (g .sound .seven))

@@ -13,13 +13,15 @@ use Rattle.rules.specs.declared.Link.the-variants.{NotYet, Established, Dropped
 use Rattle.rules.specs.Checks.{_⇒_else_}
 use Rattle.rules.specs.Frames.{lengthBytes, objectBytes, written}
 use Rattle.rules.specs.Reading.{Bearer, bearerIn}
-use Rattle.rules.specs.Own.{Further, error, problem, done, opened, received, sent}
-use Rattle.rules.specs.Written.{detailsBytes, bearerBytes, pairBytes, statusBytes, statusObject, furtherObjects, resultBytes, resultObjects, responseObjects, responseBytes}
+use Rattle.rules.specs.Own.{Further, error, problem, done, opened, received, sent, started, leaves}
+use Rattle.rules.specs.Written.{detailsBytes, bearerBytes, pairBytes, statusBytes, statusObject, furtherObjects, resultBytes, resultObjects, responseObjects, responseBytes, timerObject, timeObject}
 use Rattle.rules.proofs.Sizes.{length-bytes}
 use Rattle.octets.specs.Parts.{part, pasted}
 use Rattle.octets.proofs.Pastes.{paste-after, length-pasted, front-over}
 use Rattle.objects.proofs.Writing.{short-length}
 use Rattle.responses.specs.Filled.{response, Filled}
+use Rattle.rules.specs.Timers.{timeBytes}
+use Rattle.rules.specs.declared.Time.{Time}
 
 -- the head of a response, and that of one with a cause
 pub head-stands :
@@ -78,15 +80,29 @@ after-head d x n before out k h w =
     let z = h .counted ∙ head-size d x in
     fits-behind (response d (error x)) n k before out h (omega arith)
 
--- the room behind the head of an answer to SEND DATA
-pub sent-stands :
-    (d : Details) (x room n : ℕ) (before out after : List ℕ) → Filled (response d (error x)) n before out → 15 ≤ length before →
-    after ≡ pasted out n (0x37 ∷ 0x01 ∷ room ∷ []) → Filled (response d (done x (sent room))) (n + 3) before after
-unfolding furtherObjects written objectBytes lengthBytes _⇒_else_
-sent-stands d x room n before out after h w e =
+-- what follows a result, put behind its head
+pub follows-stands :
+    (d : Details) (x : ℕ) (f : Further) (s : List ℕ) (n m : ℕ) (before out after : List ℕ) → written (furtherObjects f) ≡ s → m ≡ n + length s →
+    Filled (response d (error x)) n before out → 12 + length s ≤ length before → after ≡ pasted out n s → Filled (response d (done x f)) m before after
+follows-stands d x f s n m before out after is c h w e =
     let z = h .counted ∙ head-size d x in
-    subst (λ (t : List ℕ). Filled t (n + 3) before after) (sym (behind-head d x (sent room)))
-    (more (response d (error x)) (0x37 ∷ 0x01 ∷ room ∷ []) n (n + 3) before out after h refl (omega arith) e)
+    subst (λ (t : List ℕ). Filled t m before after) (sym (behind-head d x f ∙ ap (λ (t : List ℕ). response d (error x) ++ t) is))
+    (more (response d (error x)) s n m before out after h c (omega arith) e)
+
+-- the room of an answer to SEND DATA, the timer that was started, and a timer with its time
+pub sent-is : (room : ℕ) → written (furtherObjects (sent room)) ≡ 0x37 ∷ 0x01 ∷ room ∷ []
+unfolding furtherObjects written objectBytes lengthBytes _⇒_else_
+sent-is room = refl
+
+pub started-is : (n : ℕ) → written (furtherObjects (started n)) ≡ 0x24 ∷ 0x01 ∷ n ∷ []
+unfolding furtherObjects timerObject written objectBytes lengthBytes _⇒_else_
+started-is n = refl
+
+pub left-is :
+    (n : ℕ) (t : Time) (b : List ℕ) → b ≡ timeBytes t →
+    written (furtherObjects (leaves n t)) ≡ 0x24 ∷ 0x01 ∷ n ∷ 0x25 ∷ 0x03 ∷ getD b 0 0 ∷ getD b 1 0 ∷ getD b 2 0 ∷ []
+unfolding furtherObjects timerObject timeObject timeBytes written objectBytes lengthBytes _⇒_else_
+left-is n t b e = ap (λ (v : List ℕ). 0x24 ∷ 0x01 ∷ n ∷ 0x25 ∷ 0x03 ∷ getD v 0 0 ∷ getD v 1 0 ∷ getD v 2 0 ∷ []) (sym e)
 
 -- three pieces behind a head: a up to m, then s of k bytes, then z
 module _ (d : Details) (x n m k : ℕ) (a s z before out after : List ℕ) (h : Filled (response d (error x)) n before out) (y : length s ≡ k)

@@ -5,16 +5,20 @@ use rules::ChannelNumber;
 use rules::Details;
 use rules::Link;
 use rules::Results;
+use rules::Time;
 use session::Ledger;
 use session::entry;
 use session::link_of;
+use times::time_bytes;
 ghost use mathlib.Core.Path.{_≡_};
+ghost use mathlib.Core.Bool.{true};
 ghost use Prim.Native.Nat.{_+_, _-_, _≤_, _<_};
 ghost use lib.ListN.{length};
 ghost use Rattle.octets.specs.Parts.{part, pasted};
 ghost use Rattle.rules.specs.Frames.{objectBytes};
 ghost use Rattle.rules.specs.Reading.{bearerIn};
-ghost use Rattle.rules.specs.Own.{error, problem, done, opened, received, sent, statuses, reports};
+ghost use Rattle.rules.specs.Own.{error, problem, done, opened, received, sent, started, leaves, statuses, reports};
+ghost use Rattle.rules.specs.Timers.{ofDay};
 ghost use Rattle.rules.specs.Written.{statusBytes, statusObject};
 ghost use Rattle.session.specs.Book.{ledgerSize};
 ghost use Rattle.session.specs.Picture.{linkOf};
@@ -76,6 +80,29 @@ pub fn tell_sent(out: &mut [u8], d: Details, result: u8, room: u8) -> usize
     let further = [0x37u8, 0x01, room];
     octets::put(out, at, &further);
     at + 3
+}
+
+// Writes the answer to the start of a timer: a result and the timer.
+pub fn tell_started(out: &mut [u8], d: Details, result: u8, n: u8) -> usize
+    requires { ⌜ 15 ≤ length (now out) ⌝ }
+    ensures { λ r. ⌜ Filled (response d (done result (started n))) r (now (out .entry)) (now (out .exit)) ⌝ }
+{
+    let at = tell_result(out, d, result);
+    let further = [0x24u8, 0x01, n];
+    octets::put(out, at, &further);
+    at + 3
+}
+
+// Writes the answer to a stop or an ask: a result, the timer and the time left.
+pub fn tell_left(out: &mut [u8], d: Details, result: u8, n: u8, left: Time) -> usize
+    requires { ⌜ (20 ≤ length (now out)) × (ofDay left ≡ true) ⌝ }
+    ensures { λ r. ⌜ Filled (response d (done result (leaves n left))) r (now (out .entry)) (now (out .exit)) ⌝ }
+{
+    let at = tell_result(out, d, result);
+    let time = time_bytes(left);
+    let further = [0x24u8, 0x01, n, 0x25, 0x03, time[0], time[1], time[2]];
+    octets::put(out, at, &further);
+    at + 8
 }
 
 // Writes the answer to RECEIVE DATA: a result, bytes straight from the pool, and the count of those left.

@@ -12,15 +12,15 @@ use Rattle.rules.specs.declared.Refusal.the-variants.{Overfull, NoPlace}
 use Rattle.rules.specs.Words.{channelOf}
 use Rattle.rules.specs.declared.Way.the-variants.{Receive, Send}
 use Rattle.rules.specs.State.{State, Chan, isOpen, isDropped, chan, withChan, room, held, arrived, removed, crowded}
-use Rattle.rules.specs.Reading.{Reading, wrong, asked, reading, Command, Body, bare, eventList, openChannel, closeChannel, receiveData, sendData}
-use Rattle.rules.specs.Own.{Reply, reply, Result, Further, nothing, opened, received, sent, error, problem, done, capped, sending, own, protocolOf, reports}
+use Rattle.rules.specs.Reading.{Reading, wrong, asked, reading, Command, Body, bare, eventList, openChannel, closeChannel, receiveData, sendData, startTimer, manageTimer}
+use Rattle.rules.specs.Own.{Reply, reply, Result, Further, nothing, opened, received, sent, started, leaves, error, problem, done, capped, sending, own, protocolOf, reports}
 use Rattle.rules.specs.Command.{Answer, Meant, answered, refusal, Outcome, wrote, refused, command, meantBy, Terms}
 use Rattle.rules.specs.Radio.{arrival, arrivalEvent}
 use Rattle.rules.specs.Run.{Call, step}
 use Rattle.rules.specs.History.{commandSeen}
 use Rattle.rules.specs.Demands.{accepted, isDone}
 use Rattle.rules.proofs.Laws.{branch, skip}
-use Rattle.rules.proofs.Cases.{Linked, command-cases, listing-cases, opening-cases, closing-cases, receiving-cases, sending-cases, telling-cases}
+use Rattle.rules.proofs.Cases.{Linked, command-cases, listing-cases, opening-cases, closing-cases, receiving-cases, sending-cases, starting-timer-cases, managing-timer-cases, telling-cases}
 use Rattle.rules.proofs.Readings.{reading-cases}
 use Rattle.rules.proofs.Refusals.{refusal-stays}
 use Rattle.rules.proofs.Told.{open-changed}
@@ -76,6 +76,8 @@ own-undone a c (receiveData r) i =
     receiving-cases (Undone-stays a) a (λ _ _ _. refl) (channelOf (c .destination)) r i (λ _ _ _ e. absurd (true≢false e))
 own-undone a c (sendData s) i =
     sending-cases (Undone-stays a) a (λ _ _ _. refl) (c .qualifier) (channelOf (c .destination)) s i (λ _ _ _ _ _ _ e. absurd (true≢false e))
+own-undone a c (startTimer n v) i = starting-timer-cases (Undone-stays a) a n v i (λ _. refl) (λ _ _ _ e. absurd (true≢false e))
+own-undone a c (manageTimer n) i = managing-timer-cases (Undone-stays a) a (c .qualifier) n i (λ _. refl) (λ _ _. refl) (λ _ _ _ _ _ e. absurd (true≢false e))
 
 -- a command that is not done changes nothing
 pub undone-stays : (a : State) (r : Reading) → isDone (meantBy a r .response .result) ≡ false → meantBy a r .state ≡ a
@@ -111,6 +113,8 @@ Counts c (done x nothing) = Unit {0}
 Counts c (done x (opened s b g)) = Unit {0}
 Counts c (done x (received d left)) = left ≡ capped (length (held c Receive))
 Counts c (done x (sent space)) = space ≡ capped (room c Send)
+Counts c (done x (started n)) = Unit {0}
+Counts c (done x (leaves n t)) = Unit {0}
 Counts c (done x (reports r)) = Unit {0}
 
 abbrev Counted : ChannelNumber → Reply → Type 0
@@ -131,6 +135,8 @@ own-counts a c (sendData s) i =
     let n = channelOf (c .destination) in
     sending-cases (Counted n) a (λ _ _. tt) (c .qualifier) n s i
     (λ x _ o _ _ _. ap (λ (y : Chan). capped (room y Send)) (sym (open-changed a n x o)))
+own-counts a c (startTimer n v) i = starting-timer-cases (Counted (channelOf (c .destination))) a n v i tt (λ _ _ _. tt)
+own-counts a c (manageTimer n) i = managing-timer-cases (Counted (channelOf (c .destination))) a (c .qualifier) n i tt (λ _. tt) (λ _ _ _ _ _. tt)
 
 pub meant-counts :
     (a : State) (r : Reading) (c : Command) (i : Bool) (n : ChannelNumber) → r ≡ asked c i → channelOf (c .destination) ≡ n →

@@ -15,8 +15,9 @@ use Rattle.rules.specs.declared.Refusal.{Refusal}
 use Rattle.rules.specs.Checks.{_⇒_else_, isEmpty, every, some-of, occurrences, member}
 use Rattle.rules.specs.Frames.{Object, len, lengthAt, lengthBytes, objectBytes, written, fills, following, framed, contents, frame}
 use Rattle.rules.specs.Table.{table, known, rowAmong, rowOf, times, sift, present, valueOf, complete, bearerFits, lengthFits, measured}
+use Rattle.rules.specs.Timers.{isStart}
 use Rattle.rules.specs.Profile.{allowsType}
-use Rattle.rules.specs.Reading.{wrong, asked, reading, readObjects, Command, Body, Bearer, Transport, bare, eventList, openChannel, closeChannel, receiveData, sendData, kindOf, detailsOf, detailsIn, bodyIn, commandIn, addressed, isFault, startsWithDetails}
+use Rattle.rules.specs.Reading.{wrong, asked, reading, readObjects, Command, Body, Bearer, Transport, bare, eventList, openChannel, closeChannel, receiveData, sendData, startTimer, manageTimer, kindOf, detailsOf, detailsIn, bodyIn, commandIn, addressed, isFault, startsWithDetails}
 use Rattle.rules.specs.Own.{bareTypes}
 use Rattle.rules.specs.Written.{flagged, unflagged, detailsBytes, bearerBytes, pairBytes}
 use Rattle.rules.specs.Command.{Outcome, wrote, refused}
@@ -78,7 +79,7 @@ record Kept (d : Details) (os : List Object) (b : Body) : Type 0 where
 kept :
     (n k q from to : ℕ) (b : Body) → bodyProper b ≡ true →
     Kept (record { number = n; kind = kindOf b; qualifier = q }) (flagged 0x01 (n ∷ k ∷ q ∷ []) ∷ flagged 0x02 (from ∷ to ∷ []) ∷ bodyObjects b) b
-unfolding bodyObjects transportObjects bodyProper pairBytes known kindOf table member some-of sift rowOf rowAmong times occurrences complete every present measured lengthFits valueOf bodyIn _⇒_else_
+unfolding bodyObjects transportObjects bodyProper pairBytes known kindOf table member some-of sift rowOf rowAmong isStart times occurrences complete every present measured lengthFits valueOf bodyIn _⇒_else_
 kept n k q from to (bare t) e =
     each-member (λ (x : ℕ). Kept (record { number = n; kind = x; qualifier = q }) (flagged 0x01 (n ∷ k ∷ q ∷ []) ∷ flagged 0x02 (from ∷ to ∷ []) ∷ []) (bare x)) t bareTypes
     (record { kind = refl; named = omega arith; counts = refl; whole = refl; lengths = refl; values = refl }, (record { kind = refl; named = omega arith; counts = refl; whole = refl; lengths = refl; values = refl }, tt)) e
@@ -104,6 +105,8 @@ kept n k q from to (openChannel b size (some t)) e =
 kept n k q from to closeChannel e = record { kind = refl; named = omega arith; counts = refl; whole = refl; lengths = refl; values = refl }
 kept n k q from to (receiveData m) e = record { kind = refl; named = omega arith; counts = refl; whole = refl; lengths = refl; values = refl }
 kept n k q from to (sendData s) e = record { kind = refl; named = omega arith; counts = refl; whole = refl; lengths = refl; values = refl }
+kept n k q from to (startTimer m v) e = absurd (false≢true e)
+kept n k q from to (manageTimer m) e = absurd (false≢true e)
 
 -- a test and its lines, the other way round
 turned : {A : Type 0} (b : Bool) (x y : A) → (not b ⇒ x else y) ≡ (b ⇒ y else x)
@@ -160,6 +163,8 @@ body-short (openChannel b size t) e =
 body-short closeChannel e = omega arith
 body-short (receiveData n) e = omega (arith, last-short (flagged 0x37 (n ∷ [])))
 body-short (sendData s) e = omega (arith, last-short (flagged 0x36 s), leb-true (length s) 241 e)
+body-short (startTimer n v) e = absurd (false≢true e)
+body-short (manageTimer n) e = absurd (false≢true e)
 
 frame-short : (c : Command) → bodyProper (c .body) ≡ true → length (frame (commandObjects c)) ≤ 256
 unfolding frame commandObjects written objectBytes lengthBytes detailsBytes _⇒_else_

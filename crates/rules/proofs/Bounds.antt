@@ -17,7 +17,8 @@ use Rattle.rules.specs.Own.{Status, Result, opened, received, sent, stat
 use Rattle.rules.specs.Written.{Response, pairBytes, detailsBytes, bearerBytes, statusBytes, statusObject, statusObjects, reportObjects, furtherObjects, resultBytes, resultObjects, responseObjects, responseBytes}
 use Rattle.rules.specs.Command.{wrote}
 use Rattle.rules.specs.Demands.{accepted}
-use Rattle.rules.specs.Bench.{bearerProper, bodyProper, transportObjects, bodyObjects, commandObjects, benchWrite, errorProper, causeProper, successProper, rising, reportProper, furtherProper, resultProper, proper, valueAt, statusIn, statusesIn, furtherIn, resultIn, responseIn, Told, told, untold, benchRead}
+use Rattle.rules.specs.Bench.{bearerProper, bodyProper, transportObjects, bodyObjects, commandObjects, benchWrite, errorProper, causeProper, successProper, rising, reportProper, furtherProper, resultProper, proper, valueAt, statusIn, statusesIn, furtherIn, resultIn, responseIn, Told, told, untold, benchRead, asksLeft}
+use Rattle.rules.specs.Timers.{isStart}
 
 -- a row: a response, and whether the bench reads its bytes
 pub record Row : Type 0 where
@@ -108,7 +109,7 @@ heard (untold r) = false
 
 -- the bench reads the responses within each bound, and none past it
 pub bounds-heard : map (λ (r : Row). heard (benchRead (responseBytes (r .response)))) bounds ≡ map (λ (r : Row). r .read) bounds
-unfolding bounds heard _⇒_else_ isEmpty some-of member same longLength lengthAt lengthBytes longTag tagAt valueAfter afterTag objectAt onward walkUpTo walk objectBytes written table known isDropped detailsIn pairIn bearerIn zeros pairBytes detailsBytes bearerBytes statusBytes statusObject statusObjects reportObjects furtherObjects resultBytes resultObjects responseObjects responseBytes bearerProper errorProper causeProper successProper rising reportProper furtherProper resultProper proper valueAt statusIn statusesIn furtherIn resultIn responseIn benchRead
+unfolding bounds heard _⇒_else_ isEmpty some-of member same longLength lengthAt lengthBytes longTag tagAt valueAfter afterTag objectAt onward walkUpTo walk objectBytes written table known isDropped detailsIn pairIn bearerIn zeros pairBytes detailsBytes bearerBytes statusBytes statusObject statusObjects reportObjects furtherObjects resultBytes resultObjects responseObjects responseBytes bearerProper errorProper causeProper successProper rising reportProper asksLeft isStart furtherProper resultProper proper valueAt statusIn statusesIn furtherIn resultIn responseIn benchRead
 bounds-heard = refl
 
 -- OPEN CHANNEL for 1500 bytes over TCP

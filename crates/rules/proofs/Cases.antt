@@ -1,7 +1,7 @@
 -- Every way in which a call can end: what holds of each refusal, of each error and of the answer, holds of the call.
 -- Assumes nothing.
 use Prim.Native.Nat.{ℕ, _+_, _≤_, min}
-use mathlib.Core.Path.{_≡_, refl}
+use mathlib.Core.Path.{_≡_, refl, ap}
 use mathlib.Core.Bool.{Bool, true, false, not, _&&_, true≢false}
 use mathlib.Core.List.{List}
 use native.Mathlib.Omega.{arith}
@@ -10,21 +10,24 @@ use lib.Dec.{ltb, eqb}
 use borrow.Author.Tests.{ltb-false, eqb-false}
 use Rattle.rules.specs.declared.ChannelNumber.{ChannelNumber}
 use Rattle.rules.specs.declared.Link.{Link}
+use Rattle.rules.specs.declared.Time.{Time}
 use Rattle.rules.specs.declared.Link.the-variants.{NotYet, Established}
 use Rattle.rules.specs.declared.Refusal.{Refusal}
-use Rattle.rules.specs.declared.Refusal.the-variants.{ShortBuffer, NoChannel, Unopened, Unlinked, Overfull, CommandSize, NoPlace, Undersized}
+use Rattle.rules.specs.declared.Refusal.the-variants.{ShortBuffer, NoChannel, Unopened, Unlinked, Overfull, CommandSize, NoneWaits, NoPlace, Undersized}
 use Rattle.rules.specs.Checks.{_⇒_else_, isEmpty, every, some-of, member}
 use Rattle.rules.specs.Profile.{allowsEvent, channels, allowsBearer}
 use Rattle.rules.specs.declared.Way.the-variants.{Receive, Send}
-use Rattle.rules.specs.State.{State, Chan, chan, withChan, isOpen, isEstablished, isDropped, isStream, room, closed, fresh, readied, dropped, held, atOnce, appended, arrived, removed, crowded}
+use Rattle.rules.specs.State.{State, Chan, chan, withChan, timer, withTimer, isOpen, isEstablished, isDropped, isStream, room, closed, fresh, readied, dropped, held, atOnce, appended, arrived, removed, crowded}
 use Rattle.rules.specs.Pool.{unpromised, grantFor}
 use Rattle.rules.specs.Reading.{Bearer, reading}
-use Rattle.rules.specs.Own.{Reply, reply, error, problem, done, nothing, opened, received, sent, bit1, plain, capped, openBefore, served, carriedBy, listing, listed, opening, closing, receiving, sending, telling, Result, reports, statuses, statusesFrom}
-use Rattle.rules.specs.Written.{responseBytes}
+use Rattle.rules.specs.Own.{Reply, reply, error, problem, done, nothing, opened, received, sent, bit1, plain, capped, openBefore, served, carriedBy, listing, listed, opening, closing, receiving, sending, telling, Result, reports, statuses, statusesFrom, started, leaves, startingTimer, tellsLeft, managingTimer}
+use Rattle.rules.specs.Timers.{Timer, idle, running, waiting, timerCount, actionOf, isTimer, isDigits, timeIn, ofDay, isZero, isTime, startedOf, beforeWaiting}
+use Rattle.rules.specs.TimerCalls.{enveloping}
+use Rattle.rules.specs.Written.{responseBytes, envelopeBytes}
 use Rattle.rules.specs.Command.{Answer, answered, refusal, command, meantBy, Terms}
 use Rattle.rules.specs.Bench.{causeProper}
 use Rattle.rules.specs.Radio.{numbered, arrivalEvent, arrival, taking, dropEvent, dropping}
-use Rattle.rules.proofs.Laws.{branch, not-not, either-right}
+use Rattle.rules.proofs.Laws.{branch, not-not, both, either-right}
 
 positive : (n : ℕ) → (n ≡ 0 → ⊥) → 1 ≤ n
 positive n h = omega arith
@@ -90,6 +93,16 @@ module _ (Q : Answer → Type 0) (a : State) (refuse : (r : Refusal) → Q (refu
       branch Q _ _ _ (λ _. refuse ShortBuffer) (λ e₁.
       branch Q _ _ _ (λ _. refuse CommandSize) (λ e₂.
       f (ltb-false _ _ e₁) (ltb-false _ _ (either-right (isEmpty s) (ltb 256 (length s)) e₂))))
+
+  pub enveloping-cases :
+      (buffer : ℕ) →
+      (14 ≤ buffer → (n : ℕ) → n ≡ beforeWaiting (a .timers) + 1 → (beforeWaiting (a .timers) ≡ timerCount → ⊥) →
+      Q (answered (withTimer a n idle) (envelopeBytes n (startedOf (timer a n))))) →
+      Q (enveloping a buffer)
+  unfolding enveloping
+  enveloping-cases buffer f =
+      branch Q _ _ _ (λ _. refuse ShortBuffer) (λ e₁.
+      branch Q _ _ _ (λ _. refuse NoneWaits) (λ e₁₀. f (ltb-false _ _ e₁) _ refl (eqb-false _ _ e₁₀)))
 
 -- the causes that the paper lists for a type
 record Causes : Type 0 where
@@ -188,6 +201,43 @@ module _ (Q : Reply → Type 0) (a : State) where
       branch Q _ _ _ (λ _. why 0x04 (causes .at-43-04)) (λ e₃.
       branch Q _ _ _ (λ _. why 0x04 (causes .at-43-04)) (λ e₄.
       f _ refl (not-not _ e₁) e₂ (ltb-false _ _ e₃) e₄))))
+
+  pub starting-timer-cases :
+      (n : ℕ) (v : List ℕ) (i : Bool) →
+      Q (reply a (error 0x32)) →
+      (isTimer n ≡ true → every isDigits v ≡ true → isTime (timeIn v) ≡ true →
+      Q (reply (withTimer a n (running (timeIn v) (timeIn v))) (done (plain i) (started n)))) →
+      Q (startingTimer a n v i)
+  unfolding startingTimer isTime
+  starting-timer-cases n v i e32 f =
+      branch Q _ _ _ (λ _. e32) (λ e₁.
+      branch Q _ _ _ (λ _. e32) (λ e₂.
+      branch Q _ _ _ (λ _. e32) (λ e₃.
+      branch Q _ _ _ (λ _. e32) (λ e₄. f (not-not _ e₁) (not-not _ e₂) (both (ofDay (timeIn v)) _ (not-not _ e₃) (ap not e₄))))))
+
+  -- the time left of a timer that runs; what neither runs nor waits, and what waits, is 24
+  tells-left-cases :
+      (q n : ℕ) (i : Bool) (t : Timer) → timer a n ≡ t →
+      Q (reply a (error 0x24)) →
+      ((left from : Time) → timer a n ≡ running left from → Q (reply (eqb (actionOf q) 1 ⇒ withTimer a n idle else a) (done (plain i) (leaves n left)))) →
+      Q (tellsLeft a q n i t)
+  unfolding tellsLeft
+  tells-left-cases q n i idle e e24 f = e24
+  tells-left-cases q n i (running left from) e e24 f = f left from e
+  tells-left-cases q n i (waiting from) e e24 f = e24
+
+  pub managing-timer-cases :
+      (q n : ℕ) (i : Bool) →
+      Q (reply a (error 0x32)) →
+      ((actionOf q ≡ 3 → ⊥) → Q (reply a (error 0x24))) →
+      ((actionOf q ≡ 3 → ⊥) → isTimer n ≡ true → (left from : Time) → timer a n ≡ running left from →
+      Q (reply (eqb (actionOf q) 1 ⇒ withTimer a n idle else a) (done (plain i) (leaves n left)))) →
+      Q (managingTimer a q n i)
+  unfolding managingTimer
+  managing-timer-cases q n i e32 e24 f =
+      branch Q _ _ _ (λ _. e32) (λ e₁.
+      branch Q _ _ _ (λ _. e32) (λ e₂.
+      tells-left-cases q n i (timer a n) refl (e24 (eqb-false _ _ e₁)) (λ l s e. f (eqb-false _ _ e₁) (not-not _ e₂) l s e)))
 
 -- the types that change nothing: what each is told
 pub telling-cases :

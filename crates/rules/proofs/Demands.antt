@@ -23,11 +23,11 @@ use Rattle.rules.specs.Datagrams.{total, pieces, behind}
 use Rattle.rules.specs.Reading.{reading, kindOf, toModem, Command, Body, Bearer, closeChannel, receiveData, sendData}
 use Rattle.rules.specs.Sound.{SoundChan}
 use Rattle.rules.specs.declared.Refusal.the-variants.{Undersized}
-use Rattle.rules.specs.Own.{Reply, Result, Further, nothing, opened, received, sent, error, problem, done, capped, plain, closing, receiving, own, reports}
+use Rattle.rules.specs.Own.{Reply, Result, Further, nothing, opened, received, sent, error, problem, done, capped, plain, closing, receiving, own, reports, started, leaves}
 use Rattle.rules.specs.Written.{unflagged, statusObject, eventBytes}
 use Rattle.rules.specs.Command.{Answer, Outcome, wrote, refused, meantBy, Terms}
 use Rattle.rules.specs.Radio.{numbered, arrivalEvent, taking, dropEvent}
-use Rattle.rules.specs.Run.{Call, starting, commanding, radio, arriving, takingOut, droppingLink, step}
+use Rattle.rules.specs.Run.{Call, starting, commanding, radio, arriving, takingOut, droppingLink, step, timing}
 use Rattle.rules.specs.Bench.{Told, told, untold, benchRead}
 use Rattle.rules.specs.History.{History, ended, openedWith, commandSeen, closes, sameNumber, answerTells, heardTells, tells, acceptedIn, wholeIn, withSide, carriedIn, oldestReady, side, heldBy, datagramsBy, finishedBy, buildingBy, wholesBy, atOnceBy, placesBy, radioTells}
 use Rattle.rules.specs.Demands.{Tells, Follows, reached, told-of, next, latest, accepted, isDone, resultTold, heard, heardDone, answerTo, listed-by, raisedBy, crowdedBy, Passed, opensNumber, touches}
@@ -186,6 +186,8 @@ untouched-answer n h c (done x (opened s b g)) e f = skip _ _ _ f
 untouched-answer n h c (done x (received d left)) e f = skip _ _ _ e
 untouched-answer n h c (done x (sent space)) e f = skip _ _ _ e
 untouched-answer n h c (done x nothing) e f = branch (λ (k : History). k ≡ h) (closes (c .body)) _ _ (λ _. skip _ _ _ e) (λ _. refl)
+untouched-answer n h c (done x (started m)) e f = refl
+untouched-answer n h c (done x (leaves m t)) e f = refl
 untouched-answer n h c (done x (reports r)) e f = refl
 untouched-answer n h c (error x) e f = refl
 untouched-answer n h c (problem cause) e f = refl
@@ -206,6 +208,7 @@ untouched-tells n h (commanding terms s) (wrote t) e = untouched-heard n h (comm
 untouched-tells n h (commanding terms s) (refused r) e = refl
 untouched-tells n h (radio buffer m act) (wrote t) e = skip _ _ _ e
 untouched-tells n h (radio buffer m act) (refused r) e = refl
+untouched-tells n h (timing act) o e = refl
 
 -- what fits is accepted exactly where there is a place
 fits-so : (k space : ℕ) (t : Bool) → k ≤ space → (u : Bool) → t ≡ u → leb k space && not t ≡ not u

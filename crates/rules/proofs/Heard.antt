@@ -18,15 +18,18 @@ use Rattle.rules.specs.Checks.{_⇒_else_, some-of, member, same}
 use Rattle.rules.specs.Frames.{Object, Walk}
 use Rattle.rules.specs.State.{State, isDropped}
 use Rattle.rules.specs.Reading.{detailsIn, reading}
-use Rattle.rules.specs.Own.{Status, Further, Result, nothing, opened, received, sent, statuses, error, problem, done, reports, Report}
-use Rattle.rules.specs.Written.{Response, detailsBytes, statusBytes, statusObject, statusObjects, furtherObjects, resultBytes, resultObjects, responseObjects, responseBytes, reportObjects}
-use Rattle.rules.specs.Bench.{bearerProper, errorProper, successProper, unfollowed, furtherProper, resultProper, rising, proper, valueAt, statusIn, statusesIn, furtherIn, resultIn, responseIn, Told, told, untold, benchRead, reportProper}
+use Rattle.rules.specs.Own.{Status, Further, Result, nothing, opened, received, sent, statuses, error, problem, done, reports, Report, started, leaves}
+use Rattle.rules.specs.Written.{Response, detailsBytes, statusBytes, statusObject, statusObjects, furtherObjects, resultBytes, resultObjects, responseObjects, responseBytes, reportObjects, timerObject, timeObject}
+use Rattle.rules.specs.Bench.{bearerProper, errorProper, successProper, unfollowed, furtherProper, resultProper, rising, proper, valueAt, statusIn, statusesIn, furtherIn, resultIn, responseIn, Told, told, untold, benchRead, reportProper, asksLeft}
 use Rattle.rules.specs.Command.{Answer, wrote, command, meantBy, Terms}
 use Rattle.rules.specs.Sound.{Each, Sound}
 use Rattle.rules.proofs.Laws.{branch, stop, skip, both-left, both-right, either, by-equal, each-member}
 use Rattle.rules.proofs.Cases.{command-cases}
 use Rattle.rules.proofs.Meant.{meant-proper}
 use Rattle.rules.proofs.Forms.{Named, walk-written, same-refl, same-true, pair-back, bearer-back, status-back}
+use Rattle.rules.specs.Timers.{actionOf, isStart, isTime, isTimer}
+use Rattle.rules.proofs.Readings.{start-kind, starts}
+use Rattle.rules.proofs.Timers.{time-back}
 
 -- the objects of a response have numbers of seven bits
 statuses-named : (ss : List Status) → Each Named (map (λ (t : Status). statusObject (t .number) (t .link)) ss)
@@ -40,11 +43,13 @@ report-named (statuses []) = omega arith
 report-named (statuses (s ∷ ss)) = statuses-named (s ∷ ss)
 
 further-named : (f : Further) → Each Named (furtherObjects f)
-unfolding furtherObjects statusObject
+unfolding furtherObjects statusObject timerObject timeObject
 further-named nothing = tt
 further-named (opened s b g) = omega arith
 further-named (received s left) = omega arith
 further-named (sent room) = omega arith
+further-named (started n) = omega arith
+further-named (leaves n t) = omega arith
 further-named (reports r) = report-named r
 
 result-named : (x : Result) → Each Named (resultObjects x)
@@ -87,64 +92,80 @@ list-back [] e = stop _ _ _ refl
 list-back (s ∷ ss) e =
     skip _ [] _ (no-zeros (s .number) (s .link) (rising-first 0 s ss e .0)) ∙ statuses-back 0 (s ∷ ss) e
 
-report-back : (t : ℕ) (r : Report) → reportProper t r ≡ true → furtherIn t (reportObjects r) ≡ reports r
+report-back : (d : Details) (r : Report) → reportProper (d .kind) r ≡ true → furtherIn d (reportObjects r) ≡ reports r
 unfolding reportProper furtherIn reportObjects _⇒_else_
-report-back t (statuses ss) e =
+report-back d (statuses ss) e =
+    let t = d .kind in
     rw (eqb-true t 0x44 (both-left (eqb t 0x44) _ e)) (ap (λ (x : List Status). reports (statuses x)) (list-back ss (both-right (eqb t 0x44) _ e)))
 
+-- a timer that is stopped or asked for is not started
+asks-not-start : (d : Details) → asksLeft d ≡ true → eqb (actionOf (d .qualifier)) 0 ≡ false
+unfolding asksLeft
+asks-not-start d e =
+    let q = actionOf (d .qualifier) in
+    ⊎-elim (λ x. by-equal (λ (k : ℕ). eqb k 0 ≡ false) q 1 x refl) (λ x. by-equal (λ (k : ℕ). eqb k 0 ≡ false) q 2 x refl)
+    (either (eqb q 1) (eqb q 2) (both-right (eqb (d .kind) 0x27) _ e))
+
 -- what follows a result is read as it was written, for the type that has it
-further-back : (t : ℕ) (f : Further) → furtherProper t f ≡ true → furtherIn t (furtherObjects f) ≡ f
-unfolding furtherProper furtherIn furtherObjects statusObject valueAt _⇒_else_
-further-back t nothing e = each-member (λ (k : ℕ). furtherIn k [] ≡ nothing) t unfollowed (refl, (refl, (refl, tt))) e
-further-back t (opened s b g) e =
+further-back : (d : Details) (f : Further) → furtherProper d f ≡ true → furtherIn d (furtherObjects f) ≡ f
+unfolding furtherProper furtherIn furtherObjects statusObject timerObject timeObject valueAt isStart asksLeft _⇒_else_
+further-back d nothing e =
+    each-member (λ (k : ℕ). furtherIn (record { number = d .number; kind = k; qualifier = d .qualifier }) [] ≡ nothing) (d .kind) unfollowed (refl, (refl, (refl, tt))) e
+further-back d (opened s b g) e =
+    let t = d .kind in
     let fit : eqb t 0x40 && rising 0 (s ∷ []) ≡ true = both-left _ (not (isDropped (s .link))) (both-left _ (bearerProper b) (both-left _ (leb 1 g) (both-left _ (leb g 1500) e))) in
     let first = rising-first 0 s [] (both-right (eqb t 0x40) (rising 0 (s ∷ [])) fit) in
     rw (eqb-true t 0x40 (both-left (eqb t 0x40) (rising 0 (s ∷ [])) fit))
     (λ i. opened (status-back (s .number) (s .link) (first .1) i) (bearer-back b i) (pair-back g i))
-further-back t (received s left) e = rw (eqb-true t 0x42 (both-left (eqb t 0x42) _ (both-left _ (leb left 255) e))) refl
-further-back t (sent room) e = rw (eqb-true t 0x43 (both-left (eqb t 0x43) _ e)) refl
-further-back t (reports r) e = report-back t r e
+further-back d (received s left) e = let t = d .kind in rw (eqb-true t 0x42 (both-left (eqb t 0x42) _ (both-left _ (leb left 255) e))) refl
+further-back d (sent room) e = let t = d .kind in rw (eqb-true t 0x43 (both-left (eqb t 0x43) _ e)) refl
+further-back d (started n) e = let s = both-left (isStart d) (isTimer n) e in rw (start-kind d s, starts d s) refl
+further-back d (leaves n t) e =
+    let left = both-left (asksLeft d) _ (both-left _ (isTime t) e) in
+    rw (eqb-true (d .kind) 0x27 (both-left (eqb (d .kind) 0x27) _ left), asks-not-start d left) (ap (leaves n) (time-back t (both-right (asksLeft d && isTimer n) _ e)))
+further-back d (reports r) e = report-back d r e
 
 -- an error, a problem and a success are told apart by the result's first byte
-error-back : (d : Details) (e : ℕ) → errorProper d e ≡ true → resultIn (d .kind) (e ∷ []) [] ≡ error e
+error-back : (d : Details) (e : ℕ) → errorProper d e ≡ true → resultIn d (e ∷ []) [] ≡ error e
 unfolding errorProper resultIn member some-of _⇒_else_
 error-back d e =
+    branch P (eqb e 0x24) _ _ (λ q _. by-equal R e 0x24 q refl) (λ _.
     branch P (eqb e 0x30) _ _ (λ q _. by-equal R e 0x30 q refl) (λ _.
     branch P (eqb e 0x31) _ _ (λ q _. by-equal R e 0x31 q refl) (λ _.
     branch P (eqb e 0x32) _ _ (λ q _. by-equal R e 0x32 q refl) (λ _.
-    branch P (eqb e 0x36) _ _ (λ q _. by-equal R e 0x36 q refl) (λ _ f. absurd (false≢true f)))))
+    branch P (eqb e 0x36) _ _ (λ q _. by-equal R e 0x36 q refl) (λ _ f. absurd (false≢true f))))))
   where
     R : ℕ → Type 0
-    R k = resultIn (d .kind) (k ∷ []) [] ≡ error k
+    R k = resultIn d (k ∷ []) [] ≡ error k
 
     P : Bool → Type 0
     P b = b ≡ true → R e
 
-success-back : (t r : ℕ) (os : List Object) → successProper t r ≡ true → resultIn t (r ∷ []) os ≡ done r (furtherIn t os)
+success-back : (d : Details) (r : ℕ) (os : List Object) → successProper (d .kind) r ≡ true → resultIn d (r ∷ []) os ≡ done r (furtherIn d os)
 unfolding successProper resultIn member some-of _⇒_else_
-success-back t r os =
+success-back d r os =
     branch P (eqb r 0x00 || eqb r 0x01) _ _ (λ q _. ⊎-elim (λ x. by-equal R r 0x00 x refl) (λ x. by-equal R r 0x01 x refl) (either (eqb r 0x00) (eqb r 0x01) q)) (λ _.
     branch P (eqb r 0x02) _ _ (λ q _. by-equal R r 0x02 q refl) (λ _.
     branch P (eqb r 0x07) _ _ (λ q _. by-equal R r 0x07 q refl) (λ _ f. absurd (false≢true f))))
   where
     R : ℕ → Type 0
-    R k = resultIn t (k ∷ []) os ≡ done k (furtherIn t os)
+    R k = resultIn d (k ∷ []) os ≡ done k (furtherIn d os)
 
     P : Bool → Type 0
     P b = b ≡ true → R r
 
-problem-back : (t cause : ℕ) (os : List Object) → resultIn t (0x3A ∷ cause ∷ []) os ≡ problem cause
+problem-back : (d : Details) (cause : ℕ) (os : List Object) → resultIn d (0x3A ∷ cause ∷ []) os ≡ problem cause
 unfolding resultIn
-problem-back t cause os = stop _ _ _ refl
+problem-back d cause os = stop _ _ _ refl
 
-result-back : (d : Details) (x : Result) → resultProper d x ≡ true → resultIn (d .kind) (resultBytes x) (resultObjects x) ≡ x
+result-back : (d : Details) (x : Result) → resultProper d x ≡ true → resultIn d (resultBytes x) (resultObjects x) ≡ x
 unfolding resultProper resultBytes resultObjects
 result-back d (error e) h = error-back d e h
-result-back d (problem cause) h = problem-back (d .kind) cause []
+result-back d (problem cause) h = problem-back d cause []
 result-back d (done r f) h =
     let t = d .kind in
-    success-back t r (furtherObjects f) (both-left (successProper t r) _ h)
-    ∙ ap (done r) (further-back t f (both-right (successProper t r) _ h))
+    success-back d r (furtherObjects f) (both-left (successProper t r) _ h)
+    ∙ ap (done r) (further-back d f (both-right (successProper t r) _ h))
 
 -- the only response whose form the bytes can be is the one that was written
 response-back : (r : Response) → proper r ≡ true → responseIn (responseBytes r) ≡ r
@@ -156,7 +177,7 @@ response-back r e =
     from : List Object → Response
     from os =
         let d = detailsIn (valueAt os 0) in
-        record { details = d; result = resultIn (d .kind) (valueAt os 2) (drop 3 os) }
+        record { details = d; result = resultIn d (valueAt os 2) (drop 3 os) }
 
 -- the written form of a response that the paper lists is read as that response
 pub form-read : (r : Response) → proper r ≡ true → benchRead (responseBytes r) ≡ told r

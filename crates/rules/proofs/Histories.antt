@@ -12,24 +12,27 @@ use Rattle.rules.specs.Checks.{_⇒_else_, some-of, member}
 use Rattle.rules.specs.Words.{channelOf}
 use Rattle.rules.specs.Frames.{contents}
 use Rattle.rules.specs.declared.Way.the-variants.{Receive, Send}
-use Rattle.rules.specs.State.{State, Chan, isStream, start, closed, chan, withChan, queue, fresh, dropped, held, atOnce, appended, arrived, removed}
+use Rattle.rules.specs.State.{State, Chan, isStream, start, closed, chan, withChan, queue, fresh, dropped, held, atOnce, appended, arrived, removed, withTimer}
 use Rattle.rules.specs.Pool.{unpromised}
-use Rattle.rules.specs.Reading.{Reading, reading, Command, Body, bare, eventList, openChannel, closeChannel, receiveData, sendData, kindOf, commandIn, toModem}
+use Rattle.rules.specs.Reading.{Reading, reading, Command, Body, bare, eventList, openChannel, closeChannel, receiveData, sendData, kindOf, commandIn, toModem, startTimer, manageTimer}
 use Rattle.rules.specs.Own.{Reply, bit1, listed, own, protocolOf, carriedBy, Result}
 use Rattle.rules.specs.Command.{Answer, Meant, wrote, command, meantBy, Terms}
 use Rattle.rules.specs.Radio.{arrives, takes, drops}
-use Rattle.rules.specs.Run.{Call, starting, commanding, radio, arriving, takingOut, droppingLink, step, after}
+use Rattle.rules.specs.Run.{Call, starting, commanding, radio, arriving, takingOut, droppingLink, step, after, timing}
 use Rattle.rules.specs.Sound.{Sound}
 use Rattle.rules.specs.History.{History, ended, openedWith, readiedIn, droppedIn, commandSeen, dataOf, carriedIn, closes, answerTells, heardTells, tells, historyFrom, history, seenFrom, acceptedIn, wholeIn, outIn, radioTells}
 use Rattle.rules.specs.Demands.{Tells, Follows, reached, told-of}
-use Rattle.rules.proofs.Laws.{stop, skip, each-get, each-replicate}
-use Rattle.rules.proofs.Cases.{arrival-cases, taking-cases, dropping-cases, command-cases, listing-cases, opening-cases, closing-cases, receiving-cases, sending-cases, telling-cases}
+use Rattle.rules.proofs.Laws.{stop, skip, each-get, each-replicate, branch}
+use Rattle.rules.proofs.Cases.{arrival-cases, taking-cases, dropping-cases, command-cases, listing-cases, opening-cases, closing-cases, receiving-cases, sending-cases, telling-cases, starting-timer-cases, enveloping-cases, managing-timer-cases}
 use Rattle.rules.proofs.Readings.{detailsRead, counted, reading-cases}
 use Rattle.rules.proofs.Grants.{Granted, grant-law}
 use Rattle.rules.proofs.Soundness.{chan-sound, sent-sound, opened-place, start-sound, step-sound}
 use Rattle.rules.proofs.Datagrams.{first}
 use Rattle.rules.proofs.Heard.{modem-heard}
 use Rattle.rules.proofs.Matching.{closed-told, fresh-told, arrived-told, sent-told, handed-told, taken-told, readied-told, dropped-told, Aimed, read-aimed, changed, numbered-of, either-told}
+use Rattle.rules.specs.TimerCalls.{passing, envelope, second}
+use lib.Dec.{eqb}
+use Rattle.rules.specs.Timers.{actionOf}
 
 -- a fresh session has no channel, and nothing was seen of one
 start-follows : (n : ChannelNumber) (p : List ℕ) → Follows n (start p) ended
@@ -66,7 +69,7 @@ module _ (n : ChannelNumber) (from : 1 ≤ n .0) (a : State) (h : History) (o : 
   Told-by c r = Follows n (r .state) (answerTells n h c (r .result))
 
   own-follows : (c : Command) (b : Body) (i : Bool) → c .body ≡ b → Aimed c b → Told-by c (own a c b i)
-  unfolding own answerTells closes kindOf dataOf carriedIn toModem member some-of chan listed
+  unfolding own answerTells closes kindOf dataOf carriedIn toModem member some-of chan listed withTimer
   own-follows c (bare t) i e u =
       telling-cases (λ (r : Result). Follows n a (answerTells n h c r)) a t i f
       (subst (Follows n a) (sym (skip _ _ _ (ap closes e))) f)
@@ -105,6 +108,10 @@ module _ (n : ChannelNumber) (from : 1 ≤ n .0) (a : State) (h : History) (o : 
       let joins = storing c m s e q in
       subst (λ (y : Chan). Tells y (b ⇒ readiedIn k else k)) (sym eˣ)
       (either-told b _ _ _ _ (readied-told (appended (chan a m) Send s) k joins (sent-sound (chan a m) (chan-sound a m o) s fit place)) joins)))
+  own-follows c (startTimer k v) i e u = starting-timer-cases (Told-by c) a k v i f (λ _ _ _. f)
+  own-follows c (manageTimer k) i e u =
+      managing-timer-cases (Told-by c) a (c .qualifier) k i f (λ _. f)
+      (λ _ _ _ _ _. branch (λ (b : State). Follows n b h) (eqb (actionOf (c .qualifier)) 1) _ _ (λ _. f) (λ _. f))
 
   abbrev Tells-of : Call → Answer → Type 0
   Tells-of c r = Follows n (r .state) (tells n h c (r .outcome))
@@ -120,7 +127,7 @@ module _ (n : ChannelNumber) (from : 1 ≤ n .0) (a : State) (h : History) (o : 
 
   -- what is seen of any call tells the channel after it
   pub step-follows : (c : Call) → Tells-of c (step a c)
-  unfolding step tells radioTells
+  unfolding step passing tells radioTells chan withTimer
   step-follows (starting p) = start-follows n p
   step-follows (commanding terms s) =
       let m = meantBy a (reading (a .profile) s) in
@@ -143,6 +150,8 @@ module _ (n : ChannelNumber) (from : 1 ≤ n .0) (a : State) (h : History) (o : 
       dropping-cases (Tells-of (droppingLink buffer m)) a (λ _. f) buffer m
       (λ _ l.
       changed n m a (dropped (chan a m)) h (droppedIn h) from o (l .number) f (λ q. dropped-told (chan a m) h (named m q) (chan-sound a m o)))
+  step-follows (timing second) = f
+  step-follows (timing (envelope buffer)) = enveloping-cases (Tells-of (timing (envelope buffer))) a (λ _. f) buffer (λ _ _ _ _. f)
 
 follows-from :
     (n : ChannelNumber) (a : State) (h : History) (cs : List Call) → 1 ≤ n .0 → Sound a → Follows n a h →

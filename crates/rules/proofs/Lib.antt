@@ -2,6 +2,7 @@ pub mod Laws
 pub mod Values
 pub mod Addressing
 pub mod Datagrams
+pub mod Timers
 pub mod Cases
 pub mod Refusals
 pub mod Readings
@@ -22,6 +23,7 @@ pub mod Histories
 pub mod Answers
 pub mod Outside
 pub mod Listed
+pub mod TimerHistories
 pub mod Demands
 pub mod Openings
 pub mod Stages

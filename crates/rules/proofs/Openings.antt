@@ -18,14 +18,14 @@ use Rattle.rules.specs.Words.{channelOf}
 use Rattle.rules.specs.Profile.{channels, allowsBearer}
 use Rattle.rules.specs.State.{State, Chan, closed, isOpen, chan, withChan}
 use Rattle.rules.specs.Pool.{cells, promisedTo, promised, unpromised, grantFor}
-use Rattle.rules.specs.Reading.{reading, Command, Body, Bearer, Transport, bare, eventList, openChannel, closeChannel, receiveData, sendData, kindOf, toModem}
+use Rattle.rules.specs.Reading.{reading, Command, Body, Bearer, Transport, bare, eventList, openChannel, closeChannel, receiveData, sendData, kindOf, toModem, startTimer, manageTimer}
 use Rattle.rules.specs.Own.{Reply, Result, Status, Further, problem, done, opened, bit1, plain, openBefore, protocolOf, served, opening, closing, own}
 use Rattle.rules.specs.Run.{Call, commanding}
 use Rattle.rules.specs.History.{History, ended}
 use Rattle.rules.specs.Demands.{reached, told-of, next, begun, latest, isDone, heardDone, answerTo, Passed, cellsFrom, freeBy, freeCells, standing, AllOpen, Lowest}
 use Rattle.rules.specs.Command.{Terms}
 use Rattle.rules.proofs.Laws.{branch, skip}
-use Rattle.rules.proofs.Cases.{listing-cases, opening-cases, closing-cases, receiving-cases, sending-cases, telling-cases}
+use Rattle.rules.proofs.Cases.{listing-cases, opening-cases, closing-cases, receiving-cases, sending-cases, telling-cases, starting-timer-cases, managing-timer-cases}
 use Rattle.rules.proofs.Grants.{promised-set, grant-whole}
 use Rattle.rules.proofs.Soundness.{open-place, open-before-le, reached-sound}
 use Rattle.rules.proofs.Answers.{meant-own}
@@ -152,6 +152,9 @@ own-opened a c (receiveData r) i x o b g =
     receiving-cases (Opening-lowest a x o b g) a (λ _ _ e. absurd (false≢true (cc))) (channelOf (c .destination)) r i (λ _ _ _ e. absurd (false≢true (cc)))
 own-opened a c (sendData s) i x o b g =
     sending-cases (Opening-lowest a x o b g) a (λ _ _ e. absurd (false≢true (cc))) (c .qualifier) (channelOf (c .destination)) s i (λ _ _ _ _ _ _ e. absurd (false≢true (cc)))
+own-opened a c (startTimer n v) i x o b g = starting-timer-cases (Opening-lowest a x o b g) a n v i (λ e. absurd (false≢true (cc))) (λ _ _ _ e. absurd (false≢true (cc)))
+own-opened a c (manageTimer n) i x o b g =
+    managing-timer-cases (Opening-lowest a x o b g) a (c .qualifier) n i (λ e. absurd (false≢true (cc))) (λ _ e. absurd (false≢true (cc))) (λ _ _ _ _ _ e. absurd (false≢true (cc)))
 
 -- the histories of the channels, and the state that they tell
 

@@ -10,30 +10,33 @@ use lib.ListN.{length}
 use borrow.Author.Tests.{le-ltb}
 use Rattle.rules.specs.declared.ChannelNumber.{ChannelNumber}
 use Rattle.rules.specs.declared.Details.{Details}
-use Rattle.rules.specs.Checks.{isEmpty}
+use Rattle.rules.specs.Checks.{isEmpty, _⇒_else_}
 use Rattle.rules.specs.Words.{channelOf}
 use Rattle.rules.specs.Frames.{walk, framed, contents}
 use Rattle.rules.specs.Table.{valueOf}
 use Rattle.rules.specs.Profile.{kept, allowsType, allowsBearer, channels}
-use Rattle.rules.specs.State.{State, start, withChan}
-use Rattle.rules.specs.Reading.{Reading, wrong, asked, reading, readObjects, zeros, detailsIn, commandIn, kindOf, toModem, Command, Body, bare, eventList, openChannel, closeChannel, receiveData, sendData}
+use Rattle.rules.specs.State.{State, start, withChan, withTimer}
+use Rattle.rules.specs.Reading.{Reading, wrong, asked, reading, readObjects, zeros, detailsIn, commandIn, kindOf, toModem, Command, Body, bare, eventList, openChannel, closeChannel, receiveData, sendData, startTimer, manageTimer}
 use Rattle.rules.specs.Own.{Reply, Result, Further, done, listed, own, protocolOf}
 use Rattle.rules.specs.Written.{Response, responseBytes}
 use Rattle.rules.specs.Command.{Answer, answered, Outcome, wrote, refused, command, meantBy, Terms}
 use Rattle.rules.specs.Bench.{Told, told, untold, benchRead}
 use Rattle.rules.specs.Radio.{arrives, takes, drops}
-use Rattle.rules.specs.Run.{Call, starting, commanding, radio, step, after}
+use Rattle.rules.specs.Run.{Call, starting, commanding, radio, step, after, timing}
 use Rattle.rules.specs.Sound.{Sound}
 use Rattle.rules.specs.History.{History, answerTells, heardTells, tells, historyFrom, history, seenFrom, commandSeen}
 use Rattle.rules.specs.Demands.{reached, told-of, next, begun, latest, resultTold, heard, answerTo, Passed}
-use Rattle.rules.proofs.Laws.{stop, skip}
-use Rattle.rules.proofs.Cases.{arrival-cases, taking-cases, dropping-cases, command-cases, listing-cases, opening-cases, closing-cases, receiving-cases, sending-cases}
+use Rattle.rules.proofs.Laws.{stop, skip, branch}
+use Rattle.rules.proofs.Cases.{arrival-cases, taking-cases, dropping-cases, command-cases, listing-cases, opening-cases, closing-cases, receiving-cases, sending-cases, starting-timer-cases, enveloping-cases, managing-timer-cases}
 use Rattle.rules.proofs.Readings.{detailsRead, counted, reading-cases}
 use Rattle.rules.proofs.Soundness.{reached-sound}
 use Rattle.rules.proofs.Told.{kept-byte, kept-bit}
 use Rattle.rules.proofs.Heard.{modem-heard}
 use Rattle.rules.proofs.Matching.{numbered-from, Aimed, read-aimed}
 use Rattle.rules.proofs.Answers.{meant-own, commanded-state}
+use Rattle.rules.specs.TimerCalls.{passing, envelope, second}
+use lib.Dec.{eqb}
+use Rattle.rules.specs.Timers.{actionOf}
 
 -- one call more: the state after it, and what is seen of it
 after-next : (a : State) (cs : List Call) (c : Call) → after a (next cs c) ≡ step (after a cs) c .state
@@ -64,7 +67,7 @@ latest-next p (d ∷ cs) c = latest-next (begun p d) cs c
 
 -- no call but a start changes the profile
 own-profile : (a : State) (c : Command) (b : Body) (i : Bool) → own a c b i .state .profile ≡ a .profile
-unfolding own listed withChan
+unfolding own listed withChan withTimer
 own-profile a c (bare t) i = refl
 own-profile a c (eventList es) i = listing-cases (λ (r : Reply). r .state .profile ≡ a .profile) a es i refl (λ _. refl)
 own-profile a c (openChannel b size t) i =
@@ -75,6 +78,10 @@ own-profile a c (receiveData r) i =
     receiving-cases (λ (r : Reply). r .state .profile ≡ a .profile) a (λ _ _. refl) (channelOf (c .destination)) r i (λ _ _ _. refl)
 own-profile a c (sendData s) i =
     sending-cases (λ (r : Reply). r .state .profile ≡ a .profile) a (λ _ _. refl) (c .qualifier) (channelOf (c .destination)) s i (λ _ _ _ _ _ _. refl)
+own-profile a c (startTimer n v) i = starting-timer-cases (λ (r : Reply). r .state .profile ≡ a .profile) a n v i refl (λ _ _ _. refl)
+own-profile a c (manageTimer n) i =
+    managing-timer-cases (λ (r : Reply). r .state .profile ≡ a .profile) a (c .qualifier) n i refl (λ _. refl)
+    (λ _ _ _ _ _. branch (λ (b : State). b .profile ≡ a .profile) (eqb (actionOf (c .qualifier)) 1) _ _ (λ _. refl) (λ _. refl))
 
 meant-profile : (a : State) (r : Reading) → meantBy a r .state .profile ≡ a .profile
 unfolding meantBy
@@ -82,13 +89,15 @@ meant-profile a (wrong d e) = refl
 meant-profile a (asked c i) = own-profile a c (c .body) i
 
 step-profile : (a : State) (c : Call) (q : List ℕ) → a .profile ≡ kept q → step a c .state .profile ≡ kept (begun q c)
-unfolding step begun start withChan
+unfolding step passing begun start withChan withTimer
 step-profile a (starting p) q e = refl
 step-profile a (commanding terms s) q e =
     command-cases (λ (r : Answer). r .state .profile ≡ kept q) a (λ _. e) terms s (λ _ _. meant-profile a (reading (a .profile) s) ∙ e)
 step-profile a (radio buffer n (arrives s)) q e = arrival-cases (λ (r : Answer). r .state .profile ≡ kept q) a (λ _. e) buffer n s (λ _ _ _ _. e)
 step-profile a (radio buffer n takes) q e = taking-cases (λ (r : Answer). r .state .profile ≡ kept q) a (λ _. e) buffer n (λ _ _. e)
 step-profile a (radio buffer n drops) q e = dropping-cases (λ (r : Answer). r .state .profile ≡ kept q) a (λ _. e) buffer n (λ _ _. e)
+step-profile a (timing second) q e = e
+step-profile a (timing (envelope buffer)) q e = enveloping-cases (λ (r : Answer). r .state .profile ≡ kept q) a (λ _. e) buffer (λ _ _ _ _. e)
 
 after-profile : (a : State) (cs : List Call) (q : List ℕ) → a .profile ≡ kept q → after a cs .profile ≡ kept (latest q cs)
 unfolding after latest
@@ -104,7 +113,7 @@ reached-profile p cs = after-profile (start p) cs p refl
 allows-kept : (p : List ℕ) (d : Details) → allowsType (kept p) d ≡ allowsType p d
 unfolding allowsType
 allows-kept p d =
-    rw (kept-bit p 3 4 (omega arith) (omega arith), kept-bit p 5 1 (omega arith) (omega arith), kept-bit p 12 (d .kind - 0x3F) (omega arith) (omega arith))
+    rw (kept-bit p 3 4 (omega arith) (omega arith), kept-bit p 5 1 (omega arith) (omega arith), kept-bit p 8 (eqb (actionOf (d .qualifier)) 2 ⇒ 2 else 1) (omega arith) (omega arith), kept-bit p 12 (d .kind - 0x3F) (omega arith) (omega arith))
 
 reading-kept : (p s : List ℕ) → reading (kept p) s ≡ reading p s
 unfolding reading readObjects

@@ -2,7 +2,7 @@
 -- Assumes nothing.
 use Prim.Native.Nat.{ℕ}
 use mathlib.Core.Path.{_≡_, refl, sym, ap}
-use mathlib.Core.Bool.{Bool, true, not, _||_}
+use mathlib.Core.Bool.{Bool, true, not, _||_, false}
 use mathlib.Core.List.{List, [], _∷_}
 use mathlib.Core.Option.{some, none}
 use lib.Dec.{eqb}
@@ -12,9 +12,10 @@ use Rattle.rules.specs.declared.Details.{Details}
 use Rattle.rules.specs.Checks.{_⇒_else_, every, some-of, member, same}
 use Rattle.rules.specs.Frames.{Object, walk, contents}
 use Rattle.rules.specs.Table.{table, known, rowOf, sift, present, valueOf, complete, measured, lengthFits}
+use Rattle.rules.specs.Timers.{isStart, actionOf}
 use Rattle.rules.specs.Profile.{allowsType}
 use Rattle.rules.specs.Own.{bareTypes}
-use Rattle.rules.specs.Reading.{Reading, Body, bare, eventList, openChannel, closeChannel, receiveData, sendData, bearerIn, pairIn, transportIn, wrong, asked, zeros, detailsIn, commandIn, bodyIn, kindOf, detailsOf, addressed, readObjects, reading}
+use Rattle.rules.specs.Reading.{Reading, Body, bare, eventList, openChannel, closeChannel, receiveData, sendData, startTimer, manageTimer, bearerIn, pairIn, transportIn, wrong, asked, zeros, detailsIn, commandIn, bodyIn, kindOf, detailsOf, addressed, readObjects, reading}
 use Rattle.rules.specs.Bench.{errorProper}
 use Rattle.rules.specs.Written.{detailsBytes}
 use Rattle.rules.proofs.Laws.{branch, not-not, both-left, both-right}
@@ -87,6 +88,15 @@ module _ (Q : Reading → Type 0) (p : List ℕ) where
   unfolding reading
   reading-cases s blank told f = branch Q _ _ _ (λ _. blank 0x32 (error-32 zeros)) (λ _. objects-cases (contents s) blank told f)
 
+-- a start is of type 27
+pub start-kind : (d : Details) → isStart d ≡ true → d .kind ≡ 0x27
+unfolding isStart
+start-kind d e = eqb-true (d .kind) 0x27 (both-left _ _ e)
+
+pub starts : (d : Details) → isStart d ≡ true → actionOf (d .qualifier) ≡ 0
+unfolding isStart
+starts d e = eqb-true (actionOf (d .qualifier)) 0 (both-right (eqb (d .kind) 0x27) _ e)
+
 -- the values of a type, by the type
 module _ (Q : Body → Type 0) (d : Details) (os : List Object) where
   abbrev t : ℕ
@@ -99,21 +109,25 @@ module _ (Q : Body → Type 0) (d : Details) (os : List Object) where
       (t ≡ 0x41 → Q closeChannel) →
       (t ≡ 0x42 → Q (receiveData (getD (valueOf 0x37 os) 0 0))) →
       (t ≡ 0x43 → Q (sendData (valueOf 0x36 os))) →
+      (t ≡ 0x27 → isStart d ≡ true → Q (startTimer (getD (valueOf 0x24 os) 0 0) (valueOf 0x25 os))) →
+      (t ≡ 0x27 → isStart d ≡ false → Q (manageTimer (getD (valueOf 0x24 os) 0 0))) →
       (known t ≡ member t bareTypes → Q (bare t)) →
       Q (bodyIn d os)
   unfolding bodyIn known table member some-of
-  body-cases f₀₅ f₄₀ f₄₁ f₄₂ f₄₃ f =
+  body-cases f₀₅ f₄₀ f₄₁ f₄₂ f₄₃ s₂₇ m₂₇ f =
       branch Q _ _ _ (λ e. f₀₅ (eqb-true _ _ e)) (λ e₀₅.
       branch Q _ _ _ (λ e. f₄₀ (eqb-true _ _ e)) (λ e₄₀.
       branch Q _ _ _ (λ e. f₄₁ (eqb-true _ _ e)) (λ e₄₁.
       branch Q _ _ _ (λ e. f₄₂ (eqb-true _ _ e)) (λ e₄₂.
-      branch Q _ _ _ (λ e. f₄₃ (eqb-true _ _ e)) (λ e₄₃. f (rw (e₀₅, e₄₀, e₄₁, e₄₂, e₄₃)))))))
+      branch Q _ _ _ (λ e. f₄₃ (eqb-true _ _ e)) (λ e₄₃.
+      branch Q _ _ _ (λ e. s₂₇ (start-kind d e) e) (λ s.
+      branch Q _ _ _ (λ e. m₂₇ (eqb-true _ _ e) s) (λ e₂₇. f (rw (e₀₅, e₂₇, e₄₀, e₄₁, e₄₂, e₄₃)))))))))
 
 -- the command that was read has the details that its bytes tell
 kind-in : (d : Details) (os : List Object) → kindOf (bodyIn d os) ≡ d .kind
 unfolding kindOf
 kind-in d os =
-    body-cases (λ (b : Body). kindOf b ≡ d .kind) d os (λ e. sym e) (λ e. sym e) (λ e. sym e) (λ e. sym e) (λ e. sym e) (λ _. refl)
+    body-cases (λ (b : Body). kindOf b ≡ d .kind) d os (λ e. sym e) (λ e. sym e) (λ e. sym e) (λ e. sym e) (λ e. sym e) (λ e _. sym e) (λ e _. sym e) (λ _. refl)
 
 pub details-told : (d : Details) (os : List Object) → detailsOf (commandIn d os) ≡ d
 unfolding detailsOf commandIn

@@ -7,8 +7,9 @@ use Rattle.rules.specs.declared.Refusal.{Refusal}
 use Rattle.rules.specs.State.{State, start}
 use Rattle.rules.specs.Command.{Answer, refused, answered}
 use Rattle.rules.specs.Radio.{arrives, takes, drops}
-use Rattle.rules.specs.Run.{Call, starting, commanding, radio, step}
-use Rattle.rules.proofs.Cases.{arrival-cases, taking-cases, dropping-cases, command-cases}
+use Rattle.rules.specs.TimerCalls.{passing, second, envelope}
+use Rattle.rules.specs.Run.{Call, starting, commanding, radio, timing, step}
+use Rattle.rules.proofs.Cases.{arrival-cases, taking-cases, dropping-cases, enveloping-cases, command-cases}
 
 -- of an answer that is a refusal: the state is as it was
 abbrev Stays : State → Answer → Type 0
@@ -19,7 +20,7 @@ answered-stays a b s why e = cc
 
 -- a refusal leaves the state
 pub refusal-stays : (a : State) (c : Call) → Stays a (step a c)
-unfolding step
+unfolding step passing
 refusal-stays a (starting p) = answered-stays a (start p) []
 refusal-stays a (commanding terms s) =
     command-cases (Stays a) a (λ _ _ _. refl) terms s (λ _ _. answered-stays a _ _)
@@ -28,3 +29,5 @@ refusal-stays a (radio buffer n (arrives s)) =
 refusal-stays a (radio buffer n takes) = taking-cases (Stays a) a (λ _ _ _. refl) buffer n (λ _ _. answered-stays a _ _)
 refusal-stays a (radio buffer n drops) =
     dropping-cases (Stays a) a (λ _ _ _. refl) buffer n (λ _ _. answered-stays a _ _)
+refusal-stays a (timing second) = answered-stays a _ []
+refusal-stays a (timing (envelope buffer)) = enveloping-cases (Stays a) a (λ _ _ _. refl) buffer (λ _ _ _ _. answered-stays a _ _)

@@ -18,17 +18,20 @@ use Rattle.rules.specs.Frames.{Object, contents, lengthBytes, objectByte
 use Rattle.rules.specs.Table.{table, rowAmong, rowOf, complete, present, valueOf, bearerFits, lengthFits}
 use Rattle.rules.specs.Profile.{bit, allowsBearer}
 use Rattle.rules.specs.declared.Way.the-variants.{Receive, Send}
-use Rattle.rules.specs.State.{State, Chan, chan, held, atOnce}
-use Rattle.rules.specs.Reading.{Reading, reading, Command, Body, Bearer, bare, eventList, openChannel, closeChannel, receiveData, sendData, bearerIn, commandIn}
-use Rattle.rules.specs.Own.{Reply, Result, Status, error, problem, done, nothing, opened, received, sent, statuses, statusesFrom, own, protocolOf, reports}
-use Rattle.rules.specs.Written.{unflagged, detailsBytes, bearerBytes, pairBytes, statusBytes, statusObject, statusObjects, furtherObjects, resultBytes, resultObjects, responseObjects, responseBytes, eventBytes, reportObjects}
+use Rattle.rules.specs.State.{State, Chan, chan, held, atOnce, timer}
+use Rattle.rules.specs.Reading.{Reading, reading, Command, Body, Bearer, bare, eventList, openChannel, closeChannel, receiveData, sendData, bearerIn, commandIn, startTimer, manageTimer}
+use Rattle.rules.specs.Own.{Reply, Result, Status, error, problem, done, nothing, opened, received, sent, statuses, statusesFrom, own, protocolOf, reports, started, leaves}
+use Rattle.rules.specs.Written.{unflagged, detailsBytes, bearerBytes, pairBytes, statusBytes, statusObject, statusObjects, furtherObjects, resultBytes, resultObjects, responseObjects, responseBytes, eventBytes, reportObjects, timerObject, envelopeBytes, timeObject}
 use Rattle.rules.specs.Command.{Answer, meantBy}
 use Rattle.rules.specs.Radio.{arrivalEvent, dropEvent, arrives, takes, drops}
-use Rattle.rules.specs.Run.{Call, starting, commanding, radio, step}
+use Rattle.rules.specs.Run.{Call, starting, commanding, radio, step, timing}
 use Rattle.rules.specs.Sound.{Sound, most, Within}
 use Rattle.rules.proofs.Laws.{branch, both-left, both-right}
-use Rattle.rules.proofs.Cases.{arrival-cases, taking-cases, dropping-cases, command-cases, listing-cases, opening-cases, closing-cases, receiving-cases, sending-cases, telling-cases}
+use Rattle.rules.proofs.Cases.{arrival-cases, taking-cases, dropping-cases, command-cases, listing-cases, opening-cases, closing-cases, receiving-cases, sending-cases, telling-cases, starting-timer-cases, managing-timer-cases, enveloping-cases}
 use Rattle.rules.proofs.Readings.{Read, detailsRead, counted, reading-cases, body-cases, value-fits}
+use Rattle.rules.specs.Timers.{isStart, timeBytes, startedOf}
+use Rattle.rules.specs.TimerCalls.{passing, envelope, second}
+use Rattle.rules.specs.declared.Time.{Time}
 
 -- a length takes at most two bytes, so an object at most three more than its value
 pub length-bytes : (n : ℕ) → length (lengthBytes n) ≤ 2
@@ -110,6 +113,14 @@ none-short : length (written (unflagged 0x38 (0x00 ∷ 0x00 ∷ []) ∷ [])) ≤
 unfolding written objectBytes lengthBytes _⇒_else_
 none-short = omega arith
 
+started-short : (n : ℕ) → length (written (furtherObjects (started n))) ≤ 243
+unfolding furtherObjects timerObject written objectBytes lengthBytes _⇒_else_
+started-short n = omega arith
+
+leaves-short : (n : ℕ) (t : Time) → length (written (furtherObjects (leaves n t))) ≤ 243
+unfolding furtherObjects timerObject timeObject timeBytes written objectBytes lengthBytes _⇒_else_
+leaves-short n t = omega arith
+
 statuses-short : (ss : List Status) → length ss ≤ 7 → length (written (furtherObjects (reports (statuses ss)))) ≤ 243
 unfolding furtherObjects reportObjects statusObjects
 statuses-short [] h =
@@ -142,6 +153,8 @@ BearerMeasured (openChannel b size t) = bearerFits (bearerBytes b) ≡ true
 BearerMeasured closeChannel = Unit {0}
 BearerMeasured (receiveData n) = Unit {0}
 BearerMeasured (sendData s) = Unit {0}
+BearerMeasured (startTimer n v) = Unit {0}
+BearerMeasured (manageTimer n) = Unit {0}
 
 bearer-in : (v : List ℕ) → bearerFits v ≡ true → bearerFits (bearerBytes (bearerIn v)) ≡ true
 unfolding bearerIn bearerBytes bearerFits isEmpty _⇒_else_
@@ -149,9 +162,9 @@ bearer-in [] e = absurd (false≢true e)
 bearer-in (x ∷ v) e = e
 
 bearer-there : (d : Details) (os : List Object) → d .kind ≡ 0x40 → complete (rowOf d) os ≡ true → present 0x35 os ≡ true
-unfolding complete rowOf rowAmong table every _⇒_else_
+unfolding complete rowOf rowAmong table every isStart _⇒_else_
 bearer-there d os k w =
-    let e = subst (λ (t : ℕ). complete (rowAmong t table) os ≡ true) k w in
+    let e = subst (λ (t : ℕ). complete (rowOf (record { number = d .number; kind = t; qualifier = d .qualifier })) os ≡ true) k w in
     both-left (present 0x35 os) _ (both-right (present 0x02 os) _ (both-right (present 0x01 os) _ e))
 
 bearer-length : (v : List ℕ) → lengthFits 0x35 v ≡ true → bearerFits v ≡ true
@@ -166,7 +179,7 @@ bearer-read p s h =
     bearer-in (valueOf 0x35 (counted s))
     (bearer-length (valueOf 0x35 (counted s))
     (value-fits 0x35 (counted s) (bearer-there (detailsRead s) (counted s) e (h .whole)) (h .lengths))))
-    (λ _. tt) (λ _. tt) (λ _. tt) (λ _. tt)
+    (λ _. tt) (λ _. tt) (λ _. tt) (λ _ _. tt) (λ _ _. tt) (λ _. tt)
 
 -- every command's result is short
 abbrev After : Reply → Type 0
@@ -186,8 +199,10 @@ own-short a c (receiveData r) i h m =
     (λ k e _. received-short _ _ (let x = length-take k (held (chan a (channelOf (c .destination))) Receive) in omega arith))
 own-short a c (sendData s) i h m =
     sending-cases After a (λ _ _. tt) (c .qualifier) (channelOf (c .destination)) s i (λ x _ _ _ _ _. sent-short _)
+own-short a c (startTimer n v) i h m = starting-timer-cases After a n v i tt (λ _ _ _. started-short n)
+own-short a c (manageTimer n) i h m = managing-timer-cases After a (c .qualifier) n i tt (λ _. tt) (λ _ _ l _ _. leaves-short n l)
 
--- the two events
+-- the two events, and the envelope
 
 pub arrival-told : (n : ChannelNumber) (l : Link) (k : ℕ) → length (eventBytes 0x09 (statusObject n l ∷ unflagged 0x37 (k ∷ []) ∷ [])) ≤ 16
 unfolding eventBytes written objectBytes statusObject statusBytes lengthBytes _⇒_else_
@@ -210,6 +225,10 @@ drop-short : (a : State) (n : ChannelNumber) → length (dropEvent a n) ≤ 16
 unfolding dropEvent
 drop-short a n = branch (λ (t : List ℕ). length t ≤ 16) _ _ _ (λ _. drop-told n _) (λ _. omega arith)
 
+pub envelope-told : (n : ℕ) (t : Time) → length (envelopeBytes n t) ≡ 14
+unfolding envelopeBytes written objectBytes timerObject timeObject timeBytes lengthBytes _⇒_else_
+envelope-told n t = refl
+
 -- what is meant by a command
 meant-short : (a : State) (s : List ℕ) → Sound a → length (responseBytes (meantBy a (reading (a .profile) s) .response)) ≤ 255
 unfolding meantBy
@@ -221,9 +240,9 @@ meant-short a s h =
 abbrev Fits : ℕ → Answer → Type 0
 Fits k r = Within k (r .outcome)
 
--- every response has at most 255 bytes, every event at most 16, a take at most its buffer
+-- every response has at most 255 bytes, every event at most 16, a take at most its buffer, an envelope 14
 pub written-within : (a : State) (c : Call) → Sound a → Within (most c) (step a c .outcome)
-unfolding step
+unfolding step passing
 written-within a (starting p) h = omega arith
 written-within a (commanding terms s) h = command-cases (Fits 255) a (λ _. tt) terms s (λ _ _. meant-short a s h)
 written-within a (radio buffer n (arrives s)) h = arrival-cases (Fits 16) a (λ _. tt) buffer n s (λ _ _ _ _. arrival-short a n s)
@@ -231,3 +250,5 @@ written-within a (radio buffer n takes) h =
     taking-cases (Fits buffer) a (λ _. tt) buffer n
     (λ _ _. let x = length-take (min buffer (atOnce (chan a n) Send)) (held (chan a n) Send) in omega arith)
 written-within a (radio buffer n drops) h = dropping-cases (Fits 16) a (λ _. tt) buffer n (λ _ _. drop-short a n)
+written-within a (timing second) h = omega arith
+written-within a (timing (envelope buffer)) h = enveloping-cases (Fits 14) a (λ _. tt) buffer (λ _ n _ _. omega (arith, envelope-told n (startedOf (timer a n))))

@@ -3,9 +3,9 @@
 use Prim.Native.Nat.{ℕ, zero, suc, _+_, _-_, _*_, _≤_, _<_, min}
 use mathlib.Core.Path.{_≡_, refl, sym, ap, subst, _∙_}
 use mathlib.Core.Bool.{Bool, true, false, not, _&&_, true≢false, false≢true}
-use mathlib.Core.List.{List, [], _∷_, _++_}
+use mathlib.Core.List.{List, [], _∷_, _++_, map}
 use native.Mathlib.Omega.{arith}
-use lib.ListN.{length, getD, length-append, length-drop, length-take, length-set}
+use lib.ListN.{length, getD, length-append, length-drop, length-take, length-set, length-map}
 use lib.Dec.{leb, eqb}
 use borrow.Author.Tests.{leb-false}
 use Rattle.rules.specs.declared.Carries.{Carries}
@@ -16,19 +16,22 @@ use Rattle.rules.specs.declared.Link.{Link}
 use Rattle.rules.specs.Profile.{kept, channels}
 use Rattle.rules.specs.declared.Way.{Way}
 use Rattle.rules.specs.declared.Way.the-variants.{Receive, Send}
-use Rattle.rules.specs.State.{State, Chan, closed, isOpen, isStream, start, chan, withChan, room, fresh, readied, dropped, establish, queue, withQueue, held, joined, without, counting, due, atOnce, marked, appended, whole, arrived, removed, unfinished, placesUsed, crowded}
+use Rattle.rules.specs.State.{State, Chan, closed, isOpen, isStream, start, chan, withChan, room, fresh, readied, dropped, establish, queue, withQueue, held, joined, without, counting, due, atOnce, marked, appended, whole, arrived, removed, unfinished, placesUsed, crowded, withTimer, withTimers}
 use Rattle.rules.specs.Pool.{cells, promisedTo, promised, unpromised}
 use Rattle.rules.specs.Words.{channelOf}
-use Rattle.rules.specs.Reading.{Reading, wrong, asked, reading, Command, Body, bare, eventList, openChannel, closeChannel, receiveData, sendData}
+use Rattle.rules.specs.Reading.{Reading, wrong, asked, reading, Command, Body, bare, eventList, openChannel, closeChannel, receiveData, sendData, startTimer, manageTimer}
 use Rattle.rules.specs.Own.{Reply, bit1, openBefore, listed, own, protocolOf, carriedBy}
 use Rattle.rules.specs.Command.{Answer, meantBy}
 use Rattle.rules.specs.Radio.{arrives, takes, drops}
-use Rattle.rules.specs.Run.{Call, starting, commanding, radio, step, after}
-use Rattle.rules.specs.Sound.{SoundChan, Sound}
+use Rattle.rules.specs.Run.{Call, starting, commanding, radio, step, after, timing}
+use Rattle.rules.specs.Sound.{SoundChan, Sound, Each, SoundTimer}
 use Rattle.rules.proofs.Laws.{branch, by-way, skip, each-get, each-set, each-replicate}
-use Rattle.rules.proofs.Cases.{arrival-cases, taking-cases, dropping-cases, command-cases, listing-cases, opening-cases, closing-cases, receiving-cases, sending-cases}
+use Rattle.rules.proofs.Cases.{arrival-cases, taking-cases, dropping-cases, command-cases, listing-cases, opening-cases, closing-cases, receiving-cases, sending-cases, starting-timer-cases, managing-timer-cases, enveloping-cases}
 use Rattle.rules.proofs.Datagrams.{first, first-total, total-another, length-another, some-another, total-lessened, length-lessened, some-lessened}
 use Rattle.rules.proofs.Grants.{Granted, grant-law, promised-set}
+use Rattle.rules.specs.Timers.{Timer, timerCount, idle, running, ticked, timeIn, actionOf}
+use Rattle.rules.specs.TimerCalls.{passing, envelope, second}
+use Rattle.rules.proofs.Timers.{ticked-sound}
 
 -- what may be handed out at once is due, and of datagrams it is the first
 pub once-due : (c : Chan) (w : Way) → SoundChan c → atOnce c w ≤ due c w
@@ -247,6 +250,8 @@ with-sound a n c h at hc more =
       seven = length-set (a .chans) (n .0 - 1) c ∙ h .seven;
       each = each-set SoundChan (a .chans) (n .0 - 1) c hc (h .each);
       within = omega (arith, h .within);
+      eight = h .eight;
+      timed = h .timed;
     }
 
 -- the channel of any number is sound
@@ -283,6 +288,20 @@ opened-place a k h e u =
     let y = channels-le (a .profile) in
     omega arith
 
+-- what holds of each element holds of what is made of each
+each-map : {A B : Type 0} (P : A → Type 0) (Q : B → Type 0) (f : A → B) → ((x : A) → P x → Q (f x)) → (s : List A) → Each P s → Each Q (map f s)
+each-map P Q f g [] h = tt
+each-map P Q f g (x ∷ s) h = (g x (h .0), each-map P Q f g s (h .1))
+
+-- other timers, as many and sound, leave the state sound
+pub timers-sound : (a : State) (ts : List Timer) → Sound a → length ts ≡ timerCount → Each SoundTimer ts → Sound (withTimers a ts)
+unfolding promised
+timers-sound a ts h l e = record { thirteen = h .thirteen; seven = h .seven; each = h .each; within = h .within; eight = l; timed = e }
+
+pub with-timer-sound : (a : State) (n : ℕ) (t : Timer) → Sound a → SoundTimer t → Sound (withTimer a n t)
+unfolding withTimer
+with-timer-sound a n t h s = timers-sound a _ h (length-set (a .timers) (n - 1) t ∙ h .eight) (each-set SoundTimer (a .timers) (n - 1) t s (h .timed))
+
 -- a fresh session is sound
 pub start-sound : (p : List ℕ) → Sound (start p)
 unfolding start kept closed promised promisedTo cells
@@ -292,6 +311,8 @@ start-sound p =
       seven = refl;
       each = each-replicate SoundChan 7 closed closed-sound;
       within = omega arith;
+      eight = refl;
+      timed = each-replicate SoundTimer timerCount idle tt;
     }
 
 abbrev After : Reply → Type 0
@@ -310,7 +331,7 @@ own-sound : (a : State) (c : Command) (b : Body) (i : Bool) → Sound a → Soun
 unfolding own listed promised chan due removed withQueue without marked readied appended
 own-sound a c (bare t) i h = h
 own-sound a c (eventList es) i h =
-    listing-cases After a es i h (λ _. record { thirteen = h .thirteen; seven = h .seven; each = h .each; within = h .within })
+    listing-cases After a es i h (λ _. record { thirteen = h .thirteen; seven = h .seven; each = h .each; within = h .within; eight = h .eight; timed = h .timed })
 own-sound a c (openChannel b size t) i h =
     opening-cases After a (λ _ _. h) (c .qualifier) b size (protocolOf t) i h
     (λ n l g eₙ eₗ e o.
@@ -334,6 +355,10 @@ own-sound a c (sendData s) i h =
     (branch (λ (z : Chan). Sound (withChan a n z)) (bit1 (c .qualifier)) _ _
     (λ _. same-sound a n (readied x) h o (readied-sound x fit) (whole-grant x Send (unfinished x)))
     (λ _. same-sound a n x h o fit refl)))
+own-sound a c (startTimer n v) i h = starting-timer-cases After a n v i h (λ _ _ e. with-timer-sound a n (running (timeIn v) (timeIn v)) h (e, e))
+own-sound a c (manageTimer n) i h =
+    managing-timer-cases After a (c .qualifier) n i h (λ _. h)
+    (λ _ _ _ _ _. branch Sound (eqb (actionOf (c .qualifier)) 1) _ _ (λ _. with-timer-sound a n idle h tt) (λ _. h))
 
 meant-sound : (a : State) (r : Reading) → Sound a → Sound (meantBy a r .state)
 unfolding meantBy
@@ -345,7 +370,7 @@ Left r = Sound (r .state)
 
 -- every call leaves a sound state
 pub step-sound : (a : State) (c : Call) → Sound a → Sound (step a c .state)
-unfolding step due arrived appended removed withQueue marked dropped
+unfolding step passing due arrived appended removed withQueue marked dropped
 step-sound a (starting p) h = start-sound p
 step-sound a (commanding terms s) h =
     command-cases Left a (λ _. h) terms s (λ _ _. meant-sound a (reading (a .profile) s) h)
@@ -361,6 +386,8 @@ step-sound a (radio buffer n takes) h =
 step-sound a (radio buffer n drops) h =
     dropping-cases Left a (λ _. h) buffer n
     (λ _ l. same-sound a n (dropped (chan a n)) h (l .stands) (dropped-sound (chan a n) (chan-sound a n h)) refl)
+step-sound a (timing second) h = timers-sound a (map ticked (a .timers)) h (length-map (a .timers) ticked ∙ h .eight) (each-map SoundTimer SoundTimer ticked ticked-sound (a .timers) (h .timed))
+step-sound a (timing (envelope buffer)) h = enveloping-cases Left a (λ _. h) buffer (λ _ n _ _. with-timer-sound a n idle h tt)
 
 after-sound : (a : State) (cs : List Call) → Sound a → Sound (after a cs)
 unfolding after

@@ -11,7 +11,7 @@ use Rattle.rules.specs.declared.ChannelNumber.{ChannelNumber}
 use Rattle.rules.specs.declared.DeviceIdentity.{DeviceIdentity}
 use Rattle.rules.specs.declared.Ending.{Ending}
 use Rattle.rules.specs.declared.Refusal.{Refusal}
-use Rattle.rules.specs.declared.Refusal.the-variants.{ShortBuffer, CommandSize, NoChannel, Unopened, Unlinked, Overfull, UnfitRecord, NoResponse, Unreadable, NoPlace, Undersized, Unmendable, NoRecord, WrongCount}
+use Rattle.rules.specs.declared.Refusal.the-variants.{ShortBuffer, CommandSize, NoChannel, Unopened, Unlinked, Overfull, UnfitRecord, NoResponse, Unreadable, NoneWaits, NoPlace, Undersized, Unmendable, NoRecord, WrongCount}
 use Rattle.rules.specs.Checks.{_⇒_else_, isEmpty}
 use Rattle.rules.specs.Words.{numberOf, refusalOf, identityOf, channelOf}
 use Rattle.rules.specs.Frames.{ObjectRead, faulty, objectAt, onward, walkUpTo, walk}
@@ -38,6 +38,7 @@ refusal-back Overfull = refl
 refusal-back UnfitRecord = refl
 refusal-back NoResponse = refl
 refusal-back Unreadable = refl
+refusal-back NoneWaits = refl
 refusal-back NoPlace = refl
 refusal-back Undersized = refl
 refusal-back Unmendable = refl
@@ -55,6 +56,7 @@ number-small Overfull = omega arith
 number-small UnfitRecord = omega arith
 number-small NoResponse = omega arith
 number-small Unreadable = omega arith
+number-small NoneWaits = omega arith
 number-small NoPlace = omega arith
 number-small Undersized = omega arith
 number-small Unmendable = omega arith

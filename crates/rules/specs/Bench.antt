@@ -10,13 +10,14 @@ use Rattle.rules.specs.declared.Link.the-variants.{NotYet, Established, 
 use Rattle.rules.specs.declared.Refusal.{Refusal}
 use Rattle.rules.specs.declared.Refusal.the-variants.{ShortBuffer, UnfitRecord, NoResponse}
 use Rattle.rules.specs.Checks.{_⇒_else_, isEmpty, member, same}
-use Rattle.rules.specs.Results.{performed, partlyUnderstood, missingInformation, modified, beyondCapabilities, typeNotUnderstood, dataNotUnderstood, valuesMissing, channelProblem, noChannel, channelClosed, channelInvalid, sizeUnavailable, levelUnavailable, commandCap, dataCap, valueCap, countCap}
+use Rattle.rules.specs.Results.{performed, partlyUnderstood, missingInformation, modified, timerContradiction, beyondCapabilities, typeNotUnderstood, dataNotUnderstood, valuesMissing, channelProblem, noChannel, channelClosed, channelInvalid, sizeUnavailable, levelUnavailable, commandCap, dataCap, valueCap, countCap}
 use Rattle.rules.specs.Frames.{Object, walk, frame}
 use Rattle.rules.specs.Table.{known}
+use Rattle.rules.specs.Timers.{actionOf, stopAction, askAction, isStart, isTimer, timeIn, isTime}
 use Rattle.rules.specs.Pool.{grantCap}
 use Rattle.rules.specs.State.{isDropped}
-use Rattle.rules.specs.Reading.{Bearer, Transport, Body, Command, bare, eventList, openChannel, closeChannel, receiveData, sendData, kindOf, detailsOf, detailsIn, pairIn, bearerIn, addressed}
-use Rattle.rules.specs.Own.{bareTypes, Status, Report, Further, Result, statuses, nothing, opened, received, sent, reports, error, problem, done}
+use Rattle.rules.specs.Reading.{Bearer, Transport, Body, Command, bare, eventList, openChannel, closeChannel, receiveData, sendData, startTimer, manageTimer, kindOf, detailsOf, detailsIn, pairIn, bearerIn, addressed}
+use Rattle.rules.specs.Own.{bareTypes, Status, Report, Further, Result, statuses, nothing, opened, received, sent, started, leaves, reports, error, problem, done}
 use Rattle.rules.specs.Written.{Response, flagged, unflagged, pairBytes, detailsBytes, bearerBytes, responseBytes}
 use Rattle.rules.specs.Command.{Outcome, wrote, refused}
 
@@ -25,7 +26,7 @@ unfoldable pub bearerProper : Bearer → Bool
 bearerProper b =
     (eqb (b .kind) 0x02 && eqb (length (b .parameters)) 6) || (eqb (b .kind) 0x03 && isEmpty (b .parameters))
 
--- the values are such as the bench writes
+-- the values are such as the bench writes; it writes none of a timer
 unfoldable pub bodyProper : Body → Bool
 bodyProper (bare t) = member t bareTypes
 bodyProper (eventList es) = leb (length es) valueCap
@@ -33,6 +34,8 @@ bodyProper (openChannel b size t) = bearerProper b
 bodyProper closeChannel = true
 bodyProper (receiveData n) = true
 bodyProper (sendData s) = leb (length s) valueCap
+bodyProper (startTimer n v) = false
+bodyProper (manageTimer n) = false
 
 -- a transport level as an object, flag clear, where there is one
 unfoldable pub transportObjects : Option Transport → List Object
@@ -47,6 +50,8 @@ bodyObjects (openChannel b size t) = flagged 0x35 (bearerBytes b) ∷ flagged 0x
 bodyObjects closeChannel = []
 bodyObjects (receiveData n) = flagged 0x37 (n ∷ []) ∷ []
 bodyObjects (sendData s) = flagged 0x36 s ∷ []
+bodyObjects (startTimer n v) = []
+bodyObjects (manageTimer n) = []
 
 -- 01, 02, and the objects of the values
 unfoldable pub commandObjects : Command → List Object
@@ -63,9 +68,14 @@ benchWrite buffer c =
     not (bodyProper (c .body)) ⇒ refused UnfitRecord else
     wrote (frame (commandObjects c))
 
--- results by type: 30 for the seven; 31 for others; 32 any; 36 for the seven or zero details
+-- a timer is stopped or asked for
+unfoldable pub asksLeft : Details → Bool
+asksLeft d = eqb (d .kind) 0x27 && (eqb (actionOf (d .qualifier)) stopAction || eqb (actionOf (d .qualifier)) askAction)
+
+-- results by type: 24 for a timer stopped or asked for; 30 for the types of the table; 31 for others; 32 any; 36 for those of the table or zero details
 unfoldable pub errorProper : Details → ℕ → Bool
 errorProper d e =
+    eqb e timerContradiction ⇒ asksLeft d else
     eqb e beyondCapabilities ⇒ known (d .kind) else
     eqb e typeNotUnderstood ⇒ not (known (d .kind)) else
     eqb e dataNotUnderstood ⇒ true else
@@ -80,7 +90,7 @@ causeProper t cause =
     eqb t 0x43 ⇒ member cause (channelClosed ∷ channelInvalid ∷ sizeUnavailable ∷ []) else
     false
 
--- 00 and 01 for the seven; 02 only for 42; 07 only for 40
+-- 00 and 01 for the types of the table; 02 only for 42; 07 only for 40
 unfoldable pub successProper : ℕ → ℕ → Bool
 successProper t r =
     eqb r performed || eqb r partlyUnderstood ⇒ known t else
@@ -100,19 +110,21 @@ unfollowed = 0x02 ∷ 0x05 ∷ 0x41 ∷ []
 unfoldable pub reportProper : ℕ → Report → Bool
 reportProper t (statuses ss) = eqb t 0x44 && rising 0 ss
 
--- what follows is that of the type: data up to 237, grant 1 to 1500, counts up to FF
-unfoldable pub furtherProper : ℕ → Further → Bool
-furtherProper t nothing = member t unfollowed
-furtherProper t (opened s b g) =
-    eqb t 0x40 && rising 0 (s ∷ []) && not (isDropped (s .link)) && bearerProper b && leb 1 g && leb g grantCap
-furtherProper t (received s left) = eqb t 0x42 && leb (length s) dataCap && leb left countCap
-furtherProper t (sent room) = eqb t 0x43 && leb room countCap
-furtherProper t (reports r) = reportProper t r
+-- what follows is that of the details: data up to 237, grant 1 to 1500, counts up to FF, timers 1 to 8 and times from one second up to 23:59:59
+unfoldable pub furtherProper : Details → Further → Bool
+furtherProper d nothing = member (d .kind) unfollowed
+furtherProper d (opened s b g) =
+    eqb (d .kind) 0x40 && rising 0 (s ∷ []) && not (isDropped (s .link)) && bearerProper b && leb 1 g && leb g grantCap
+furtherProper d (received s left) = eqb (d .kind) 0x42 && leb (length s) dataCap && leb left countCap
+furtherProper d (sent room) = eqb (d .kind) 0x43 && leb room countCap
+furtherProper d (started n) = isStart d && isTimer n
+furtherProper d (leaves n t) = asksLeft d && isTimer n && isTime t
+furtherProper d (reports r) = reportProper (d .kind) r
 
 unfoldable pub resultProper : Details → Result → Bool
 resultProper d (error e) = errorProper d e
 resultProper d (problem cause) = causeProper (d .kind) cause
-resultProper d (done r f) = successProper (d .kind) r && furtherProper (d .kind) f
+resultProper d (done r f) = successProper (d .kind) r && furtherProper d f
 
 -- a response that the paper lists
 unfoldable pub proper : Response → Bool
@@ -136,20 +148,24 @@ statusesIn os =
     same (valueAt os 0) (0 ∷ 0 ∷ []) ⇒ [] else
     map (λ (o : Object). statusIn (o .value)) os
 
--- what the objects after the result say, by type
-unfoldable pub furtherIn : ℕ → List Object → Further
-furtherIn t os =
+-- what the objects after the result say, by the details
+unfoldable pub furtherIn : Details → List Object → Further
+furtherIn d os =
+    let t = d .kind in
+    let n = getD (valueAt os 0) 0 0 in
     eqb t 0x40 ⇒ opened (statusIn (valueAt os 0)) (bearerIn (valueAt os 1)) (pairIn (valueAt os 2)) else
     eqb t 0x42 ⇒ received (valueAt os 0) (getD (valueAt os 1) 0 0) else
-    eqb t 0x43 ⇒ sent (getD (valueAt os 0) 0 0) else
+    eqb t 0x43 ⇒ sent n else
     eqb t 0x44 ⇒ reports (statuses (statusesIn os)) else
+    isStart d ⇒ started n else
+    eqb t 0x27 ⇒ leaves n (timeIn (valueAt os 1)) else
     nothing
 
 -- what the result's bytes and the objects after it say
-unfoldable pub resultIn : ℕ → List ℕ → List Object → Result
-resultIn t v os =
+unfoldable pub resultIn : Details → List ℕ → List Object → Result
+resultIn d v os =
     eqb (getD v 0 0) channelProblem ⇒ problem (getD v 1 0) else
-    member (getD v 0 0) (performed ∷ partlyUnderstood ∷ missingInformation ∷ modified ∷ []) ⇒ done (getD v 0 0) (furtherIn t os) else
+    member (getD v 0 0) (performed ∷ partlyUnderstood ∷ missingInformation ∷ modified ∷ []) ⇒ done (getD v 0 0) (furtherIn d os) else
     error (getD v 0 0)
 
 -- the only response whose form the bytes can be
@@ -157,7 +173,7 @@ unfoldable pub responseIn : List ℕ → Response
 responseIn s =
     let os = walk s .objects in
     let d = detailsIn (valueAt os 0) in
-    record { details = d; result = resultIn (d .kind) (valueAt os 2) (drop 3 os) }
+    record { details = d; result = resultIn d (valueAt os 2) (drop 3 os) }
 
 -- a response, or R8
 pub data Told : Type 0 where

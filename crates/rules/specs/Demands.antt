@@ -15,12 +15,12 @@ use Rattle.rules.specs.declared.Way.the-variants.{Receive, Send}
 use Rattle.rules.specs.Words.{channelOf}
 use Rattle.rules.specs.State.{State, Chan, chan, isOpen, isStream, held}
 use Rattle.rules.specs.Pool.{cellCount, cells}
-use Rattle.rules.specs.Reading.{Body, Command, asked, reading, bare, eventList, openChannel, closeChannel, receiveData, sendData}
-use Rattle.rules.specs.Own.{Result, nothing, opened, received, sent, reports, error, problem, done, capped}
+use Rattle.rules.specs.Reading.{Body, Command, asked, reading, bare, eventList, openChannel, closeChannel, receiveData, sendData, startTimer, manageTimer}
+use Rattle.rules.specs.Own.{Result, nothing, opened, received, sent, started, leaves, reports, error, problem, done, capped}
 use Rattle.rules.specs.Written.{unflagged, statusObject, eventBytes}
 use Rattle.rules.specs.Command.{Outcome, wrote, refused, Terms}
 use Rattle.rules.specs.Bench.{Told, told, untold, benchRead}
-use Rattle.rules.specs.Run.{Call, starting, commanding, radio, step, after}
+use Rattle.rules.specs.Run.{Call, starting, commanding, radio, timing, step, after}
 use Rattle.rules.specs.State as state
 use Rattle.rules.specs.History.{Exchange, History, side, heldBy, history, seenFrom, commandSeen, sameNumber, datagramsBy, buildingBy, placesBy}
 use Rattle.rules.specs.Datagrams.{placeCount, pieces, bytesOf}
@@ -58,6 +58,7 @@ unfoldable pub begun : List ℕ → Call → List ℕ
 begun p (starting q) = q
 begun p (commanding terms s) = p
 begun p (radio buffer n act) = p
+begun p (timing act) = p
 
 unfoldable pub latest : List ℕ → List Call → List ℕ
 latest p [] = p
@@ -99,12 +100,15 @@ listsIn e (openChannel b size t) = e
 listsIn e closeChannel = e
 listsIn e (receiveData n) = e
 listsIn e (sendData s) = e
+listsIn e (startTimer n v) = e
+listsIn e (manageTimer n) = e
 
 -- and after a call, by how it ended: a start lists none
 unfoldable pub listsAfter : Events → Call → Outcome → Events
 listsAfter e (starting p) o = record { available = false; status = false }
 listsAfter e (commanding terms s) o = heardDone (heard o) ⇒ listsIn e (commandSeen s .body) else e
 listsAfter e (radio buffer n act) o = e
+listsAfter e (timing act) o = e
 
 unfoldable pub listsFrom : Events → List Exchange → Events
 listsFrom e [] = e
@@ -166,6 +170,8 @@ opensNumber n (some (done x nothing)) = false
 opensNumber n (some (done x (opened s b g))) = sameNumber n (s .number)
 opensNumber n (some (done x (received d left))) = false
 opensNumber n (some (done x (sent room))) = false
+opensNumber n (some (done x (started m))) = false
+opensNumber n (some (done x (leaves m t))) = false
 opensNumber n (some (done x (reports r))) = false
 
 -- a call may change the channel n: a start, a call of that number, a command to it, and one whose answer opens it
@@ -173,3 +179,4 @@ unfoldable pub touches : ChannelNumber → Call → Outcome → Bool
 touches n (starting p) o = true
 touches n (commanding terms s) o = sameNumber n (channelOf (commandSeen s .destination)) || opensNumber n (heard o)
 touches n (radio buffer m act) o = sameNumber n m
+touches n (timing act) o = false

@@ -17,12 +17,12 @@ use Rattle.rules.specs.Frames.{walk, contents}
 use Rattle.rules.specs.Table.{rowOf, sift, valueOf}
 use Rattle.rules.specs.Datagrams.{behind, joinedBy}
 use Rattle.rules.specs.State.{State, establish, isStream}
-use Rattle.rules.specs.Reading.{Body, Command, bare, eventList, openChannel, closeChannel, receiveData, sendData, detailsIn, commandIn}
-use Rattle.rules.specs.Own.{Result, nothing, opened, received, sent, reports, error, problem, done, bit1, protocolOf, carriedBy}
+use Rattle.rules.specs.Reading.{Body, Command, bare, eventList, openChannel, closeChannel, receiveData, sendData, startTimer, manageTimer, detailsIn, commandIn}
+use Rattle.rules.specs.Own.{Result, nothing, opened, received, sent, started, leaves, reports, error, problem, done, bit1, protocolOf, carriedBy}
 use Rattle.rules.specs.Command.{Outcome, wrote, refused}
 use Rattle.rules.specs.Bench.{Told, told, untold, benchRead}
 use Rattle.rules.specs.Radio.{RadioAct, arrives, takes, drops}
-use Rattle.rules.specs.Run.{Call, starting, commanding, radio, step}
+use Rattle.rules.specs.Run.{Call, starting, commanding, radio, timing, step}
 
 -- a call and how it ended
 pub record Exchange : Type 0 where
@@ -114,6 +114,8 @@ dataOf (openChannel b size t) = []
 dataOf closeChannel = []
 dataOf (receiveData n) = []
 dataOf (sendData s) = s
+dataOf (startTimer n v) = []
+dataOf (manageTimer n) = []
 
 -- what the channel that an OPEN CHANNEL opens is for
 unfoldable pub carriedIn : Body → Carries
@@ -123,6 +125,8 @@ carriedIn (openChannel b size t) = carriedBy (protocolOf t)
 carriedIn closeChannel = Stream
 carriedIn (receiveData n) = Stream
 carriedIn (sendData s) = Stream
+carriedIn (startTimer n v) = Stream
+carriedIn (manageTimer n) = Stream
 
 -- whether a command closes its channel
 unfoldable pub closes : Body → Bool
@@ -132,6 +136,8 @@ closes (openChannel b size t) = false
 closes closeChannel = true
 closes (receiveData n) = false
 closes (sendData s) = false
+closes (startTimer n v) = false
+closes (manageTimer n) = false
 
 -- the two numbers are the same
 abbrev pub sameNumber : ChannelNumber → ChannelNumber → Bool
@@ -145,6 +151,8 @@ answerTells n h c (done x (sent room)) =
     let k = acceptedIn h Send (dataOf (c .body)) in
     sameNumber n (channelOf (c .destination)) ⇒ (bit1 (c .qualifier) ⇒ readiedIn k else k) else h
 answerTells n h c (done x nothing) = closes (c .body) ⇒ (sameNumber n (channelOf (c .destination)) ⇒ ended else h) else h
+answerTells n h c (done x (started m)) = h
+answerTells n h c (done x (leaves m t)) = h
 answerTells n h c (done x (reports r)) = h
 answerTells n h c (error e) = h
 answerTells n h c (problem cause) = h
@@ -167,6 +175,7 @@ tells n h (commanding terms s) (wrote t) = heardTells n h (commandSeen s) (bench
 tells n h (commanding terms s) (refused r) = h
 tells n h (radio buffer m act) (wrote t) = sameNumber n m ⇒ radioTells h act t else h
 tells n h (radio buffer m act) (refused r) = h
+tells n h (timing act) o = h
 
 -- the history of the channel n after a list of exchanges
 unfoldable pub historyFrom : ChannelNumber → History → List Exchange → History

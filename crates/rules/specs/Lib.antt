@@ -4,6 +4,7 @@ pub mod Results
 pub mod Words
 pub mod Frames
 pub mod TagForms
+pub mod Timers
 pub mod Table
 pub mod Profile
 pub mod Datagrams
@@ -16,12 +17,14 @@ pub mod Written
 pub mod Command
 pub mod Fetch
 pub mod Radio
+pub mod TimerCalls
 pub mod Bench
 pub mod Lines
 pub mod Input
 pub mod Run
 pub mod History
 pub mod Acts
+pub mod TimerHistory
 pub mod Demands
 pub mod Sound
 pub mod Numbers

@@ -10,6 +10,7 @@ use lib.ListN.{length}
 use Rattle.rules.specs.declared.Refusal.the-variants.{Unopened}
 use Rattle.rules.specs.Checks.{_⇒_else_, isEmpty, every, some-of, occurrences, member, same}
 use Rattle.rules.specs.Frames.{longLength, lengthAt, lengthBytes, longTag, tagAt, valueAfter, afterTag, objectAt, onward, walkUpTo, walk, objectBytes, written, fills, following, framed, contents, frame}
+use Rattle.rules.specs.Timers.{isStart}
 use Rattle.rules.specs.Table.{table, known, rowAmong, rowOf, times, sift, present, valueOf, complete, bearerFits, lengthFits, measured}
 use Rattle.rules.specs.Profile.{bit, kept, allowsType, allowsEvent, allowsBearer, channels}
 use Rattle.rules.specs.Datagrams.{another, lessened}
@@ -114,7 +115,7 @@ sizeOf (refused r) = 0
 pub twelve :
     (map endOf numbers ≡ map (λ (r : Number). r .ends) numbers) ×
     (map (λ (r : Number). sizeOf (endOf r)) numbers ≡ map (λ (r : Number). r .size) numbers)
-unfolding row chars orNone bytes profile openLine eventLine arriveLine receiveLine pattern holding full answer numbers endOf sizeOf _⇒_else_ isEmpty every some-of occurrences member same longLength lengthAt lengthBytes longTag tagAt valueAfter afterTag objectAt onward walkUpTo walk objectBytes written fills following framed contents frame table known rowAmong rowOf times sift present valueOf complete bearerFits lengthFits measured bit kept allowsType allowsEvent allowsBearer channels isEstablished isDropped establish closed isOpen start chan withChan queue withQueue isStream room due atOnce joined without counting marked fresh appended whole arrived removed unfinished readied dropped placesUsed crowded another lessened served carriedBy kindOf detailsOf zeros detailsIn pairIn bearerIn transportIn bodyIn commandIn toModem addressed isFault startsWithDetails readObjects reading bit1 capped plain listed listing protocolOf openBefore opening closing receiving sending statusesFrom telling own cells promisedTo promised unpromised grantFor pairBytes detailsBytes bearerBytes statusBytes statusObject statusObjects reportObjects furtherObjects resultBytes resultObjects responseObjects responseBytes eventBytes meantBy command numbered arrivalEvent arrival taking dropEvent dropping step after isDigit digitValue with-byte bytesOf
+unfolding row chars orNone bytes profile openLine eventLine arriveLine receiveLine pattern holding full answer numbers endOf sizeOf _⇒_else_ isEmpty every some-of occurrences member same longLength lengthAt lengthBytes longTag tagAt valueAfter afterTag objectAt onward walkUpTo walk objectBytes written fills following framed contents frame table known rowAmong isStart rowOf times sift present valueOf complete bearerFits lengthFits measured bit kept allowsType allowsEvent allowsBearer channels isEstablished isDropped establish closed isOpen start chan withChan queue withQueue isStream room due atOnce joined without counting marked fresh appended whole arrived removed unfinished readied dropped placesUsed crowded another lessened served carriedBy kindOf detailsOf zeros detailsIn pairIn bearerIn transportIn bodyIn commandIn toModem addressed isFault startsWithDetails readObjects reading bit1 capped plain listed listing protocolOf openBefore opening closing receiving sending statusesFrom telling own cells promisedTo promised unpromised grantFor pairBytes detailsBytes bearerBytes statusBytes statusObject statusObjects reportObjects furtherObjects resultBytes resultObjects responseObjects responseBytes eventBytes meantBy command numbered arrivalEvent arrival taking dropEvent dropping step after isDigit digitValue with-byte bytesOf
 twelve = (refl, refl)
 
 -- the listing, through the whole line program: its lines in, its lines out
@@ -138,7 +139,7 @@ listingOut =
     []
 
 pub listing-printed : program (map chars listingIn) ≡ map chars listingOut
-unfolding listingIn listingOut chars _⇒_else_ isEmpty every some-of occurrences member same longLength lengthAt lengthBytes longTag tagAt valueAfter afterTag objectAt onward walkUpTo walk objectBytes written fills following framed contents frame table known rowAmong rowOf times sift present valueOf complete bearerFits lengthFits measured bit kept allowsType allowsEvent allowsBearer channels isEstablished isDropped establish closed isOpen start chan withChan queue withQueue isStream room due atOnce joined without counting marked fresh appended whole arrived removed unfinished readied dropped placesUsed crowded another lessened served carriedBy kindOf detailsOf zeros detailsIn pairIn bearerIn transportIn bodyIn commandIn toModem addressed isFault startsWithDetails readObjects reading bit1 capped plain listed listing protocolOf openBefore opening closing receiving sending statusesFrom telling own cells promisedTo promised unpromised grantFor pairBytes detailsBytes bearerBytes statusBytes statusObject statusObjects reportObjects furtherObjects resultBytes resultObjects responseObjects responseBytes eventBytes meantBy command numbered arrivalEvent arrival taking dropEvent dropping step after isDigit digitValue with-byte bytesOf frameOf callOf digitOf hex zerosBefore decimal printed callIn perform lineStep linesFrom profileThen program
+unfolding listingIn listingOut chars _⇒_else_ isEmpty every some-of occurrences member same longLength lengthAt lengthBytes longTag tagAt valueAfter afterTag objectAt onward walkUpTo walk objectBytes written fills following framed contents frame table known rowAmong isStart rowOf times sift present valueOf complete bearerFits lengthFits measured bit kept allowsType allowsEvent allowsBearer channels isEstablished isDropped establish closed isOpen start chan withChan queue withQueue isStream room due atOnce joined without counting marked fresh appended whole arrived removed unfinished readied dropped placesUsed crowded another lessened served carriedBy kindOf detailsOf zeros detailsIn pairIn bearerIn transportIn bodyIn commandIn toModem addressed isFault startsWithDetails readObjects reading bit1 capped plain listed listing protocolOf openBefore opening closing receiving sending statusesFrom telling own cells promisedTo promised unpromised grantFor pairBytes detailsBytes bearerBytes statusBytes statusObject statusObjects reportObjects furtherObjects resultBytes resultObjects responseObjects responseBytes eventBytes meantBy command numbered arrivalEvent arrival taking dropEvent dropping step after isDigit digitValue with-byte bytesOf frameOf callOf digitOf hex zerosBefore decimal printed callIn perform lineStep linesFrom profileThen program
 listing-printed = refl
 
 -- a script: the lines that go in, and the lines that come out
@@ -176,5 +177,5 @@ edges =
 
 -- every script prints what it must
 pub edges-printed : map (λ (s : Script). program (map chars (s .given))) edges ≡ map (λ (s : Script). map chars (s .prints)) edges
-unfolding script edges chars _⇒_else_ isEmpty every some-of occurrences member same longLength lengthAt lengthBytes longTag tagAt valueAfter afterTag objectAt onward walkUpTo walk objectBytes written fills following framed contents frame table known rowAmong rowOf times sift present valueOf complete bearerFits lengthFits measured bit kept allowsType allowsEvent allowsBearer channels isEstablished isDropped establish closed isOpen start chan withChan queue withQueue isStream room due atOnce joined without counting marked fresh appended whole arrived removed unfinished readied dropped placesUsed crowded another lessened served carriedBy kindOf detailsOf zeros detailsIn pairIn bearerIn transportIn bodyIn commandIn toModem addressed isFault startsWithDetails readObjects reading bit1 capped plain listed listing protocolOf openBefore opening closing receiving sending statusesFrom telling own cells promisedTo promised unpromised grantFor pairBytes detailsBytes bearerBytes statusBytes statusObject statusObjects reportObjects furtherObjects resultBytes resultObjects responseObjects responseBytes eventBytes meantBy command numbered arrivalEvent arrival taking dropEvent dropping step after isDigit digitValue with-byte bytesOf frameOf callOf digitOf hex zerosBefore decimal printed callIn perform lineStep linesFrom profileThen program
+unfolding script edges chars _⇒_else_ isEmpty every some-of occurrences member same longLength lengthAt lengthBytes longTag tagAt valueAfter afterTag objectAt onward walkUpTo walk objectBytes written fills following framed contents frame table known rowAmong isStart rowOf times sift present valueOf complete bearerFits lengthFits measured bit kept allowsType allowsEvent allowsBearer channels isEstablished isDropped establish closed isOpen start chan withChan queue withQueue isStream room due atOnce joined without counting marked fresh appended whole arrived removed unfinished readied dropped placesUsed crowded another lessened served carriedBy kindOf detailsOf zeros detailsIn pairIn bearerIn transportIn bodyIn commandIn toModem addressed isFault startsWithDetails readObjects reading bit1 capped plain listed listing protocolOf openBefore opening closing receiving sending statusesFrom telling own cells promisedTo promised unpromised grantFor pairBytes detailsBytes bearerBytes statusBytes statusObject statusObjects reportObjects furtherObjects resultBytes resultObjects responseObjects responseBytes eventBytes meantBy command numbered arrivalEvent arrival taking dropEvent dropping step after isDigit digitValue with-byte bytesOf frameOf callOf digitOf hex zerosBefore decimal printed callIn perform lineStep linesFrom profileThen program
 edges-printed = refl

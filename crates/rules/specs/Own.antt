@@ -11,14 +11,16 @@ use Rattle.rules.specs.declared.Carries.the-variants.{Stream, Datagrams}
 use Rattle.rules.specs.declared.ChannelNumber.{ChannelNumber}
 use Rattle.rules.specs.declared.Link.{Link}
 use Rattle.rules.specs.declared.Link.the-variants.{NotYet, Established}
+use Rattle.rules.specs.declared.Time.{Time}
 use Rattle.rules.specs.declared.Way.the-variants.{Receive, Send}
 use Rattle.rules.specs.Checks.{_⇒_else_, every, member}
-use Rattle.rules.specs.Results.{performed, partlyUnderstood, missingInformation, modified, beyondCapabilities, noChannel, channelClosed, channelInvalid, sizeUnavailable, levelUnavailable, dataCap, countCap}
+use Rattle.rules.specs.Results.{performed, partlyUnderstood, missingInformation, modified, timerContradiction, beyondCapabilities, dataNotUnderstood, noChannel, channelClosed, channelInvalid, sizeUnavailable, levelUnavailable, dataCap, countCap}
 use Rattle.rules.specs.Words.{channelOf}
+use Rattle.rules.specs.Timers.{Timer, idle, running, waiting, actionOf, stopAction, noAction, isTimer, isDigits, timeIn, ofDay, isZero}
 use Rattle.rules.specs.Profile.{allowsEvent, allowsBearer, channels}
-use Rattle.rules.specs.State.{State, Chan, closed, isDropped, isOpen, chan, withChan, held, room, atOnce, fresh, appended, removed, readied, crowded}
+use Rattle.rules.specs.State.{State, Chan, closed, isDropped, isOpen, chan, withChan, timer, withTimer, held, room, atOnce, fresh, appended, removed, readied, crowded}
 use Rattle.rules.specs.Pool.{unpromised, grantFor}
-use Rattle.rules.specs.Reading.{Bearer, Transport, Body, Command, bare, eventList, openChannel, closeChannel, receiveData, sendData}
+use Rattle.rules.specs.Reading.{Bearer, Transport, Body, Command, bare, eventList, openChannel, closeChannel, receiveData, sendData, startTimer, manageTimer}
 
 -- a channel's number and its link, as a status tells them
 pub record Status : Type 0 where
@@ -35,9 +37,11 @@ pub data Further : Type 0 where
   opened : Status → Bearer → ℕ → Further
   received : List ℕ → ℕ → Further
   sent : ℕ → Further
+  started : ℕ → Further
+  leaves : ℕ → Time → Further
   reports : Report → Further
 
--- a result: an error 30, 31, 32 or 36; a problem, 3A, with its cause; or done, with what follows
+-- a result: an error 24, 30, 31, 32 or 36; a problem, 3A, with its cause; or done, with what follows
 pub data Result : Type 0 where
   error : ℕ → Result
   problem : ℕ → Result
@@ -70,7 +74,7 @@ plain ignored = ignored ⇒ partlyUnderstood else performed
 -- the state with another event list
 unfoldable pub listed : State → List ℕ → State
 listed a es =
-    record { profile = a .profile; events = record { available = member 0x09 es; status = member 0x0A es }; chans = a .chans }
+    record { profile = a .profile; events = record { available = member 0x09 es; status = member 0x0A es }; chans = a .chans; timers = a .timers }
 
 -- 05: each value is 09 or 0A and allowed, or the list stays; it replaces the old one
 unfoldable pub listing : State → List ℕ → Bool → Reply
@@ -147,6 +151,30 @@ statusesFrom n (c ∷ cs) =
     let rest = statusesFrom (n + 1) cs in
     isOpen c ⇒ record { number = record { 0 = n }; link = c .link } ∷ rest else rest
 
+-- 27, a start: the timer is 1 to 8, its time has sound digits, is one of a day and not zero; it runs with that time, whatever it did
+unfoldable pub startingTimer : State → ℕ → List ℕ → Bool → Reply
+startingTimer a n v ignored =
+    let t = timeIn v in
+    not (isTimer n) ⇒ reply a (error dataNotUnderstood) else
+    not (every isDigits v) ⇒ reply a (error dataNotUnderstood) else
+    not (ofDay t) ⇒ reply a (error dataNotUnderstood) else
+    isZero t ⇒ reply a (error dataNotUnderstood) else
+    reply (withTimer a n (running t t)) (done (plain ignored) (started n))
+
+-- the time left is told of a timer that runs; a stop ends it, an ask leaves it
+unfoldable pub tellsLeft : State → ℕ → ℕ → Bool → Timer → Reply
+tellsLeft a q n ignored idle = reply a (error timerContradiction)
+tellsLeft a q n ignored (running left from) =
+    reply (eqb (actionOf q) stopAction ⇒ withTimer a n idle else a) (done (plain ignored) (leaves n left))
+tellsLeft a q n ignored (waiting from) = reply a (error timerContradiction)
+
+-- 27, a stop or an ask: value 3 is neither
+unfoldable pub managingTimer : State → ℕ → ℕ → Bool → Reply
+managingTimer a q n ignored =
+    eqb (actionOf q) noAction ⇒ reply a (error dataNotUnderstood) else
+    not (isTimer n) ⇒ reply a (error dataNotUnderstood) else
+    tellsLeft a q n ignored (timer a n)
+
 -- the types that change nothing and have no values
 abbrev pub bareTypes : List ℕ
 bareTypes = 0x02 ∷ 0x44 ∷ []
@@ -165,3 +193,5 @@ own a c (openChannel b size t) ignored = opening a (c .qualifier) b size (protoc
 own a c closeChannel ignored = closing a (channelOf (c .destination)) ignored
 own a c (receiveData n) ignored = receiving a (channelOf (c .destination)) n ignored
 own a c (sendData s) ignored = sending a (c .qualifier) (channelOf (c .destination)) s ignored
+own a c (startTimer n v) ignored = startingTimer a n v ignored
+own a c (manageTimer n) ignored = managingTimer a (c .qualifier) n ignored

@@ -7,6 +7,7 @@ use lib.ListN.{getD, take, replicate}
 use lib.Dec.{eqb}
 use Rattle.rules.specs.declared.Details.{Details}
 use Rattle.rules.specs.Checks.{_⇒_else_}
+use Rattle.rules.specs.Timers.{actionOf, askAction}
 
 -- bytes and bits are numbered from 1; bits past the end are 0
 unfoldable pub bit : List ℕ → ℕ → ℕ → Bool
@@ -19,11 +20,12 @@ profileSize = 13
 unfoldable pub kept : List ℕ → List ℕ
 kept p = take profileSize (p ++ replicate profileSize 0)
 
--- the types: byte 3 bit 4 for 02, byte 5 bit 1 for 05, byte 12 bits 1 to 5 for 40 to 44
+-- the types: byte 3 bit 4 for 02, byte 5 bit 1 for 05, byte 8 bit 2 for asking for a timer and bit 1 for all else of 27, byte 12 bits 1 to 5 for 40 to 44
 unfoldable pub allowsType : List ℕ → Details → Bool
 allowsType p d =
     eqb (d .kind) 0x02 ⇒ bit p 3 4 else
     eqb (d .kind) 0x05 ⇒ bit p 5 1 else
+    eqb (d .kind) 0x27 ⇒ bit p 8 (eqb (actionOf (d .qualifier)) askAction ⇒ 2 else 1) else
     bit p 12 (d .kind - 0x3F)
 
 -- a profile with the first of byte 12's bits alone, and one with the fifth alone, against the five types

@@ -13,6 +13,7 @@ use Rattle.rules.specs.Checks.{_⇒_else_, isEmpty, some-of, member}
 use Rattle.rules.specs.Results.{beyondCapabilities, typeNotUnderstood, dataNotUnderstood, valuesMissing}
 use Rattle.rules.specs.Frames.{Object, walk, framed, contents}
 use Rattle.rules.specs.Table.{rowOf, known, sift, present, valueOf, complete, measured}
+use Rattle.rules.specs.Timers.{isStart}
 use Rattle.rules.specs.Profile.{allowsType}
 
 -- a bearer, object 35: its type and its parameters
@@ -33,6 +34,8 @@ pub data Body : Type 0 where
   closeChannel : Body
   receiveData : ℕ → Body
   sendData : List ℕ → Body
+  startTimer : ℕ → List ℕ → Body
+  manageTimer : ℕ → Body
 
 -- a command with its values
 pub record Command : Type 0 where
@@ -50,6 +53,8 @@ kindOf (openChannel b s t) = 0x40
 kindOf closeChannel = 0x41
 kindOf (receiveData n) = 0x42
 kindOf (sendData s) = 0x43
+kindOf (startTimer n v) = 0x27
+kindOf (manageTimer n) = 0x27
 
 -- the details of a command: number, type, qualifier
 unfoldable pub detailsOf : Command → Details
@@ -73,7 +78,7 @@ bearerIn v = record { kind = getD v 0 0; parameters = drop 1 v }
 unfoldable pub transportIn : List ℕ → Transport
 transportIn v = record { protocol = getD v 0 0; port = pairIn (drop 1 v) }
 
--- the values of a command with these details among the objects that count
+-- the values of a command with these details among the objects that count; those of a timer go by whether it is started
 unfoldable pub bodyIn : Details → List Object → Body
 bodyIn d os =
     let t = d .kind in
@@ -84,6 +89,8 @@ bodyIn d os =
     eqb t 0x41 ⇒ closeChannel else
     eqb t 0x42 ⇒ receiveData (getD (valueOf 0x37 os) 0 0) else
     eqb t 0x43 ⇒ sendData (valueOf 0x36 os) else
+    isStart d ⇒ startTimer (getD (valueOf 0x24 os) 0 0) (valueOf 0x25 os) else
+    eqb t 0x27 ⇒ manageTimer (getD (valueOf 0x24 os) 0 0) else
     bare t
 
 -- the command with these details among the objects that count
@@ -99,7 +106,7 @@ commandIn d os =
 
 -- the types that go to the modem itself, 82; the others go to a channel
 unfoldable pub toModem : ℕ → Bool
-toModem t = member t (0x02 ∷ 0x05 ∷ 0x40 ∷ 0x44 ∷ [])
+toModem t = member t (0x02 ∷ 0x05 ∷ 0x27 ∷ 0x40 ∷ 0x44 ∷ [])
 
 -- step 8: from the card, 81, to the modem, 82, or to a channel, 21 to 27
 unfoldable pub addressed : ℕ → DeviceIdentity → DeviceIdentity → Bool

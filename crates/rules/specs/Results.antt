@@ -14,7 +14,10 @@ missingInformation = 0x02
 abbrev pub modified : ℕ
 modified = 0x07
 
--- what the profile does not allow; an unknown type; data that cannot be read; a required object that is absent
+-- a timer that does not run is stopped or asked for; what the profile does not allow; an unknown type; data that cannot be read; a required object that is absent
+abbrev pub timerContradiction : ℕ
+timerContradiction = 0x24
+
 abbrev pub beyondCapabilities : ℕ
 beyondCapabilities = 0x30
 
@@ -46,12 +49,15 @@ sizeUnavailable = 0x04
 abbrev pub levelUnavailable : ℕ
 levelUnavailable = 0x06
 
--- the least buffer of a command, of an arrival and a drop, and of the bench's writer
+-- the least buffer of a command, of an arrival and a drop, and of an envelope
 abbrev pub responseCap : ℕ
 responseCap = 255
 
 abbrev pub eventCap : ℕ
 eventCap = 16
+
+abbrev pub envelopeCap : ℕ
+envelopeCap = 14
 
 -- the most bytes of a command, of data that RECEIVE DATA hands out, of an event list or data that the bench writes, and the greatest count told
 abbrev pub commandCap : ℕ

@@ -5,12 +5,14 @@ use Rattle.rules.specs.declared.ChannelNumber.{ChannelNumber}
 use Rattle.rules.specs.State.{State, start}
 use Rattle.rules.specs.Command.{Outcome, Answer, answered, Terms, command}
 use Rattle.rules.specs.Radio.{RadioAct, arrives, takes, drops, radioCall}
+use Rattle.rules.specs.TimerCalls.{TimerAct, timerCall}
 
--- a call: a start with a profile, a command on its terms, or what the radio does with a channel over a buffer of so many bytes
+-- a call: a start with a profile, a command on its terms, what the radio does with a channel over a buffer of so many bytes, or what the host does with the timers
 pub data Call : Type 0 where
   starting : List ℕ → Call
   commanding : Terms → List ℕ → Call
   radio : ℕ → ChannelNumber → RadioAct → Call
+  timing : TimerAct → Call
 
 -- the radio's calls, each by its name
 abbrev pub arriving : ℕ → ChannelNumber → List ℕ → Call
@@ -27,6 +29,7 @@ unfoldable pub step : State → Call → Answer
 step a (starting p) = answered (start p) []
 step a (commanding terms s) = command a terms s
 step a (radio buffer n act) = radioCall a buffer n act
+step a (timing act) = timerCall a act
 
 -- the state after a list of calls
 unfoldable pub after : State → List Call → State

@@ -1,4 +1,4 @@
--- The state of a session: the profile, the event list and seven channels.
+-- The state of a session: the profile, the event list, seven channels and eight timers.
 use Prim.Native.Nat.{ℕ, _+_, _-_, min}
 use mathlib.Core.Path.{_≡_, refl}
 use mathlib.Core.Bool.{Bool, true, false, not, _&&_}
@@ -15,6 +15,7 @@ use Rattle.rules.specs.declared.Way.{Way}
 use Rattle.rules.specs.declared.Way.the-variants.{Receive, Send}
 use Rattle.rules.specs.Checks.{_⇒_else_, isEmpty}
 use Rattle.rules.specs.Profile.{kept}
+use Rattle.rules.specs.Timers.{timerCount, Timer, idle}
 use Rattle.rules.specs.Datagrams.{placeCount, another, lessened}
 
 unfoldable pub isEstablished : Link → Bool
@@ -55,6 +56,7 @@ pub record State : Type 0 where
   pub profile : List ℕ
   pub events : Events
   pub chans : List Chan
+  pub timers : List Timer
 
 -- nothing is held
 abbrev pub nothingHeld : Queue
@@ -67,10 +69,15 @@ closed = record { grant = 0; link = NotYet; carries = Stream; receive = nothingH
 unfoldable pub isOpen : Chan → Bool
 isOpen c = leb 1 (c .grant)
 
--- a fresh session has no channel and no event
+-- a fresh session has no channel and no event, and no timer runs or waits
 unfoldable pub start : List ℕ → State
 start p =
-    record { profile = kept p; events = record { available = false; status = false }; chans = replicate 7 closed }
+    record {
+      profile = kept p;
+      events = record { available = false; status = false };
+      chans = replicate 7 closed;
+      timers = replicate timerCount idle;
+    }
 
 pub start-fresh : (p : List ℕ) → start p .events ≡ record { available = false; status = false }
 unfolding start
@@ -82,7 +89,17 @@ chan a n = getD (a .chans) (n .0 - 1) closed
 
 -- the state with another channel in the place of that number
 unfoldable pub withChan : State → ChannelNumber → Chan → State
-withChan a n c = record { profile = a .profile; events = a .events; chans = set (a .chans) (n .0 - 1) c }
+withChan a n c = record { profile = a .profile; events = a .events; chans = set (a .chans) (n .0 - 1) c; timers = a .timers }
+
+-- the timer of a number, and the state with another one there
+unfoldable pub timer : State → ℕ → Timer
+timer a n = getD (a .timers) (n - 1) idle
+
+abbrev pub withTimers : State → List Timer → State
+withTimers a ts = record { profile = a .profile; events = a .events; chans = a .chans; timers = ts }
+
+unfoldable pub withTimer : State → ℕ → Timer → State
+withTimer a n t = withTimers a (set (a .timers) (n - 1) t)
 
 -- the queue of a way, and the channel with another one there
 unfoldable pub queue : Chan → Way → Queue

@@ -1,4 +1,4 @@
--- "Frames and objects", the table of the seven types: what is required, what may also stand, how often; the lengths.
+-- "Frames and objects", the table of the types: what is required, what may also stand, how often; the lengths.
 use Prim.Native.Nat.{ℕ}
 use mathlib.Core.Path.{_≡_, refl}
 use mathlib.Core.Bool.{Bool, true, false, _||_}
@@ -8,6 +8,7 @@ use lib.Dec.{ltb, eqb}
 use Rattle.rules.specs.declared.Details.{Details}
 use Rattle.rules.specs.Checks.{_⇒_else_, isEmpty, every, some-of, occurrences, member}
 use Rattle.rules.specs.Frames.{Object}
+use Rattle.rules.specs.Timers.{isStart}
 
 -- a row: the type, the objects required, those that may also stand, and those of which two may stand
 pub record Row : Type 0 where
@@ -19,11 +20,12 @@ pub record Row : Type 0 where
 abbrev row : ℕ → List ℕ → List ℕ → List ℕ → Row
 row k r a t = record { kind = k; required = r; also = a; twice = t }
 
--- MORE TIME, SET UP EVENT LIST, OPEN CHANNEL, CLOSE CHANNEL, RECEIVE DATA, SEND DATA, GET CHANNEL STATUS
+-- MORE TIME, SET UP EVENT LIST, TIMER MANAGEMENT (but its start), OPEN CHANNEL, CLOSE CHANNEL, RECEIVE DATA, SEND DATA, GET CHANNEL STATUS
 unfoldable pub table : List Row
 table =
     row 0x02 (0x01 ∷ 0x02 ∷ []) [] [] ∷
     row 0x05 (0x01 ∷ 0x02 ∷ 0x19 ∷ []) [] [] ∷
+    row 0x27 (0x01 ∷ 0x02 ∷ 0x24 ∷ []) [] [] ∷
     row 0x40 (0x01 ∷ 0x02 ∷ 0x35 ∷ 0x39 ∷ []) (0x05 ∷ 0x1E ∷ 0x3C ∷ 0x47 ∷ []) (0x04 ∷ 0x0D ∷ 0x3E ∷ []) ∷
     row 0x41 (0x01 ∷ 0x02 ∷ []) (0x05 ∷ 0x1E ∷ []) [] ∷
     row 0x42 (0x01 ∷ 0x02 ∷ 0x37 ∷ []) (0x05 ∷ 0x1E ∷ []) [] ∷
@@ -31,7 +33,7 @@ table =
     row 0x44 (0x01 ∷ 0x02 ∷ []) [] [] ∷
     []
 
--- the type is one of the seven
+-- the type is one of the table
 unfoldable pub known : ℕ → Bool
 known t = member t (map (λ (r : Row). r .kind) table)
 
@@ -40,9 +42,13 @@ unfoldable pub rowAmong : ℕ → List Row → Row
 rowAmong t [] = row t [] [] []
 rowAmong t (r ∷ rs) = let s = rowAmong t rs in eqb t (r .kind) ⇒ r else s
 
+-- the row of the start of a timer, which requires its time
+abbrev pub startRow : Row
+startRow = row 0x27 (0x01 ∷ 0x02 ∷ 0x24 ∷ 0x25 ∷ []) [] []
+
 -- the row of a command with these details
 unfoldable pub rowOf : Details → Row
-rowOf d = rowAmong (d .kind) table
+rowOf d = isStart d ⇒ startRow else rowAmong (d .kind) table
 
 -- how often an object of this number may stand
 unfoldable pub times : Row → ℕ → ℕ
@@ -94,9 +100,9 @@ bearerFits v =
 -- the length that the value of an object of this number has; the other values have any
 unfoldable pub lengthFits : ℕ → List ℕ → Bool
 lengthFits n v =
-    eqb n 0x01 || eqb n 0x3C ⇒ eqb (length v) 3 else
+    eqb n 0x01 || eqb n 0x25 || eqb n 0x3C ⇒ eqb (length v) 3 else
     eqb n 0x02 || eqb n 0x04 || eqb n 0x1E || eqb n 0x39 ⇒ eqb (length v) 2 else
-    eqb n 0x37 ⇒ eqb (length v) 1 else
+    eqb n 0x24 || eqb n 0x37 ⇒ eqb (length v) 1 else
     eqb n 0x35 ⇒ bearerFits v else
     true
 

@@ -3,11 +3,11 @@ use Prim.Native.Nat.{ℕ, _+_, _%_}
 use lib.Dec.{eqb}
 use Rattle.rules.specs.Checks.{_⇒_else_}
 use Rattle.rules.specs.declared.Refusal.{Refusal}
-use Rattle.rules.specs.declared.Refusal.the-variants.{ShortBuffer, CommandSize, NoChannel, Unopened, Unlinked, Overfull, UnfitRecord, NoResponse, Unreadable, NoPlace, Undersized, Unmendable, NoRecord, WrongCount}
+use Rattle.rules.specs.declared.Refusal.the-variants.{ShortBuffer, CommandSize, NoChannel, Unopened, Unlinked, Overfull, UnfitRecord, NoResponse, Unreadable, NoneWaits, NoPlace, Undersized, Unmendable, NoRecord, WrongCount}
 use Rattle.rules.specs.declared.ChannelNumber.{ChannelNumber}
 use Rattle.rules.specs.declared.DeviceIdentity.{DeviceIdentity}
 
--- R1 to R9, R11, R12 and R16 to R18
+-- R1 to R12 and R16 to R18
 abbrev pub numberOf : Refusal → ℕ
 numberOf ShortBuffer = 1
 numberOf CommandSize = 2
@@ -18,6 +18,7 @@ numberOf Overfull = 6
 numberOf UnfitRecord = 7
 numberOf NoResponse = 8
 numberOf Unreadable = 9
+numberOf NoneWaits = 10
 numberOf NoPlace = 11
 numberOf Undersized = 12
 numberOf Unmendable = 16
@@ -35,6 +36,7 @@ refusalOf n =
     eqb n 6 ⇒ Overfull else
     eqb n 7 ⇒ UnfitRecord else
     eqb n 8 ⇒ NoResponse else
+    eqb n 10 ⇒ NoneWaits else
     eqb n 11 ⇒ NoPlace else
     eqb n 12 ⇒ Undersized else
     eqb n 16 ⇒ Unmendable else

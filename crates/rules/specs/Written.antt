@@ -1,4 +1,4 @@
--- "Bytes the modem writes": a response, and the two events.
+-- "Bytes the modem writes": a response, the two events, and the envelope of a timer.
 use Prim.Native.Nat.{ℕ, _+_, _/_, _%_}
 use mathlib.Core.Bool.{true, false}
 use mathlib.Core.List.{List, [], _∷_, _++_, map}
@@ -7,10 +7,12 @@ use Rattle.rules.specs.declared.ChannelNumber.{ChannelNumber}
 use Rattle.rules.specs.declared.Details.{Details}
 use Rattle.rules.specs.declared.Link.{Link}
 use Rattle.rules.specs.declared.Link.the-variants.{NotYet, Established, Dropped}
+use Rattle.rules.specs.declared.Time.{Time}
 use Rattle.rules.specs.Results.{channelProblem}
+use Rattle.rules.specs.Timers.{timeBytes}
 use Rattle.rules.specs.Frames.{Object, written, lengthBytes}
 use Rattle.rules.specs.Reading.{Bearer}
-use Rattle.rules.specs.Own.{Status, Report, Further, Result, statuses, nothing, opened, received, sent, reports, error, problem, done}
+use Rattle.rules.specs.Own.{Status, Report, Further, Result, statuses, nothing, opened, received, sent, started, leaves, reports, error, problem, done}
 
 -- an object with the flag set, and one with the flag clear
 abbrev pub flagged : ℕ → List ℕ → Object
@@ -46,6 +48,13 @@ statusObjects (s ∷ ss) = map (λ (t : Status). statusObject (t .number) (t .li
 unfoldable pub reportObjects : Report → List Object
 reportObjects (statuses ss) = statusObjects ss
 
+-- a timer, object 24, and a time, object 25
+unfoldable pub timerObject : ℕ → Object
+timerObject n = unflagged 0x24 (n ∷ [])
+
+unfoldable pub timeObject : Time → Object
+timeObject t = unflagged 0x25 (timeBytes t)
+
 -- what follows 00, 01, 02 or 07
 unfoldable pub furtherObjects : Further → List Object
 furtherObjects nothing = []
@@ -53,6 +62,8 @@ furtherObjects (opened s b g) =
     statusObject (s .number) (s .link) ∷ unflagged 0x35 (bearerBytes b) ∷ unflagged 0x39 (pairBytes g) ∷ []
 furtherObjects (received s left) = unflagged 0x36 s ∷ unflagged 0x37 (left ∷ []) ∷ []
 furtherObjects (sent room) = unflagged 0x37 (room ∷ []) ∷ []
+furtherObjects (started n) = timerObject n ∷ []
+furtherObjects (leaves n t) = timerObject n ∷ timeObject t ∷ []
 furtherObjects (reports r) = reportObjects r
 
 -- the result's own bytes: 3A has its cause
@@ -87,3 +98,9 @@ unfoldable pub eventBytes : ℕ → List Object → List ℕ
 eventBytes event os =
     let s = written (unflagged 0x19 (event ∷ []) ∷ flagged 0x02 (0x82 ∷ 0x81 ∷ []) ∷ os) in
     0xD6 ∷ lengthBytes (length s) ++ s
+
+-- the envelope of a timer that came to zero: D7, a length, the devices, the timer, and the time that it was started with
+unfoldable pub envelopeBytes : ℕ → Time → List ℕ
+envelopeBytes n t =
+    let s = written (flagged 0x02 (0x82 ∷ 0x81 ∷ []) ∷ timerObject n ∷ timeObject t ∷ []) in
+    0xD7 ∷ lengthBytes (length s) ++ s

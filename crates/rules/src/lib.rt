@@ -24,6 +24,8 @@ impl Results {
 
     pub const MODIFIED: u8 = 0x07;
 
+    pub const TIMER_CONTRADICTION: u8 = 0x24;
+
     pub const BEYOND_CAPABILITIES: u8 = 0x30;
 
     pub const TYPE_NOT_UNDERSTOOD: u8 = 0x31;
@@ -50,13 +52,15 @@ impl Causes {
     pub const LEVEL_UNAVAILABLE: u8 = 0x06;
 }
 
-// The sizes that the paper sets, in bytes: the least buffer of a response and of an event, and the most of a command, of data handed out and of a value that the bench writes.
+// The sizes that the paper sets, in bytes: the least buffer of a response, of an event and of a timer's envelope, and the most of a command, of data handed out and of a value that the bench writes.
 pub struct Limits {}
 
 impl Limits {
     pub const RESPONSE: usize = 255;
 
     pub const EVENT: usize = 16;
+
+    pub const ENVELOPE: usize = 14;
 
     pub const COMMAND: usize = 256;
 
@@ -65,7 +69,7 @@ impl Limits {
     pub const VALUE: usize = 241;
 }
 
-// The refusals R1 to R9, R11, R12 and R16 to R18, by their numbers.
+// The refusals R1 to R12 and R16 to R18, by their numbers.
 pub enum Refusal {
     ShortBuffer,
     CommandSize,
@@ -76,6 +80,7 @@ pub enum Refusal {
     UnfitRecord,
     NoResponse,
     Unreadable,
+    NoneWaits,
     NoPlace,
     Undersized,
     Unmendable,
@@ -98,6 +103,7 @@ impl Refusal {
             Refusal::UnfitRecord => 7,
             Refusal::NoResponse => 8,
             Refusal::Unreadable => 9,
+            Refusal::NoneWaits => 10,
             Refusal::NoPlace => 11,
             Refusal::Undersized => 12,
             Refusal::Unmendable => 16,
@@ -137,6 +143,13 @@ pub enum Way {
 pub struct Events {
     pub available: bool,
     pub status: bool,
+}
+
+// A time of a timer: hours, minutes and seconds.
+pub struct Time {
+    pub hours: u16,
+    pub minutes: u16,
+    pub seconds: u16,
 }
 
 // How a walk over objects ends: at the end, or at the first fault.
@@ -198,7 +211,7 @@ pub fn lists(values: &[u8], value: u8) -> bool
 pub fn is_known(kind: u8) -> bool
     ensures { λ r. ⌜ r ≡ known kind ⌝ }
 {
-    let table = [0x02u8, 0x05, 0x40, 0x41, 0x42, 0x43, 0x44];
+    let table = [0x02u8, 0x05, 0x27, 0x40, 0x41, 0x42, 0x43, 0x44];
     lists(&table, kind)
 }
 
@@ -206,7 +219,7 @@ pub fn is_known(kind: u8) -> bool
 fn to_modem(kind: u8) -> bool
     ensures { λ r. ⌜ r ≡ toModem kind ⌝ }
 {
-    let types = [0x02u8, 0x05, 0x40, 0x44];
+    let types = [0x02u8, 0x05, 0x27, 0x40, 0x44];
     lists(&types, kind)
 }
 

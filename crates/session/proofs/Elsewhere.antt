@@ -14,7 +14,7 @@ use Rattle.rules.specs.Pool.{cellSize, poolSize, cells, promisedTo, promised, u
 use Rattle.rules.specs.Sound.{Each, SoundChan, Sound}
 use Rattle.octets.specs.Parts.{pad}
 use Rattle.session.specs.Book.{numbersOf, places}
-use Rattle.session.specs.Picture.{space, region, regions, poolOf, linkNumber, carriesNumber, entry, chanNumbers, entriesOf, headsWith, headsOf, ledgerOf, offset, shown, GoodIn}
+use Rattle.session.specs.Picture.{space, region, regions, poolOf, linkNumber, carriesNumber, entry, chanNumbers, entriesOf, headsWith, headsOf, ledgerOf, offset, shown, GoodIn, blocks}
 use Rattle.session.specs.Cells.{HeldAt, SameLengths}
 use Rattle.session.proofs.Regions.{Fits, length-way, length-region}
 use Rattle.session.proofs.Owners.{first-start}
@@ -121,7 +121,7 @@ numbers-same c d s = λ i. numbersOf (entry-same c d s i) ++ (places (s .datagra
 entries-same :
     (cs ds : List Chan) → length cs ≡ length ds → ((k : ℕ) → k < length cs → SameLengths (getD cs k closed) (getD ds k closed)) →
     entriesOf cs ≡ entriesOf ds
-unfolding entriesOf
+unfolding blocks
 entries-same [] [] e s = refl
 entries-same [] (d ∷ ds) e s = absurd (let q : 0 ≡ suc (length ds) = e in omega arith)
 entries-same (c ∷ cs) [] e s = absurd (let q : suc (length cs) ≡ 0 = e in omega arith)
@@ -144,10 +144,10 @@ promised-same (c ∷ cs) (d ∷ ds) e s =
 -- the ledgers of two good sessions that differ at most in the values of held bytes are the same
 pub ledger-by-lengths :
     (t p u q : List ℕ) → GoodIn t p → GoodIn u q →
-    shown t p .profile ≡ shown u q .profile → shown t p .events ≡ shown u q .events →
+    shown t p .profile ≡ shown u q .profile → shown t p .events ≡ shown u q .events → shown t p .timers ≡ shown u q .timers →
     ((n : ChannelNumber) → 1 ≤ n .0 → n .0 ≤ 7 → SameLengths (chan (shown t p) n) (chan (shown u q) n)) → t ≡ u
 unfolding ledgerOf headsOf unpromised promised chan
-ledger-by-lengths t p u q g h profile events same =
+ledger-by-lengths t p u q g h profile events timers same =
     let a = shown t p in
     let b = shown u q in
     let seven = g .sound .seven in
@@ -157,5 +157,5 @@ ledger-by-lengths t p u q g h profile events same =
     let grants = promised-same (a .chans) (b .chans) (g .sound .seven ∙ sym (h .sound .seven)) each in
     let entries = entries-same (a .chans) (b .chans) (g .sound .seven ∙ sym (h .sound .seven)) each in
     g .shows .ledger
-    ∙ (λ i. profile i ++ (headsWith (events i) (256 - grants i) ++ entries i))
+    ∙ (λ i. profile i ++ (headsWith (events i) (256 - grants i) (timers i) ++ entries i))
     ∙ sym (h .shows .ledger)

@@ -165,10 +165,10 @@ link-number-known l = by-link l
 
 -- the kept number is that of the unpromised cells
 pub unpromised-kept : (t p : List ℕ) → GoodIn t p → freeIn t ≡ unpromised (shown t p)
-unpromised-kept t p g = ap freeIn (g .shows .ledger) ∙ free-read (shown t p) (g .sound .thirteen)
+unpromised-kept t p g = ap freeIn (g .shows .ledger) ∙ free-read (shown t p) (g .sound .thirteen) (g .sound .eight)
 
 pub good-table : (t p : List ℕ) → GoodIn t p → length t ≡ ledgerSize
-good-table t p g = ap length (g .shows .ledger) ∙ ledger-size (shown t p) (g .sound .thirteen) (g .sound .seven)
+good-table t p g = ap length (g .shows .ledger) ∙ ledger-size (shown t p) (g .sound .thirteen) (g .sound .eight) (g .sound .seven)
 
 module _ (t p : List ℕ) (n : ChannelNumber) (h : Numbered t p n) where
   abbrev a : State
@@ -196,10 +196,10 @@ module _ (t p : List ℕ) (n : ChannelNumber) (h : Numbered t p n) where
   place = omega (arith, h .low, h .high, sound .seven)
 
   pub entry-is : x ≡ entry c
-  entry-is = ap (λ (u : List ℕ). entryIn u n) table-is ∙ entry-read a (sound .thirteen) n
+  entry-is = ap (λ (u : List ℕ). entryIn u n) table-is ∙ entry-read a (sound .thirteen) (sound .eight) n
 
   base-is : (k : ℕ) → k ≤ 7 → baseIn t k ≡ cellSize * promisedTo (take k (a .chans))
-  base-is k f = ap (λ (u : List ℕ). baseIn u k) table-is ∙ base-read a (sound .thirteen) k (omega (arith, sound .seven))
+  base-is k f = ap (λ (u : List ℕ). baseIn u k) table-is ∙ base-read a (sound .thirteen) (sound .eight) k (omega (arith, sound .seven))
 
   front-is : length (front a n sound place) ≡ at
   front-is =
@@ -259,25 +259,25 @@ module _ (t p : List ℕ) (n : ChannelNumber) (h : Numbered t p n) where
 
   -- what stands before the channel's numbers, and behind them
   abbrev front-of : List ℕ
-  front-of = before a (sound .thirteen) n place
+  front-of = before a (sound .thirteen) (sound .eight) n place
 
   abbrev rest-of : List ℕ
-  rest-of = behind a (sound .thirteen) n place
+  rest-of = behind a (sound .thirteen) (sound .eight) n place
 
   -- the ledger with the numbers of another channel, and the unpromised cells as they were; a channel of the same grant leaves them
   abbrev with-numbers : Chan → List ℕ
   with-numbers d = front-of ++ (chanNumbers d ++ rest-of)
 
   same-cells : (d : Chan) → d .grant ≡ c .grant → with-numbers d ≡ ledgerOf (withChan a n d)
-  same-cells d g = ledger-same a (sound .thirteen) n place d g
+  same-cells d g = ledger-same a (sound .thirteen) (sound .eight) n place d g
 
   -- another entry, the lengths as they were
   entry-written : (d : Chan) (e : Channel) → e ≡ entry d → ((w : Way) → queue d w .lengths ≡ queue c w .lengths) → withEntry t n e ≡ with-numbers d
   unfolding withEntry chanNumbers queue
   entry-written d e r same =
       let x = places (c .receive .lengths) ++ places (c .send .lengths) in
-      (λ i. pasted ((table-is ∙ ledger-parts a (sound .thirteen) n place ∙ ap (λ (l : List ℕ). front-of ++ l) (append-assoc (numbersOf (entry c)) x rest-of)) i) (entryAt (n .0 - 1)) (numbersOf (r i)))
-      ∙ paste-parts front-of (numbersOf (entry c)) (x ++ rest-of) (numbersOf (entry d)) (entryAt (n .0 - 1)) (before-size a (sound .thirteen) n place) refl
+      (λ i. pasted ((table-is ∙ ledger-parts a (sound .thirteen) (sound .eight) n place ∙ ap (λ (l : List ℕ). front-of ++ l) (append-assoc (numbersOf (entry c)) x rest-of)) i) (entryAt (n .0 - 1)) (numbersOf (r i)))
+      ∙ paste-parts front-of (numbersOf (entry c)) (x ++ rest-of) (numbersOf (entry d)) (entryAt (n .0 - 1)) (before-size a (sound .thirteen) (sound .eight) n place) refl
       ∙ ap (λ (l : List ℕ). front-of ++ l) (sym (append-assoc (numbersOf (entry d)) x rest-of))
       ∙ (λ i. front-of ++ ((numbersOf (entry d) ++ (places (sym (same Receive) i) ++ places (sym (same Send) i))) ++ rest-of))
 
@@ -309,7 +309,7 @@ module _ (t p : List ℕ) (n : ChannelNumber) (h : Numbered t p n) where
     in-parts = way-parts front-of rest-of d w
 
     front-size : length (wayFront front-of d w) ≡ at-way
-    front-size = way-size front-of d (entryAt (n .0 - 1)) w (before-size a (sound .thirteen) n place)
+    front-size = way-size front-of d (entryAt (n .0 - 1)) w (before-size a (sound .thirteen) (sound .eight) n place)
 
     -- the lengths are read
     lengths-there : lengthsIn (with-numbers d) n w ≡ ls
@@ -342,13 +342,13 @@ module _ (t p : List ℕ) (n : ChannelNumber) (h : Numbered t p n) where
   -- the first length, and the last place, as the ledger has them
   pub first-read : (w : Way) → getD t (lengthsAt n w) 0 ≡ first (queue c w .lengths)
   first-read w =
-      ap (λ (u : List ℕ). getD u (lengthsAt n w) 0) (table-is ∙ ledger-parts a (sound .thirteen) n place ∙ way-parts front-of rest-of c w)
-      ∙ way-first (wayFront front-of c w) (wayRest rest-of c w) (queue c w .lengths) (lengthsAt n w) (way-size front-of c (entryAt (n .0 - 1)) w (before-size a (sound .thirteen) n place))
+      ap (λ (u : List ℕ). getD u (lengthsAt n w) 0) (table-is ∙ ledger-parts a (sound .thirteen) (sound .eight) n place ∙ way-parts front-of rest-of c w)
+      ∙ way-first (wayFront front-of c w) (wayRest rest-of c w) (queue c w .lengths) (lengthsAt n w) (way-size front-of c (entryAt (n .0 - 1)) w (before-size a (sound .thirteen) (sound .eight) n place))
 
   pub last-read : (w : Way) → ltb 0 (getD t (lengthsAt n w + 15) 0) ≡ leb placeCount (length (queue c w .lengths))
   last-read w =
-      ap (λ (u : List ℕ). ltb 0 (getD u (lengthsAt n w + 15) 0)) (table-is ∙ ledger-parts a (sound .thirteen) n place ∙ way-parts front-of rest-of c w)
-      ∙ ap (ltb 0) (way-get (wayFront front-of c w) (wayRest rest-of c w) (queue c w .lengths) (lengthsAt n w) (way-size front-of c (entryAt (n .0 - 1)) w (before-size a (sound .thirteen) n place)) 15 (omega arith))
+      ap (λ (u : List ℕ). ltb 0 (getD u (lengthsAt n w + 15) 0)) (table-is ∙ ledger-parts a (sound .thirteen) (sound .eight) n place ∙ way-parts front-of rest-of c w)
+      ∙ ap (ltb 0) (way-get (wayFront front-of c w) (wayRest rest-of c w) (queue c w .lengths) (lengthsAt n w) (way-size front-of c (entryAt (n .0 - 1)) w (before-size a (sound .thirteen) (sound .eight) n place)) 15 (omega arith))
       ∙ places-last (queue c w .lengths) (own-some w) (own-few w)
 
   -- what the channel carries, by the number that its entry has
@@ -541,20 +541,20 @@ module _ (t p : List ℕ) (n : ChannelNumber) (h : Numbered t p n) where
       let six : List ℕ = replicate 6 0 in
       let y = places (c .receive .lengths) ++ places (c .send .lengths) in
       let size = length-append (places (c .receive .lengths)) (places (c .send .lengths)) in
-      let b = before-size a (sound .thirteen) n place in
+      let b = before-size a (sound .thirteen) (sound .eight) n place in
       let fs = length-append front-of six in
       let cleared : w ≡ with-numbers closed =
       eʷ
       ∙ ap (λ (l : List ℕ). pasted l (lengthsAt n Receive) (replicate 32 0))
       (eᵛ
-      ∙ (λ i. pasted ((table-is ∙ ledger-parts a (sound .thirteen) n place ∙ ap (λ (l : List ℕ). front-of ++ l) (append-assoc (numbersOf (entry c)) y rest-of)) i) (entryAt (n .0 - 1)) six)
+      ∙ (λ i. pasted ((table-is ∙ ledger-parts a (sound .thirteen) (sound .eight) n place ∙ ap (λ (l : List ℕ). front-of ++ l) (append-assoc (numbersOf (entry c)) y rest-of)) i) (entryAt (n .0 - 1)) six)
       ∙ paste-parts front-of (numbersOf (entry c)) (y ++ rest-of) six (entryAt (n .0 - 1)) b refl ∙ sym (append-assoc front-of six (y ++ rest-of)))
       ∙ paste-parts (front-of ++ six) y rest-of (replicate 32 0) (lengthsAt n Receive) (omega arith) (omega (arith, size, places-size (c .receive .lengths), places-size (c .send .lengths)))
       ∙ append-assoc front-of six (replicate 32 0 ++ rest-of) ∙ sym (ap (λ (l : List ℕ). front-of ++ (l ++ rest-of)) closed-numbers)
       in
       let free : f + 2 * k ≡ unpromised (withChan a n closed) = (λ i. eᶠ i + 2 * (eᵏ ∙ ap cells (eᵍ ∙ grant-is)) i) ∙ sym freed in
       record {
-        ledger = eᵗ ∙ ap (λ (l : List ℕ). set l freeAt (f + 2 * k)) cleared ∙ ledger-with a (sound .thirteen) n place closed (f + 2 * k) free;
+        ledger = eᵗ ∙ ap (λ (l : List ℕ). set l freeAt (f + 2 * k)) cleared ∙ ledger-with a (sound .thirteen) (sound .eight) n place closed (f + 2 * k) free;
         pool = eᵖ ∙ (λ i. cutOut (pool-is i) (eᵃ i) (2 * m i) ((eᵉ ∙ sym used-is) i)) ∙ closed-pool a n sound place at front-is;
       }
 
@@ -571,7 +571,7 @@ module _ (t p : List ℕ) (n : ChannelNumber) (h : Numbered t p n) where
       eᵛ ∙ entry-written (fresh g k j) _ (λ i. record { grant = g; link = eˡ i; rx = 0; tx = 0; ready = 0; carries = eᶻ i }) (by-way _ (sym (none Receive)) (sym (none Send))) in
       let free : f - 2 * m ≡ unpromised (withChan a n (fresh g k j)) = (λ i. eᶠ i - 2 * eᵐ i) ∙ sym (taken (fresh g k j) o) in
       record {
-        ledger = eᵗ ∙ ap (λ (l : List ℕ). set l freeAt (f - 2 * m)) written ∙ ledger-with a (sound .thirteen) n place (fresh g k j) (f - 2 * m) free;
+        ledger = eᵗ ∙ ap (λ (l : List ℕ). set l freeAt (f - 2 * m)) written ∙ ledger-with a (sound .thirteen) (sound .eight) n place (fresh g k j) (f - 2 * m) free;
         pool = eᵖ ∙ (λ i. spread (pool-is i) (eᵃ i) (2 * eˢ i) ((eᵉ ∙ sym used-is) i)) ∙ opened-pool a n sound place at front-is g k j o (omega arith);
       }
 
@@ -601,6 +601,6 @@ pub list-law : (t p : List ℕ) (e : Events) → GoodIn t p → Shows (withEvent
 unfolding poolOf
 list-law t p e g =
     record {
-      ledger = ap (λ (u : List ℕ). withList u e) (g .shows .ledger) ∙ list-written (shown t p) (g .sound .thirteen) e;
+      ledger = ap (λ (u : List ℕ). withList u e) (g .shows .ledger) ∙ list-written (shown t p) (g .sound .thirteen) (g .sound .eight) e;
       pool = g .shows .pool;
     }

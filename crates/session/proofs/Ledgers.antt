@@ -16,10 +16,12 @@ use Rattle.rules.specs.Pool.{cellSize, cells, promisedTo, promised, unpromised}
 use Rattle.rules.proofs.Grants.{promised-set}
 use Rattle.octets.specs.Parts.{pasted}
 use Rattle.session.specs.declared.Channel.{Channel}
-use Rattle.session.specs.Book.{availableAt, statusAt, freeAt, freeIn, channelsAt, entrySize, ledgerSize, entryAt, numbersOf, entryIn, places, listed, listedNumber, withList}
-use Rattle.session.specs.Picture.{space, linkNumber, entry, chanNumbers, entriesOf, headsWith, headsOf, ledgerOf, baseIn}
+use Rattle.session.specs.Book.{availableAt, statusAt, freeAt, freeIn, channelsAt, entrySize, ledgerSize, entryAt, numbersOf, entryIn, places, listed, listedNumber, withList, timersAt, timerSize}
+use Rattle.session.specs.Picture.{space, linkNumber, entry, chanNumbers, entriesOf, headsWith, headsOf, ledgerOf, baseIn, timerNumbers, timersOf}
 use Rattle.session.specs.Changed.{withEvents}
 use Rattle.session.proofs.Places.{places-size}
+use Rattle.rules.specs.Timers.{timerCount, Timer, leftOf, startedOf, idle}
+use Rattle.session.proofs.Blocks.{blocks-size, block-number, block-set, block-parts}
 
 -- an entry put number by number
 pub entry-put : (t : List ℕ) (at : ℕ) (e : Channel) → at + 6 ≤ length t →
@@ -34,7 +36,12 @@ entry-put t at e h =
     (λ i. set (set (set (set (set (set t at (e .grant)) (e1 i) (e .link)) (e2 i) (e .rx)) (e3 i) (e .tx)) (e4 i) (e .ready)) (e5 i) (e .carries))
     ∙ sets-eq (numbersOf e) t at h ∙ append-assoc (take at t) (numbersOf e) (drop (at + 6) t)
 
--- the numbers of channels, one after the other
+zeros-get : (n j : ℕ) → getD (replicate {A = ℕ} n 0) j 0 ≡ 0
+zeros-get zero j = refl
+zeros-get (suc n) zero = refl
+zeros-get (suc n) (suc j) = zeros-get n j
+
+-- the numbers of a channel
 pub numbers-size : (c : Chan) → length (chanNumbers c) ≡ entrySize
 unfolding chanNumbers
 numbers-size c =
@@ -48,52 +55,18 @@ pub closed-numbers : chanNumbers closed ≡ replicate entrySize 0
 unfolding chanNumbers entry closed queue places
 closed-numbers = refl
 
-entry-numbers : (cs : List Chan) (k j : ℕ) → j < entrySize → getD (entriesOf cs) (entrySize * k + j) 0 ≡ getD (chanNumbers (getD cs k closed)) j 0
-unfolding entriesOf
-entry-numbers [] k j h = sym (ap (λ (l : List ℕ). getD l j 0) closed-numbers ∙ getD-replicate {A = ℕ} entrySize j 0 0 h)
-entry-numbers (c ∷ cs) zero j h =
-    ap (λ (i : ℕ). getD (chanNumbers c ++ entriesOf cs) i 0) (zero-add j) ∙ List·getD-append (chanNumbers c) (entriesOf cs) 0 j (omega (arith, numbers-size c))
-entry-numbers (c ∷ cs) (suc k) j h =
-    ap (λ (i : ℕ). getD (chanNumbers c ++ entriesOf cs) i 0) (let e : entrySize * suc k + j ≡ length (chanNumbers c) + (entrySize * k + j) = omega (arith, numbers-size c) in e)
-    ∙ getD-append-add (chanNumbers c) (entriesOf cs) (entrySize * k + j) 0 ∙ entry-numbers cs k j h
+-- a closed channel has no number but 0
+closed-zeros : (j : ℕ) → getD (chanNumbers closed) j 0 ≡ 0
+closed-zeros j = ap (λ (l : List ℕ). getD l j 0) closed-numbers ∙ zeros-get entrySize j
 
-length-entries : (cs : List Chan) → length (entriesOf cs) ≡ entrySize * length cs
-unfolding entriesOf
-length-entries [] = refl
-length-entries (c ∷ cs) = let ih = length-entries cs in let e = length-append (chanNumbers c) (entriesOf cs) in omega (arith, numbers-size c)
+-- the numbers of a timer, and those of one that neither runs nor waits
+pub timer-size : (t : Timer) → length (timerNumbers t) ≡ timerSize
+unfolding timerNumbers
+timer-size t = refl
 
--- those of one channel, and what stands behind them
-entries-block :
-    (cs : List Chan) (k : ℕ) → k < length cs →
-    drop (entrySize * k) (entriesOf cs) ≡ chanNumbers (getD cs k closed) ++ drop (entrySize * k + entrySize) (entriesOf cs)
-unfolding entriesOf
-entries-block [] k h = absurd (not-suc-le-zero h)
-entries-block (c ∷ cs) zero h =
-    ap (λ (l : List ℕ). chanNumbers c ++ l) (sym (drop-at (chanNumbers c) (entriesOf cs) (entrySize * 0 + entrySize) (numbers-size c)))
-entries-block (c ∷ cs) (suc k) h =
-    let x = chanNumbers c in
-    let r = entriesOf cs in
-    let p : entrySize * suc k ≡ length x + entrySize * k = omega (arith, numbers-size c) in
-    let q : entrySize * suc k + entrySize ≡ length x + (entrySize * k + entrySize) = omega (arith, numbers-size c) in
-    ap (λ (j : ℕ). drop j (x ++ r)) p ∙ drop-append-add x r (entrySize * k) ∙ entries-block cs k (le-of-suc-le-suc h)
-    ∙ ap (λ (l : List ℕ). chanNumbers (getD cs k closed) ++ l) (sym (ap (λ (j : ℕ). drop j (x ++ r)) q ∙ drop-append-add x r (entrySize * k + entrySize)))
-
-entries-set :
-    (cs : List Chan) (k : ℕ) (d : Chan) → k < length cs →
-    take (entrySize * k) (entriesOf cs) ++ (chanNumbers d ++ drop (entrySize * k + entrySize) (entriesOf cs)) ≡ entriesOf (set cs k d)
-unfolding entriesOf
-entries-set [] k d h = absurd (not-suc-le-zero h)
-entries-set (c ∷ cs) zero d h = ap (λ (l : List ℕ). chanNumbers d ++ l) (drop-at (chanNumbers c) (entriesOf cs) (entrySize * 0 + entrySize) (numbers-size c))
-entries-set (c ∷ cs) (suc k) d h =
-    let e = chanNumbers c in
-    let r = entriesOf cs in
-    let p : take (entrySize * suc k) (e ++ r) ≡ e ++ take (entrySize * k) r =
-    ap (λ (j : ℕ). take j (e ++ r)) (let q : entrySize * suc k ≡ length e + entrySize * k = omega (arith, numbers-size c) in q) ∙ take-append-add e r (entrySize * k) in
-    let s : drop (entrySize * suc k + entrySize) (e ++ r) ≡ drop (entrySize * k + entrySize) r =
-    ap (λ (j : ℕ). drop j (e ++ r)) (let q : entrySize * suc k + entrySize ≡ length e + (entrySize * k + entrySize) = omega (arith, numbers-size c) in q)
-    ∙ drop-append-add e r (entrySize * k + entrySize) in
-    (λ i. p i ++ (chanNumbers d ++ s i)) ∙ append-assoc e (take (entrySize * k) r) (chanNumbers d ++ drop (entrySize * k + entrySize) r)
-    ∙ ap (λ (x : List ℕ). e ++ x) (entries-set cs k d (le-of-suc-le-suc h))
+pub idle-zeros : (j : ℕ) → getD (timerNumbers idle) j 0 ≡ 0
+unfolding timerNumbers leftOf startedOf
+idle-zeros j = zeros-get 6 j
 
 cells-more : (cs : List Chan) (k : ℕ) → k < length cs → promisedTo (take (suc k) cs) ≡ promisedTo (take k cs) + 2 * cells (getD cs k closed .grant)
 unfolding promisedTo
@@ -112,7 +85,7 @@ set-behind (x ∷ p) q i v =
     ap (λ (k : ℕ). set (x ∷ (p ++ q)) k v) (let e : suc (length p) + i ≡ suc (length p + i) = omega arith in e)
     ∙ ap (λ (l : List ℕ). x ∷ l) (set-behind p q i v)
 
-module _ (a : State) (thirteen : length (a .profile) ≡ profileSize) where
+module _ (a : State) (thirteen : length (a .profile) ≡ profileSize) (eight : length (a .timers) ≡ timerCount) where
   -- what stands behind the profile
   abbrev rest : List ℕ
   rest = headsOf a ++ entriesOf (a .chans)
@@ -123,7 +96,7 @@ module _ (a : State) (thirteen : length (a .profile) ≡ profileSize) where
 
   front-size : length front ≡ channelsAt
   unfolding headsOf
-  front-size = length-append (a .profile) (headsOf a) ∙ ap (λ (k : ℕ). k + length (headsOf a)) thirteen
+  front-size = length-append (a .profile) (headsOf a) ∙ omega (arith, thirteen, eight, blocks-size timerNumbers timerSize timer-size (a .timers))
 
   parts : ledgerOf a ≡ front ++ entriesOf (a .chans)
   unfolding ledgerOf
@@ -131,10 +104,19 @@ module _ (a : State) (thirteen : length (a .profile) ≡ profileSize) where
 
   pub ledger-size : length (a .chans) ≡ 7 → length (ledgerOf a) ≡ ledgerSize
   ledger-size seven =
-      ap length parts ∙ length-append front (entriesOf (a .chans)) ∙ (let n = length-entries (a .chans) in omega (arith, front-size))
+      ap length parts ∙ length-append front (entriesOf (a .chans)) ∙ (let n = blocks-size chanNumbers entrySize numbers-size (a .chans) in omega (arith, front-size))
 
   pub entries-behind : drop channelsAt (ledgerOf a) ≡ entriesOf (a .chans)
   entries-behind = ap (λ (t : List ℕ). drop channelsAt t) parts ∙ drop-at front (entriesOf (a .chans)) channelsAt front-size
+
+  -- the timers, and what stands behind them
+  pub timers-behind : drop timersAt (ledgerOf a) ≡ timersOf (a .timers) ++ entriesOf (a .chans)
+  unfolding ledgerOf headsOf
+  timers-behind =
+      let three = listedNumber (a .events .available) ∷ listedNumber (a .events .status) ∷ unpromised a ∷ [] in
+      let size = length-append (a .profile) three in
+      ap (drop timersAt) (sym (append-assoc (a .profile) three (timersOf (a .timers) ++ entriesOf (a .chans))))
+      ∙ drop-at (a .profile ++ three) (timersOf (a .timers) ++ entriesOf (a .chans)) timersAt (omega (arith, size, thirteen))
 
   pub profile-before : take profileSize (ledgerOf a) ≡ a .profile
   unfolding ledgerOf
@@ -173,7 +155,7 @@ module _ (a : State) (thirteen : length (a .profile) ≡ profileSize) where
   number-read : (k j at : ℕ) → j < entrySize → at ≡ entryAt k + j → getD (ledgerOf a) at 0 ≡ getD (chanNumbers (getD (a .chans) k closed)) j 0
   number-read k j at h e =
       let p : at ≡ length front + (entrySize * k + j) = omega (arith, front-size) in
-      (λ i. getD (parts i) (p i) 0) ∙ getD-append-add front (entriesOf (a .chans)) (entrySize * k + j) 0 ∙ entry-numbers (a .chans) k j h
+      (λ i. getD (parts i) (p i) 0) ∙ getD-append-add front (entriesOf (a .chans)) (entrySize * k + j) 0 ∙ block-number chanNumbers entrySize numbers-size closed closed-zeros (a .chans) k j h
 
   -- the entry of a channel is read
   pub entry-read : (n : ChannelNumber) → entryIn (ledgerOf a) n ≡ entry (chan a n)
@@ -226,7 +208,7 @@ module _ (a : State) (thirteen : length (a .profile) ≡ profileSize) where
     unfolding before
     before-size =
         let e = length-append front (take (entrySize * k) y) in
-        let f = length-take-le (entrySize * k) y (let n = length-entries (a .chans) in omega arith) in
+        let f = length-take-le (entrySize * k) y (let n = blocks-size chanNumbers entrySize numbers-size (a .chans) in omega arith) in
         omega (arith, front-size)
 
     -- the numbers of another channel there, and the unpromised cells as they were
@@ -237,7 +219,7 @@ module _ (a : State) (thirteen : length (a .profile) ≡ profileSize) where
     unfolding before behind
     entries-with d =
         append-assoc front (take (entrySize * k) y) (chanNumbers d ++ drop (entrySize * k + entrySize) y)
-        ∙ ap (λ (z : List ℕ). front ++ z) (entries-set (a .chans) k d h)
+        ∙ ap (λ (z : List ℕ). front ++ z) (block-set chanNumbers entrySize numbers-size (a .chans) k d h)
         ∙ append-assoc (a .profile) (headsOf a) (entriesOf (set (a .chans) k d))
 
     -- with the cells that are then unpromised it is the ledger with that channel
@@ -245,7 +227,7 @@ module _ (a : State) (thirteen : length (a .profile) ≡ profileSize) where
     unfolding withChan ledgerOf headsOf
     ledger-with d f e =
         ap (λ (t : List ℕ). set t freeAt f) (entries-with d) ∙ head-written (headsOf a ++ entriesOf (set (a .chans) k d)) 2 freeAt f refl
-        ∙ (λ i. a .profile ++ (headsWith (a .events) (e i) ++ entriesOf (set (a .chans) k d)))
+        ∙ (λ i. a .profile ++ (headsWith (a .events) (e i) (a .timers) ++ entriesOf (set (a .chans) k d)))
 
     -- a channel of the same grant leaves them
     pub ledger-same : (d : Chan) → d .grant ≡ chan a n .grant → numbersWith d ≡ ledgerOf (withChan a n d)
@@ -255,10 +237,10 @@ module _ (a : State) (thirteen : length (a .profile) ≡ profileSize) where
         let g = ap cells e in
         let same : promisedTo (a .chans) ≡ promisedTo (set (a .chans) k d) = omega arith in
         entries-with d
-        ∙ (λ i. a .profile ++ (headsWith (a .events) (256 - same i) ++ entriesOf (set (a .chans) k d)))
+        ∙ (λ i. a .profile ++ (headsWith (a .events) (256 - same i) (a .timers) ++ entriesOf (set (a .chans) k d)))
 
     pub ledger-parts : ledgerOf a ≡ before ++ (chanNumbers (chan a n) ++ behind)
     unfolding before behind chan
     ledger-parts =
-        parts ∙ ap (λ (z : List ℕ). front ++ z) (sym (take-append-drop (entrySize * k) y) ∙ ap (λ (z : List ℕ). take (entrySize * k) y ++ z) (entries-block (a .chans) k h))
+        parts ∙ ap (λ (z : List ℕ). front ++ z) (sym (take-append-drop (entrySize * k) y) ∙ ap (λ (z : List ℕ). take (entrySize * k) y ++ z) (block-parts chanNumbers entrySize numbers-size closed (a .chans) k h))
         ∙ sym (append-assoc front (take (entrySize * k) y) (chanNumbers (getD (a .chans) k closed) ++ drop (entrySize * k + entrySize) y))

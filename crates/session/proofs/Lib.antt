@@ -1,10 +1,12 @@
 pub mod Places
+pub mod Blocks
 pub mod Ways
 pub mod Ledgers
 pub mod Lengths
 pub mod Regions
 pub mod Changes
 pub mod Views
+pub mod Timers
 pub mod Facts
 pub mod Starts
 pub mod Answers

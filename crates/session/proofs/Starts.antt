@@ -18,7 +18,8 @@ use Rattle.octets.specs.Parts.{part, pasted, pad}
 use Rattle.octets.proofs.Copies.{length-part}
 use Rattle.session.specs.Book.{freeAt, ledgerSize, places}
 use Rattle.session.proofs.Ledgers.{set-behind}
-use Rattle.session.specs.Picture.{space, region, regions, poolOf, entry, chanNumbers, entriesOf, headsOf, ledgerOf}
+use Rattle.session.specs.Picture.{space, region, regions, poolOf, entry, chanNumbers, entriesOf, headsOf, ledgerOf, blocks, timerNumbers}
+use Rattle.rules.specs.Timers.{leftOf, startedOf}
 
 zeros-drop : (a n : ℕ) → a ≤ n → drop a (replicate {A = ℕ} n 0) ≡ replicate (n - a) 0
 zeros-drop zero n h = ap (λ (k : ℕ). replicate k 0) (let e : n ≡ n - 0 = omega arith in e)
@@ -90,7 +91,7 @@ start-size p t e =
 
 -- with every cell unpromised it is the ledger of a fresh session
 pub start-numbers : (p : List ℕ) → set (kept p ++ replicate (ledgerSize - profileSize) 0) freeAt cellCount ≡ ledgerOf (start p)
-unfolding ledgerOf headsOf start entriesOf chanNumbers entry closed queue places unpromised promised promisedTo cells
+unfolding ledgerOf headsOf start blocks timerNumbers leftOf startedOf chanNumbers entry closed queue places unpromised promised promisedTo cells
 start-numbers p =
     let k : length (kept p) ≡ profileSize = start-sound p .thirteen in
     let e : freeAt ≡ length (kept p) + 2 = omega arith in

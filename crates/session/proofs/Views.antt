@@ -15,14 +15,19 @@ use Rattle.rules.specs.declared.Way.the-variants.{Receive, Send}
 use Rattle.rules.specs.Datagrams.{placeCount}
 use Rattle.rules.specs.State.{State, Chan, queue, held, placesUsed, start}
 use Rattle.rules.specs.Pool.{poolSize}
-use Rattle.rules.specs.Sound.{Each, SoundChan, Sound}
+use Rattle.rules.specs.Sound.{Each, SoundChan, Sound, SoundTimer}
 use Rattle.rules.proofs.Soundness.{start-sound}
 use Rattle.octets.specs.Parts.{pad}
 use Rattle.session.specs.Book.{entrySize, lengthsFrom, places}
-use Rattle.session.specs.Picture.{space, region, regions, poolOf, linkNumber, linkOf, carriesNumber, carriesOf, entry, chanNumbers, entriesOf, ledgerOf, picture, chanFrom, chansFrom, shown, view, Shows, GoodIn, Good}
+use Rattle.session.specs.Picture.{space, region, regions, poolOf, linkNumber, linkOf, carriesNumber, carriesOf, entry, chanNumbers, entriesOf, ledgerOf, picture, chanFrom, chansFrom, shown, view, Shows, GoodIn, Good, blocks, timerOf, timersFrom, timerNumbers, timersOf}
 use Rattle.session.proofs.Places.{places-size, places-read}
-use Rattle.session.proofs.Ledgers.{numbers-size, entries-behind, profile-before, available-read, status-read}
+use Rattle.session.proofs.Ledgers.{numbers-size, entries-behind, profile-before, available-read, status-read, timers-behind}
 use Rattle.session.proofs.Regions.{length-way, length-region}
+use Rattle.rules.specs.Timers.{idle, isTime, leftOf, timerCount, startedOf, Timer, isZero, running, ofDay, waiting}
+use Rattle.rules.specs.declared.Time.{Time}
+use mathlib.Core.Bool.{true, false}
+use Rattle.rules.proofs.Laws.{stop, both-right, skip}
+use borrow.Author.Tests.{not-true}
 
 -- a link is read back from its number, and the number from its link
 pub link-back : (k : Link) → linkOf (linkNumber k) ≡ k
@@ -102,7 +107,7 @@ module _ (c : Chan) (h : SoundChan c) (w : List ℕ) where
   rest-back = drop-at (region c) w (2 * sp) (length-region c (h .fits))
 
 chans-back : (k : ℕ) (cs : List Chan) (w : List ℕ) → length cs ≡ k → Each SoundChan cs → chansFrom k (entriesOf cs) (regions cs ++ w) ≡ cs
-unfolding chansFrom entriesOf regions chanNumbers entry
+unfolding chansFrom blocks regions chanNumbers entry
 chans-back zero [] w e h = refl
 chans-back zero (c ∷ cs) w e h = absurd (let q : suc (length cs) ≡ 0 = e in omega arith)
 chans-back (suc k) [] w e h = absurd (let q : 0 ≡ suc k = e in omega arith)
@@ -111,17 +116,38 @@ chans-back (suc k) (c ∷ cs) w e h =
     ∙ (λ i. chan-back c (h .0) (regions cs ++ w) (entriesOf cs) i ∷ chansFrom k (drop-at (chanNumbers c) (entriesOf cs) entrySize (numbers-size c) i) (rest-back c (h .0) (regions cs ++ w) i))
     ∙ ap (λ (r : List Chan). c ∷ r) (chans-back k cs w (let q : suc (length cs) ≡ suc k = e in omega arith) (h .1))
 
+-- a timer is read back from its numbers
+time-zero : (t : Time) → isTime t ≡ true → isZero t ≡ false
+unfolding isTime
+time-zero t e = not-true (isZero t) (both-right (ofDay t) _ e)
+
+timer-back : (t : Timer) → SoundTimer t → timerOf (leftOf t) (startedOf t) ≡ t
+unfolding timerOf leftOf startedOf isZero
+timer-back idle h = stop _ _ _ refl
+timer-back (running left from) h = skip _ _ _ (time-zero from (h .1)) ∙ skip _ _ _ (time-zero left (h .0))
+timer-back (waiting from) h = skip _ _ _ (time-zero from h) ∙ stop _ _ _ refl
+
+timers-back : (k : ℕ) (ts : List Timer) (z : List ℕ) → length ts ≡ k → Each SoundTimer ts → timersFrom k (timersOf ts ++ z) ≡ ts
+unfolding timersFrom blocks timerNumbers
+timers-back zero [] z e h = refl
+timers-back zero (t ∷ ts) z e h = absurd (let q : suc (length ts) ≡ 0 = e in omega arith)
+timers-back (suc k) [] z e h = absurd (let q : 0 ≡ suc k = e in omega arith)
+timers-back (suc k) (t ∷ ts) z e h =
+    λ i. timer-back t (h .0) i ∷ timers-back k ts z (let q : suc (length ts) ≡ suc k = e in omega arith) (h .1) i
+
 -- the picture of a sound state shows that state
 pub shown-back : (a : State) → Sound a → shown (ledgerOf a) (poolOf a) ≡ a
 unfolding shown poolOf pad
 shown-back a h =
     λ i.
     record {
-      profile = profile-before a (h .thirteen) i;
-      events = record { available = available-read a (h .thirteen) i; status = status-read a (h .thirteen) i };
+      profile = profile-before a (h .thirteen) (h .eight) i;
+      events = record { available = available-read a (h .thirteen) (h .eight) i; status = status-read a (h .thirteen) (h .eight) i };
       chans =
-          (ap (λ (t : List ℕ). chansFrom 7 t (regions (a .chans) ++ replicate (poolSize - length (regions (a .chans))) 0)) (entries-behind a (h .thirteen))
+          (ap (λ (t : List ℕ). chansFrom 7 t (regions (a .chans) ++ replicate (poolSize - length (regions (a .chans))) 0)) (entries-behind a (h .thirteen) (h .eight))
           ∙ chans-back 7 (a .chans) (replicate (poolSize - length (regions (a .chans))) 0) (h .seven) (h .each)) i;
+      timers =
+          (ap (timersFrom timerCount) (timers-behind a (h .thirteen) (h .eight)) ∙ timers-back timerCount (a .timers) (entriesOf (a .chans)) (h .eight) (h .timed)) i;
     }
 
 pub view-picture : (a : State) → Sound a → view (picture a) ≡ a

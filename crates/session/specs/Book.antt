@@ -13,7 +13,7 @@ use Rattle.rules.specs.declared.Events.{Events}
 use Rattle.octets.specs.Parts.{part, pasted}
 use Rattle.session.specs.declared.Channel.{Channel}
 
--- behind the profile stand two numbers that tell whether 09 and 0A are listed, and the number of cells that are not promised, then an entry for each channel, six numbers and the lengths of datagrams for receive and for send; and the size of all
+-- behind the profile stand two numbers that tell whether 09 and 0A are listed, and the number of cells that are not promised, then six numbers for each timer, and an entry for each channel, six numbers and the lengths of datagrams for receive and for send; and the size of all
 abbrev pub availableAt : ℕ
 availableAt = 13
 
@@ -23,14 +23,24 @@ statusAt = 14
 abbrev pub freeAt : ℕ
 freeAt = 15
 
+abbrev pub timersAt : ℕ
+timersAt = 16
+
+abbrev pub timerSize : ℕ
+timerSize = 6
+
 abbrev pub channelsAt : ℕ
-channelsAt = 16
+channelsAt = 64
 
 abbrev pub entrySize : ℕ
 entrySize = 38
 
 abbrev pub ledgerSize : ℕ
-ledgerSize = 282
+ledgerSize = 330
+
+-- where the numbers of a timer begin; k counts the timers before it
+abbrev pub timerAt : ℕ → ℕ
+timerAt k = timerSize * k + timersAt
 
 -- where the entry of a channel begins; k counts the channels before it
 abbrev pub entryAt : ℕ → ℕ

@@ -52,4 +52,4 @@ pub record Marks (e x : Channel) : Type 0 where
 
 -- the state with another event list
 abbrev pub withEvents : State → Events → State
-withEvents a e = record { profile = a .profile; events = e; chans = a .chans }
+withEvents a e = record { profile = a .profile; events = e; chans = a .chans; timers = a .timers }

@@ -12,6 +12,9 @@ use Rattle.rules.specs.declared.Link.{Link}
 use Rattle.rules.specs.declared.Link.the-variants.{NotYet, Established, Dropped}
 use Rattle.rules.specs.declared.Way.{Way}
 use Rattle.rules.specs.declared.Way.the-variants.{Receive, Send}
+use Rattle.rules.specs.declared.Time.{Time}
+use Rattle.rules.specs.Checks.{_⇒_else_}
+use Rattle.rules.specs.Timers.{timerCount, Timer, idle, running, waiting, isZero, leftOf, startedOf}
 use Rattle.rules.specs.Profile.{profileSize}
 use Rattle.rules.specs.State.{State, Chan, held}
 use Rattle.rules.specs.Pool.{cellSize, poolSize, cells, unpromised}
@@ -19,7 +22,7 @@ use Rattle.rules.specs.Sound.{Sound}
 use Rattle.octets.specs.Parts.{pad}
 use Rattle.session.specs.declared.Channel.{Channel}
 use Rattle.session.specs.declared.Session.{Session}
-use Rattle.session.specs.Book.{availableAt, statusAt, channelsAt, entrySize, entryAt, entryFrom, numbersOf, lengthsIn-entry, lengthsFrom, places, listed, listedNumber}
+use Rattle.session.specs.Book.{availableAt, statusAt, timersAt, timerSize, channelsAt, entrySize, entryAt, entryFrom, numbersOf, lengthsIn-entry, lengthsFrom, places, listed, listedNumber}
 
 -- the bytes of the cells that a grant promises each way
 unfoldable pub space : ℕ → ℕ
@@ -74,16 +77,31 @@ entry c =
 unfoldable pub chanNumbers : Chan → List ℕ
 chanNumbers c = numbersOf (entry c) ++ (places (c .receive .lengths) ++ places (c .send .lengths))
 
-unfoldable pub entriesOf : List Chan → List ℕ
-entriesOf [] = []
-entriesOf (c ∷ cs) = chanNumbers c ++ entriesOf cs
+-- the numbers of each, one after the other
+unfoldable pub blocks : {A : Type 0} → (A → List ℕ) → List A → List ℕ
+blocks f [] = []
+blocks f (x ∷ xs) = f x ++ blocks f xs
 
--- the numbers between the profile and the entries: whether 09 and 0A are listed, and the cells that are not promised
-abbrev pub headsWith : Events → ℕ → List ℕ
-headsWith e free = listedNumber (e .available) ∷ listedNumber (e .status) ∷ free ∷ []
+abbrev pub entriesOf : List Chan → List ℕ
+entriesOf cs = blocks chanNumbers cs
+
+-- the numbers of a time
+abbrev pub timeNumbers : Time → List ℕ
+timeNumbers t = t .hours ∷ t .minutes ∷ t .seconds ∷ []
+
+-- a timer as the ledger has it: the time left, and the time that it was started with; all 0 where it neither runs nor waits, and the first three where it waits
+unfoldable pub timerNumbers : Timer → List ℕ
+timerNumbers t = timeNumbers (leftOf t) ++ timeNumbers (startedOf t)
+
+abbrev pub timersOf : List Timer → List ℕ
+timersOf ts = blocks timerNumbers ts
+
+-- the numbers between the profile and the entries: whether 09 and 0A are listed, the cells that are not promised, and the timers
+abbrev pub headsWith : Events → ℕ → List Timer → List ℕ
+headsWith e free ts = listedNumber (e .available) ∷ listedNumber (e .status) ∷ free ∷ timersOf ts
 
 unfoldable pub headsOf : State → List ℕ
-headsOf a = headsWith (a .events) (unpromised a)
+headsOf a = headsWith (a .events) (unpromised a) (a .timers)
 
 -- the ledger: the profile, these, and an entry for each channel
 unfoldable pub ledgerOf : State → List ℕ
@@ -124,6 +142,21 @@ unfoldable pub chansFrom : ℕ → List ℕ → List ℕ → List Chan
 chansFrom zero t p = []
 chansFrom (suc k) t p = chanFrom t p ∷ chansFrom k (drop entrySize t) (drop (2 * space (getD t 0 0)) p)
 
+-- the time at a place, and a timer, read back from its numbers
+abbrev pub timeAt : List ℕ → ℕ → Time
+timeAt t at = record { hours = getD t at 0; minutes = getD t (at + 1) 0; seconds = getD t (at + 2) 0 }
+
+unfoldable pub timerOf : Time → Time → Timer
+timerOf left from =
+    isZero from ⇒ idle else
+    isZero left ⇒ waiting from else
+    running left from
+
+-- so many timers, read back from their numbers
+unfoldable pub timersFrom : ℕ → List ℕ → List Timer
+timersFrom zero t = []
+timersFrom (suc k) t = timerOf (timeAt t 0) (timeAt t 3) ∷ timersFrom k (drop timerSize t)
+
 -- the state that the record's two arrays show
 unfoldable pub shown : List ℕ → List ℕ → State
 shown t p =
@@ -131,6 +164,7 @@ shown t p =
       profile = take profileSize t;
       events = record { available = listed (getD t availableAt 0); status = listed (getD t statusAt 0) };
       chans = chansFrom 7 (drop channelsAt t) p;
+      timers = timersFrom timerCount (drop timersAt t);
     }
 
 abbrev pub view : Session → State

@@ -47,7 +47,13 @@ impl Ledger {
 
     pub const FREE_AT: usize = 15;
 
-    pub const CHANNELS_AT: usize = 16;
+    pub const TIMERS_AT: usize = 16;
+
+    pub const TIMER: usize = 6;
+
+    pub const TIMERS: usize = 8;
+
+    pub const CHANNELS_AT: usize = 64;
 
     pub const ENTRY: usize = 38;
 
@@ -55,7 +61,7 @@ impl Ledger {
 
     pub const PLACES: usize = 16;
 
-    pub const SIZE: usize = 282;
+    pub const SIZE: usize = 330;
 }
 
 // A channel: its grant (0 where it is not open), its link by number, how many bytes are held each way, how many of those to send are ready, and what it carries by number.

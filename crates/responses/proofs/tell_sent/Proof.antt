@@ -1,8 +1,9 @@
 -- `responses::tell_sent` meets its contract: the room stands behind the head.
 -- Assumes nothing.
+use mathlib.Core.Path.{refl}
 use native.Mathlib.Omega.{arith}
 use denote.Ref.{now}
-use Rattle.responses.proofs.Writes.{after-head, head-size, sent-stands}
+use Rattle.responses.proofs.Writes.{after-head, head-size, follows-stands, sent-is}
 use borrow.Author.Needs.{needs}
 use Rattle.responses.proofs.tell_sent.Statement.{statement}
 use Rattle.responses.proofs.tell_sent.Tie as tie
@@ -30,7 +31,7 @@ returns c =
     let after-tell-result : tie.After-tell-result = search in
     let at-start = start after-tell-result in
     let s = at-start in
-    sent-stands (s .args .d) (s .args .result) (s .args .room) _ (now (s .args .out)) _ _ (after-tell-result .tell-result .ensures) (s .pre) (c .before .before .put .ensures)
+    follows-stands (s .args .d) (s .args .result) _ _ _ _ (now (s .args .out)) _ _ (sent-is (s .args .room)) refl (after-tell-result .tell-result .ensures) (s .pre) (c .before .before .put .ensures)
 
 pub tell-sent-spec : {M : Type 1} → statement M
 tell-sent-spec = tie.close (tie.spec (λ c κs. search needs) (λ c. search needs) put-requires add-result (λ c. search needs) returns)

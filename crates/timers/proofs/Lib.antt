@@ -1,0 +1,5 @@
+pub mod ByTimes
+pub mod Records
+pub mod Writes
+pub mod Seconds
+pub mod Settled
