@@ -2,17 +2,21 @@
 -- Assumes nothing.
 use Prim.Native.Nat.{ℕ, _≤_}
 use mathlib.Core.Path.{_≡_, refl, sym, ap, subst, _∙_}
+use mathlib.Core.Bool.{true}
 use mathlib.Core.List.{List, [], _∷_}
 use lib.ListN.{length, drop}
 use lib.Seq.{take-append-seam}
 use Rattle.rules.specs.declared.ChannelNumber.{ChannelNumber}
 use Rattle.rules.specs.State.{State, start}
 use Rattle.rules.specs.Command.{Outcome, wrote, refused, Answer, endedOf, writtenBy}
-use Rattle.rules.specs.Run.{Call, starting, commanding, step, after, radio}
+use Rattle.rules.specs.Run.{Call, starting, commanding, step, after, radio, timing}
 use Rattle.rules.specs.History.{Exchange, history, callsOf, seenFrom}
 use Rattle.rules.specs.Pool.{unpromised}
 use Rattle.rules.specs.Demands.{Follows, freeBy}
+use Rattle.rules.specs.Timers.{isTimer}
+use Rattle.rules.specs.TimerHistory.{unset, setsFrom}
 use Rattle.rules.proofs.Histories.{follows}
+use Rattle.rules.proofs.TimerHistories.{TellsOf, timer-told}
 use Rattle.rules.proofs.Openings.{free-told}
 use Rattle.rules.proofs.Soundness.{start-sound, step-sound}
 use Rattle.octets.specs.Parts.{overlaid}
@@ -24,7 +28,7 @@ use Rattle.session.specs.Calls.{Answers}
 use Rattle.session.proofs.Facts.{unpromised-kept}
 use Rattle.session.proofs.Views.{shows-back}
 use Rattle.text.specs.Prints.{outcomeOf}
-use Rattle.bridge.specs.Reached.{Left, Called, Runs, Reached}
+use Rattle.bridge.specs.Reached.{Left, timerBuffer, Called, Runs, Reached}
 
 -- what is seen in the buffer is how the call ended
 front-seen : (o : Outcome) (before : List ℕ) → outcomeOf (endedOf o) (overlaid (writtenBy o) before) ≡ o
@@ -55,6 +59,7 @@ stepped s (starting p) t o g h =
     record { good = h .good; shows = shows-back (start p) (t .ledger) (t .pool) (start-sound p) (h .shows); seen = h .seen }
 stepped s (commanding terms c) t o g h = left-stepped s (commanding terms c) (terms .buffer) t o g h
 stepped s (radio buffer n act) t o g h = left-stepped s (radio buffer n act) buffer t o g h
+stepped s (timing act) t o g h = left-stepped s (timing act) (timerBuffer act) t o g h
 
 -- a list of calls: the record after them is good and shows the run of the definitions, and what was seen is what they say
 pub record Ran (a : State) (es : List Exchange) (t : Session) : Type 0 where
@@ -96,3 +101,10 @@ reached-follows n p es s from h =
     let r = reached-ran p es s h in
     subst (λ (a : State). Follows n a (history n es)) (sym (r .shows))
     (subst (λ (xs : List Exchange). Follows n (after (start p) (callsOf es)) (history n xs)) (sym (r .seen)) (follows n p (callsOf es) from))
+
+-- and each timer of the record: it runs, waits or does neither as its latest start and the seconds since say
+pub reached-timer : (n : ℕ) (p : List ℕ) (es : List Exchange) (s : Session) → isTimer n ≡ true → Reached p es s → TellsOf n (view s) (setsFrom n unset es)
+reached-timer n p es s e h =
+    let r = reached-ran p es s h in
+    subst (λ (a : State). TellsOf n a (setsFrom n unset es)) (sym (r .shows))
+    (subst (λ (xs : List Exchange). TellsOf n (after (start p) (callsOf es)) (setsFrom n unset xs)) (sym (r .seen)) (timer-told n p (callsOf es) e))

@@ -12,7 +12,8 @@ use borrow.Fn.Kinds.{Dens, resT, endedOf}
 use Rattle.rules.specs.Pool.{poolSize}
 use Rattle.rules.specs.State.{start}
 use Rattle.rules.specs.Command.{Answer, wrote, lending}
-use Rattle.rules.specs.Run.{starting, commanding, arriving, takingOut, droppingLink}
+use Rattle.rules.specs.Run.{starting, commanding, timing, arriving, takingOut, droppingLink}
+use Rattle.rules.specs.TimerCalls.{second, envelope}
 use Rattle.rules.proofs.Soundness.{start-sound}
 use Rattle.text.specs.Prints.{outcomeOf}
 use Rattle.session.specs.declared.Session.{Session}
@@ -42,6 +43,10 @@ use Rattle.radio.proofs.dropping_in.Kinds as dropping-in-kinds
 use Rattle.radio.proofs.dropping_in.Reads as dropping-in-reads
 use Rattle.modem.proofs.command_in.Kinds as command-in-kinds
 use Rattle.modem.proofs.command_in.Reads as command-in-reads
+use Rattle.timers.proofs.pass_second.Kinds as pass-second-kinds
+use Rattle.timers.proofs.pass_second.Reads as pass-second-reads
+use Rattle.timers.proofs.envelope_in.Kinds as envelope-in-kinds
+use Rattle.timers.proofs.envelope_in.Reads as envelope-in-reads
 
 -- a call that is the answer x left the record t, and what it wrote is seen at the front of the buffer
 pub left-by :
@@ -125,3 +130,18 @@ pub dropping-in-called :
     dropping-in-reads.Post κs a r (atExit (endedOf 3 dropping-in-kinds.ps dropping-in-kinds.r) κs a v) →
     Called (both (now (a .0)) (now (a .1 .0))) (droppingLink (length (now (a .1 .1 .1 .0))) (a .1 .1 .0)) (both (v .0) (now (a .1 .0))) (outcomeOf r (v .1 .1 .1 .0))
 dropping-in-called κs a r v h = left-by (both (v .0) (now (a .1 .0))) h
+
+-- a second over the two arrays: it writes nothing, and is lent no buffer
+pub second-called :
+    (κs : Lfts 2) (a : Dens κs pass-second-kinds.ps) (r : resT pass-second-kinds.r κs .Denot) (v : Lasts (endedOf 2 pass-second-kinds.ps pass-second-kinds.r) κs a) →
+    pass-second-reads.Post κs a r (atExit (endedOf 2 pass-second-kinds.ps pass-second-kinds.r) κs a v) →
+    Called (both (now (a .0)) (now (a .1 .0))) (timing second) (both (v .0) (now (a .1 .0))) (wrote [])
+unfolding outcomeOf
+second-called κs a r v h = left-by (both (v .0) (now (a .1 .0))) h
+
+-- the envelope over the two arrays
+pub envelope-called :
+    (κs : Lfts 3) (a : Dens κs envelope-in-kinds.ps) (r : resT envelope-in-kinds.r κs .Denot) (v : Lasts (endedOf 3 envelope-in-kinds.ps envelope-in-kinds.r) κs a) →
+    envelope-in-reads.Post κs a r (atExit (endedOf 3 envelope-in-kinds.ps envelope-in-kinds.r) κs a v) →
+    Called (both (now (a .0)) (now (a .1 .0))) (timing (envelope (length (now (a .1 .1 .0))))) (both (v .0) (now (a .1 .0))) (outcomeOf r (v .1 .1 .0))
+envelope-called κs a r v h = left-by (both (v .0) (now (a .1 .0))) h

@@ -7,7 +7,8 @@ use Rattle.rules.specs.State.{start}
 use Rattle.rules.specs.Command.{Outcome, wrote, Answer, command, Terms}
 use Rattle.rules.specs.Fetch.{Fetched}
 use Rattle.rules.specs.Radio.{radioCall}
-use Rattle.rules.specs.Run.{Call, starting, commanding, radio}
+use Rattle.rules.specs.TimerCalls.{TimerAct, second, envelope, timerCall}
+use Rattle.rules.specs.Run.{Call, starting, commanding, radio, timing}
 use Rattle.rules.specs.History.{Exchange}
 use Rattle.session.specs.declared.Session.{Session}
 use Rattle.rules.specs.declared.Ended.{Ended}
@@ -32,11 +33,17 @@ pub record Started (p : List ℕ) (t : Session) (o : Outcome) : Type 0 where
   pub good : Good t
   pub seen : o ≡ wrote []
 
+-- the buffer that is lent to a call of the timers; a second has none
+abbrev pub timerBuffer : TimerAct → ℕ
+timerBuffer second = 0
+timerBuffer (envelope buffer) = buffer
+
 -- the record t follows from the record s by the contract of a call, which ended so
 abbrev pub Called : Session → Call → Session → Outcome → Type 0
 Called s (starting p) t o = Started p t o
 Called s (commanding terms c) t o = Left (command (view s) terms c) (terms .buffer) t o
 Called s (radio buffer n act) t o = Left (radioCall (view s) buffer n act) buffer t o
+Called s (timing act) t o = Left (timerCall (view s) act) (timerBuffer act) t o
 
 -- the record t follows from s by these calls, which ended so
 abbrev pub Runs : Session → List Exchange → Session → Type 0

@@ -15,7 +15,8 @@ use Rattle.rules.specs.Command.{Answer, Outcome, wrote, refused, endedOf, Terms
 use Rattle.rules.specs.Fetch as rules
 use Rattle.rules.specs.Fetch.{fetch}
 use Rattle.rules.specs.Radio.{taking, arrives, takes, drops}
-use Rattle.rules.specs.Run.{Call, starting, commanding, step, radio}
+use Rattle.rules.specs.TimerCalls.{second, envelope}
+use Rattle.rules.specs.Run.{Call, starting, commanding, step, radio, timing}
 use Rattle.rules.specs.Sound.{Sound, Within}
 use Rattle.rules.proofs.Laws.{stop, skip}
 use Rattle.rules.proofs.Told.{refusal-back, number-small}
@@ -58,6 +59,8 @@ call-fits a (commanding terms s) h = within-fits 255 _ (omega arith) (written-wi
 call-fits a (radio buffer n (arrives s)) h = within-fits 16 _ (omega arith) (written-within a (radio buffer n (arrives s)) h)
 call-fits a (radio buffer n takes) h = within-fits grantCap _ (omega arith) (take-within a buffer n h)
 call-fits a (radio buffer n drops) h = within-fits 16 _ (omega arith) (written-within a (radio buffer n drops) h)
+call-fits a (timing second) h = within-fits 0 _ (omega arith) (written-within a (timing second) h)
+call-fits a (timing (envelope buffer)) h = within-fits 14 _ (omega arith) (written-within a (timing (envelope buffer)) h)
 
 module _ (a : State) (c : Call) (t p : List ℕ) (e : Ended) (before after : List ℕ) (h : Answers (step a c) t p e before after) where
   -- how the call ended can be packed

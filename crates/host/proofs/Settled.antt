@@ -17,6 +17,8 @@ use Rattle.host.proofs.pomerassol_command as command-call
 use Rattle.host.proofs.pomerassol_arrival as arrival-call
 use Rattle.host.proofs.pomerassol_take as take-call
 use Rattle.host.proofs.pomerassol_drop as drop-call
+use Rattle.host.proofs.pomerassol_second as second-call
+use Rattle.host.proofs.pomerassol_envelope as envelope-call
 use Rattle.host.proofs.pomerassol_fetch as fetch-call
 use Rattle.host.proofs.pomerassol_fetch_start.Kinds as fetch-start-kinds
 use Rattle.host.proofs.pomerassol_fetch_start.Reads as fetch-start-reads
@@ -55,6 +57,15 @@ pub drop-settled : Settles drop-call.ended (λ M 𝓤. drop-call.clauses 𝓤)
 drop-settled M 𝓤 H A mem run κs a g x y v w =
     from-claims 𝓤 _ _ _ _
     (λ p q. (number-alike (v .0) (w .0) p q, λ i. (record-alike (v .0) (w .0) p q i, (tt, (buffer-alike (v .0) (w .0) p q i, tt)))))
+
+pub envelope-settled : Settles envelope-call.ended (λ M 𝓤. envelope-call.clauses 𝓤)
+envelope-settled M 𝓤 H A mem run κs a g x y v w =
+    from-claims 𝓤 _ _ _ _
+    (λ p q. (number-alike (v .0) (w .0) p q, λ i. (record-alike (v .0) (w .0) p q i, (buffer-alike (v .0) (w .0) p q i, tt))))
+
+pub second-settled : Settles second-call.ended (λ M 𝓤. second-call.clauses 𝓤)
+second-settled M 𝓤 H A mem run κs a g x y v w =
+    from-claims 𝓤 _ _ _ _ (λ p q. (λ i. tt, λ i. (session-alike (v .0) (w .0) (p .shows) (q .shows) i, tt)))
 
 pub details-settled : Determined 1 details-kinds.ps details-kinds.r details-reads.Pre details-reads.Post
 details-settled κs a _ x y v w p q = (p ∙ sym q, refl)

@@ -10,7 +10,8 @@ use Rattle.outcomes.specs.Claims.{Claims}
 use Rattle.outcomes.proofs.Claims.{from-claim, from-last}
 use Rattle.rules.specs.Command.{wrote, endedOf, lending}
 use Rattle.rules.specs.Fetch.{fetch}
-use Rattle.rules.specs.Run.{Call, starting, commanding, arriving, takingOut, droppingLink, step}
+use Rattle.rules.specs.Run.{Call, starting, commanding, timing, arriving, takingOut, droppingLink, step}
+use Rattle.rules.specs.TimerCalls.{second, envelope}
 use Rattle.session.specs.declared.Session.{Session}
 use Rattle.rules.specs.declared.Ended.{Ended}
 use Rattle.session.specs.Picture.{Good, view}
@@ -26,6 +27,8 @@ use Rattle.host.proofs.pomerassol_command as command-call
 use Rattle.host.proofs.pomerassol_arrival as arrival-call
 use Rattle.host.proofs.pomerassol_take as take-call
 use Rattle.host.proofs.pomerassol_drop as drop-call
+use Rattle.host.proofs.pomerassol_second as second-call
+use Rattle.host.proofs.pomerassol_envelope as envelope-call
 use Rattle.host.proofs.pomerassol_fetch as fetch-call
 
 -- a call over a good record s, as its contract says, left t, and its number and the buffer show what was seen of it
@@ -71,6 +74,19 @@ pub drop-tied :
 unfolding step
 drop-tied M 𝓤 H A mem run κs a g x v =
     from-claim 𝓤 _ _ _ (tied (now (a .0)) (droppingLink (length (now (a .1 .1 .0))) (record { 0 = a .1 .0 })) (v .0) x (now (a .1 .1 .0)) (v .1 .1 .0))
+
+-- of an envelope
+pub envelope-tied :
+    Claims envelope-call.ended (λ M 𝓤. envelope-call.clauses 𝓤)
+    (λ κs a x v. Called (now (a .0)) (timing (envelope (length (now (a .1 .0))))) (v .0) (outcomeOf (unpacked x) (v .1 .0)))
+unfolding step
+envelope-tied M 𝓤 H A mem run κs a g x v =
+    from-claim 𝓤 _ _ _ (tied (now (a .0)) (timing (envelope (length (now (a .1 .0))))) (v .0) x (now (a .1 .0)) (v .1 .0))
+
+-- and of a second, which writes nothing
+pub second-tied : Claims second-call.ended (λ M 𝓤. second-call.clauses 𝓤) (λ κs a x v. Called (now (a .0)) (timing second) (v .0) (wrote []))
+unfolding outcomeOf
+second-tied M 𝓤 H A mem run κs a g x v = from-claim 𝓤 _ _ _ (λ _ h. left-by (v .0) h)
 
 -- a burst over a good record s and the gathered record g, as its contract says: its number and the buffer show what was seen of it, as many bytes left as can be told
 burst-tied :

@@ -15,6 +15,8 @@ use rules::Ended;
 use session::Ledger;
 use session::Session;
 use session::start_ledger;
+use timers::envelope_in;
+use timers::pass_second;
 ghost use mathlib.Core.Path.{_≡_};
 ghost use mathlib.Core.List.{[]};
 ghost use lib.ListN.{length};
@@ -24,7 +26,10 @@ ghost use Rattle.rules.specs.AtHand.{atHand};
 ghost use Rattle.rules.specs.Command.{lending, command};
 ghost use Rattle.rules.specs.Fetch.{fetch};
 ghost use Rattle.rules.specs.Radio.{arrival, taking, dropping};
+ghost use Rattle.rules.specs.TimerCalls.{passing, enveloping};
+ghost use Rattle.rules.specs.declared.Ended.the-variants.{Wrote};
 ghost use Rattle.session.specs.Book.{ledgerSize};
+ghost use Rattle.session.specs.Calls.{Answers};
 ghost use Rattle.session.specs.Picture.{Good, GoodIn, Shows, shown, view};
 ghost use Rattle.fetch.specs.Gathers.{gatheredOf, gatheredIn, Gathers};
 ghost use Rattle.host.specs.Packed.{packed, packedBurst, Fits, Hosts, Packs, PacksBurst, HostsBurst};
@@ -121,6 +126,26 @@ fn drop_packed(
     pack(dropping_in(ledger, pool, ChannelNumber(channel), out))
 }
 
+// A second over the lent arrays.
+fn second_lent(ledger: &mut [u16; Ledger::SIZE], pool: &mut [u8; Pool::SIZE])
+    requires { ⌜ GoodIn (now ledger) (now pool) ⌝ }
+    ensures { λ _. ⌜ Answers (passing (shown (now (ledger .entry)) (now (pool .entry)))) (now (ledger .exit)) (now (pool .exit)) (Wrote 0) [] [] ⌝ }
+{
+    pass_second(ledger, pool);
+}
+
+// The envelope over the lent arrays.
+fn envelope_packed(
+    ledger: &mut [u16; Ledger::SIZE],
+    pool: &mut [u8; Pool::SIZE],
+    out: &mut [u8],
+) -> u32
+    requires { ⌜ GoodIn (now ledger) (now pool) ⌝ }
+    ensures { λ r. ⌜ Packs (enveloping (shown (now (ledger .entry)) (now (pool .entry))) (length (now (out .entry)))) (now (ledger .exit)) (now (pool .exit)) r (now (out .entry)) (now (out .exit)) ⌝ }
+{
+    pack(envelope_in(ledger, pool, out))
+}
+
 // A burst over the lent arrays and the gathered record.
 fn fetch_packed(
     ledger: &mut [u16; Ledger::SIZE],
@@ -182,6 +207,24 @@ pub extern "C" fn pomerassol_drop(s: &mut Session, channel: u8, out: &mut [u8]) 
     ensures { λ r. ⌜ Hosts (dropping (view (now (s .entry))) (length (now (out .entry))) (record { 0 = channel })) (now (s .exit)) r (now (out .entry)) (now (out .exit)) ⌝ }
 {
     drop_packed(&mut s.ledger, &mut s.pool, channel, out)
+}
+
+// A second passes for the timers.
+#[no_mangle]
+pub extern "C" fn pomerassol_second(s: &mut Session)
+    requires { ⌜ Good (now s) ⌝ }
+    ensures { λ _. ⌜ Answers (passing (view (now (s .entry)))) (now (s .exit) .ledger) (now (s .exit) .pool) (Wrote 0) [] [] ⌝ }
+{
+    second_lent(&mut s.ledger, &mut s.pool);
+}
+
+// The envelope of the lowest timer that waits.
+#[no_mangle]
+pub extern "C" fn pomerassol_envelope(s: &mut Session, out: &mut [u8]) -> u32
+    requires { ⌜ Good (now s) ⌝ }
+    ensures { λ r. ⌜ Hosts (enveloping (view (now (s .entry))) (length (now (out .entry)))) (now (s .exit)) r (now (out .entry)) (now (out .exit)) ⌝ }
+{
+    envelope_packed(&mut s.ledger, &mut s.pool, out)
 }
 
 // What command is at hand: number, type and qualifier in one number, or R2; from the outer head and the first object alone.

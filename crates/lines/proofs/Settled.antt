@@ -12,6 +12,8 @@ use Rattle.lines.proofs.begin.Kinds as begin-kinds
 use Rattle.lines.proofs.begin.Reads as begin-reads
 use Rattle.lines.proofs.end_line.Kinds as end-line-kinds
 use Rattle.lines.proofs.end_line.Reads as end-line-reads
+use Rattle.lines.proofs.tell_call.Kinds as tell-call-kinds
+use Rattle.lines.proofs.tell_call.Reads as tell-call-reads
 
 -- two ends of a line leave one session
 module _ {f : Said State} {t p u q before after after′ : List ℕ} {m n at : ℕ} (g : Says f t p m before at after) (h : Says f u q n before at after′) where
@@ -30,4 +32,8 @@ begin-settled κs a _ x y v w p q =
 
 pub end-line-settled : Determined 4 end-line-kinds.ps end-line-kinds.r end-line-reads.Pre end-line-reads.Post
 end-line-settled κs a _ x y v w p q =
+    (p .place ∙ sym (q .place), λ i. (tt, (ledger-same p q i, (pool-same p q i, (tt, ((p .stands ∙ sym (q .stands)) i, (tt, tt)))))))
+
+pub tell-call-settled : Determined 4 tell-call-kinds.ps tell-call-kinds.r tell-call-reads.Pre tell-call-reads.Post
+tell-call-settled κs a _ x y v w p q =
     (p .place ∙ sym (q .place), λ i. (tt, (ledger-same p q i, (pool-same p q i, (tt, ((p .stands ∙ sym (q .stands)) i, (tt, tt)))))))

@@ -16,7 +16,7 @@ use Rattle.rules.specs.declared.Refusal.the-variants.{Unreadable as R9}
 use Rattle.rules.specs.State.{State, start}
 use Rattle.rules.specs.Command.{wrote, refused, lending}
 use Rattle.rules.specs.Radio.{arrives, takes, drops}
-use Rattle.rules.specs.Run.{Call, starting, commanding, arriving, takingOut, droppingLink, step, radio}
+use Rattle.rules.specs.Run.{Call, starting, commanding, arriving, takingOut, droppingLink, step, radio, timing}
 use Rattle.rules.specs.Reading.{pairIn}
 use Rattle.rules.specs.Lines.{printed, frameOf, callIn, callOf, perform, lineStep}
 use Rattle.rules.specs.Input.{Said, lineBytes, begins, goes}
@@ -144,6 +144,7 @@ Bounded s (some (radio buffer n (arrives t))) = 2 ≤ length s
 Bounded s (some (radio buffer n takes)) = buffer ≤ grantCap
 Bounded s (some (radio buffer n drops)) = Unit {0}
 Bounded s (some (starting t)) = Unit {0}
+Bounded s (some (timing act)) = Unit {0}
 
 call-bounded : (s : List ℕ) → Bounded s (callOf s)
 unfolding callOf

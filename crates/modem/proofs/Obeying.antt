@@ -14,8 +14,8 @@ use Rattle.rules.specs.Checks.{_⇒_else_}
 use Rattle.rules.specs.Words.{channelOf}
 use Rattle.rules.specs.Profile.{profileSize}
 use Rattle.rules.specs.State.{State}
-use Rattle.rules.specs.Reading.{Reading, wrong, Command, Body, bare, eventList, openChannel, closeChannel, receiveData, sendData, bearerIn, commandIn, toModem, addressed, readObjects}
-use Rattle.rules.specs.Own.{Reply, reply, error, telling, own, listing, opening, closing, receiving, sending}
+use Rattle.rules.specs.Reading.{Reading, wrong, Command, Body, bare, eventList, openChannel, closeChannel, receiveData, sendData, startTimer, manageTimer, bearerIn, commandIn, toModem, addressed, readObjects}
+use Rattle.rules.specs.Own.{Reply, reply, error, telling, own, listing, opening, closing, receiving, sending, startingTimer, managingTimer}
 use Rattle.rules.specs.Written.{responseBytes}
 use Rattle.rules.specs.Command.{Answer, answered, meantBy}
 use Rattle.rules.proofs.Laws.{skip, both-left, both-right}
@@ -27,7 +27,7 @@ use Rattle.session.specs.Picture.{GoodIn, shown}
 use Rattle.session.specs.Calls.{Answers}
 use Rattle.session.specs.Changed.{Numbered}
 use Rattle.command.specs.declared.Handler.{Handler}
-use Rattle.command.specs.declared.Handler.the-variants.{Bare, EventList, Open, Close, Receive, Send}
+use Rattle.command.specs.declared.Handler.the-variants.{Bare, EventList, Open, Close, Receive, Send, StartTimer, ManageTimer}
 use Rattle.command.specs.declared.Request.{Request}
 use Rattle.command.specs.Plans.{handles}
 use Rattle.command.specs.Requests as requests
@@ -104,6 +104,19 @@ module _ (t p s : List ℕ) (q : Request) (g : GoodIn t p) (h : AskedFor q (part
         as-body (openChannel (bearerIn (requests.own q s)) (sizeAt s (q .further)) (o .level)) _ (o .is)
         (λ i. opening a (qualifier-is i) (bearerIn (requests.own q s)) (sym f i) ((o .protocol ∙ sym g) i) (q .ignored))
 
+    -- a timer, and at a start its time
+    pub start-answers :
+        q .handler ≡ StartTimer → {v : List ℕ} → v ≡ part (q .further) (q .further + 3) s → ends (startingTimer a (getD s (q .start) 0) v (q .ignored)) → obeys
+    unfolding own
+    start-answers e f =
+        as-body (startTimer (getD s (q .start) 0) (part (q .further) (q .further + 3) s)) _ (body-is StartTimer e .0)
+        (ap (λ (v : List ℕ). startingTimer a (getD s (q .start) 0) v (q .ignored)) (sym f))
+
+    pub manage-answers : q .handler ≡ ManageTimer → ends (managingTimer a (d .qualifier) (getD s (q .start) 0) (q .ignored)) → obeys
+    unfolding own
+    manage-answers e =
+        as-body (manageTimer (getD s (q .start) 0)) _ (body-is ManageTimer e .0) (λ i. managingTimer a (qualifier-is i) (getD s (q .start) 0) (q .ignored))
+
     -- a command to the channel that its destination names
     module _ (n : ChannelNumber) (v : n ≡ channelOf (q .destination)) where
       number-is : channelOf (c .destination) ≡ n
@@ -127,14 +140,23 @@ module _ (t p s : List ℕ) (q : Request) (g : GoodIn t p) (h : AskedFor q (part
   pub one-byte : q .handler ≡ Receive → q .start + 1 ≤ length s
   one-byte e = omega (arith, h .within, body-is Receive e .1)
 
+  pub start-byte : q .handler ≡ StartTimer → q .start + 1 ≤ length s
+  start-byte e = omega (arith, h .within, body-is StartTimer e .1)
+
+  pub start-time : q .handler ≡ StartTimer → q .further + 3 ≤ length s
+  start-time e = body-is StartTimer e .2
+
+  pub manage-byte : q .handler ≡ ManageTimer → q .start + 1 ≤ length s
+  manage-byte e = omega (arith, h .within, body-is ManageTimer e .1)
+
   pub opens : q .handler ≡ Open → Opens q s (c .body)
   opens e = body-is Open e
 
   -- a command to a channel has one of the seven numbers
-  pub numbered : (n : ChannelNumber) (k : Handler) → n ≡ channelOf (q .destination) → q .handler ≡ k → (j : ℕ) → (handles k (d .kind) ≡ true → d .kind ≡ j) → toModem j ≡ false → Numbered t p n
+  pub numbered : (n : ChannelNumber) (k : Handler) → n ≡ channelOf (q .destination) → q .handler ≡ k → (j : ℕ) → (handles k d ≡ true → d .kind ≡ j) → toModem j ≡ false → Numbered t p n
   unfolding addressed
   numbered n k v e j is f =
-      let kind : theDetails s .kind ≡ j = ap (λ (x : Details). x .kind) (h .details) ∙ is (subst (λ (x : Handler). handles x (d .kind) ≡ true) e (h .kind)) in
+      let kind : theDetails s .kind ≡ j = ap (λ (x : Details). x .kind) (h .details) ∙ is (subst (λ (x : Handler). handles x d ≡ true) e (h .kind)) in
       let to : addressed j (c .source) (q .destination) ≡ true =
       sym (λ i. addressed (kind i) (c .source) (h .destination i)) ∙ h .devices in
       let from : Bool = leb 0x21 (q .destination .0) in

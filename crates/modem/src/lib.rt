@@ -22,6 +22,8 @@ use rules::Results;
 use session::Answered;
 use session::Ledger;
 use session::Session;
+use timers::manage_timer;
+use timers::start_timer;
 ghost use mathlib.Core.Path.{_≡_};
 ghost use Prim.Native.Nat.{_+_, _≤_, _<_};
 ghost use lib.ListN.{length};
@@ -55,6 +57,9 @@ fn protocol_at(s: &[u8], at: usize) -> u8
     s[at]
 }
 
+// The bytes of a time.
+const TIME: usize = 3;
+
 // Does what a request asks, by its handler.
 fn carry_out(
     ledger: &mut [u16; Ledger::SIZE],
@@ -70,6 +75,7 @@ fn carry_out(
     let ignored = q.ignored;
     let start = q.start;
     let end = start + q.len;
+    let further = q.further;
     let to = q.destination;
     let n = to.channel();
     let handler = q.handler;
@@ -80,7 +86,7 @@ fn carry_out(
             ledger,
             pool,
             &s[start..end],
-            size_at(s, q.further),
+            size_at(s, further),
             protocol_at(s, q.transport),
             d,
             ignored,
@@ -89,6 +95,16 @@ fn carry_out(
         Handler::Close => close(ledger, pool, n, d, ignored, out),
         Handler::Receive => receive(ledger, pool, n, s[start], d, ignored, out),
         Handler::Send => send(ledger, pool, n, &s[start..end], d, ignored, out),
+        Handler::StartTimer => start_timer(
+            ledger,
+            pool,
+            s[start],
+            &s[further..further + TIME],
+            d,
+            ignored,
+            out,
+        ),
+        Handler::ManageTimer => manage_timer(ledger, pool, s[start], d, ignored, out),
     }
 }
 

@@ -5,7 +5,7 @@ use mathlib.Core.Path.{_≡_, refl, sym, ap, _∙_}
 use mathlib.Core.List.{List}
 use mathlib.Core.Option.{Option, none, some}
 use Rattle.rules.specs.Radio.{arrives, takes, drops}
-use Rattle.rules.specs.Run.{Call, starting, commanding, radio}
+use Rattle.rules.specs.Run.{Call, starting, commanding, radio, timing}
 use Rattle.text.specs.declared.Spoken.{Spoken}
 use Rattle.text.specs.declared.Spoken.the-variants.{Command, Arrival, Take, Drop, Nothing}
 use Rattle.text.specs.Calls.{callSpoken}
@@ -34,6 +34,7 @@ spoken-in (some (radio k n (arrives s))) = Arrival n
 spoken-in (some (radio k n takes)) = Take n k
 spoken-in (some (radio k n drops)) = Drop n
 spoken-in (some (starting p)) = Nothing
+spoken-in (some (timing act)) = Nothing
 spoken-in none = Nothing
 
 spoken-back : (r : Spoken) (s : List ℕ) → spoken-in (callSpoken r s) ≡ r

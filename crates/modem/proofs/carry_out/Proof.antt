@@ -2,11 +2,13 @@
 -- Assumes nothing.
 use mathlib.Core.Path.{refl}
 use native.Mathlib.Omega.{arith}
+use denote.Ref.{now}
 use borrow.Author.Tests.{eqb-true}
+use Rattle.objects.proofs.Alike.{part-size}
 use Rattle.rules.specs.Checks.{some-of, member}
 use Rattle.rules.specs.Reading.{toModem}
 use Rattle.command.specs.declared.Handler.the-variants.{Close, Receive, Send}
-use Rattle.modem.proofs.Obeying.{bare-answers, events-answers, open-answers, close-answers, receive-answers, send-answers, one-byte, opens, numbered}
+use Rattle.modem.proofs.Obeying.{bare-answers, events-answers, open-answers, close-answers, receive-answers, send-answers, start-answers, manage-answers, one-byte, start-byte, start-time, manage-byte, opens, numbered}
 use borrow.Author.Needs.{needs}
 use Rattle.modem.proofs.carry_out.Statement.{statement}
 use Rattle.modem.proofs.carry_out.Tie as tie
@@ -99,6 +101,41 @@ returns-6 c =
     let s : tie.Start = search in
     send-answers _ _ _ (s .args .q) (s .pre .0) (s .pre .1) _ _ _ _ _ _ (n .channel .ensures) (e .enum-told6 .given .1) (r .send .ensures)
 
+start-read : tie.Need-shared-slice-read-start-timer
+start-read c =
+    let e : tie.After-enum-told7 = search in
+    let s : tie.Start = search in
+    let l = start-byte _ _ _ (s .args .q) (s .pre .0) (s .pre .1) (e .enum-told7 .given .1) in
+    omega arith
+
+start-requires : tie.Need-start-timer-requires
+start-requires c κs =
+    let e : tie.After-enum-told7 = search in
+    let s : tie.Start = search in
+    let l = start-time _ _ _ (s .args .q) (s .pre .0) (s .pre .1) (e .enum-told7 .given .1) in
+    (s .pre .0, part-size (now (s .args .s)) (s .args .q .further) 3 l, s .pre .2)
+
+manage-read : tie.Need-shared-slice-read-manage-timer
+manage-read c =
+    let e : tie.After-enum-told8 = search in
+    let s : tie.Start = search in
+    let l = manage-byte _ _ _ (s .args .q) (s .pre .0) (s .pre .1) (e .enum-told8 .given .1) in
+    omega arith
+
+returns-7 : tie.Need-returns-7
+returns-7 c =
+    let r : tie.After-start-timer = search in
+    let e : tie.After-enum-told7 = search in
+    let s : tie.Start = search in
+    start-answers _ _ _ (s .args .q) (s .pre .0) (s .pre .1) _ _ _ _ _ (e .enum-told7 .given .1) refl (r .start-timer .ensures)
+
+returns-8 : tie.Need-returns-8
+returns-8 c =
+    let r : tie.After-manage-timer = search in
+    let e : tie.After-enum-told8 = search in
+    let s : tie.Start = search in
+    manage-answers _ _ _ (s .args .q) (s .pre .0) (s .pre .1) _ _ _ _ _ (e .enum-told8 .given .1) (r .manage-timer .ensures)
+
 pub carry-out-spec : {M : Type 1} → statement M
 carry-out-spec =
     tie.close
@@ -130,6 +167,16 @@ carry-out-spec =
     (λ c. search needs)
     send-requires
     (λ c. search needs)
+    start-read
+    (λ c. let e : tie.After-enum-told7 = search in let s : tie.Start = search in omega (arith, start-time _ _ _ (s .args .q) (s .pre .0) (s .pre .1) (e .enum-told7 .given .1)))
+    (λ c. search needs)
+    (λ c. search needs)
+    (λ c. let e : tie.After-enum-told7 = search in let s : tie.Start = search in omega (arith, start-time _ _ _ (s .args .q) (s .pre .0) (s .pre .1) (e .enum-told7 .given .1)))
+    start-requires
+    (λ c. search needs)
+    manage-read
+    (λ c κs. let s : tie.Start = search in (s .pre .0, s .pre .2))
+    (λ c. search needs)
     returns
     (λ c. search needs)
     returns-2
@@ -140,4 +187,8 @@ carry-out-spec =
     (λ c. search needs)
     returns-5
     (λ c. search needs)
-    returns-6)
+    returns-6
+    (λ c. search needs)
+    returns-7
+    (λ c. search needs)
+    returns-8)
