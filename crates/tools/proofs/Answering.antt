@@ -4,7 +4,9 @@ use Prim.Native.Nat.{ℕ}
 use mathlib.Core.Path.{_≡_, refl}
 use mathlib.Core.Bool.{Bool, true}
 use mathlib.Core.List.{List}
-use Rattle.rules.specs.Input.{lineEnds}
+use Rattle.rules.specs.State.{State}
+use Rattle.rules.specs.Input.{Said, lineEnds}
+use Rattle.lines.specs.Asks.{callsEnds}
 use Rattle.session.specs.Picture as session
 use Rattle.lines.specs.Says as lines
 use Rattle.fetch.specs.Gathers.{gatheredIn}
@@ -16,22 +18,33 @@ use Rattle.csim.specs.Printed.{importLine, exportLine}
 use Rattle.bursts.specs.Bursts.{awaitsIn, burstEnds, Tells}
 use Rattle.flow.specs.Holds.{Says}
 use Rattle.tools.specs.declared.Tool.{Tool}
-use Rattle.tools.specs.declared.Tool.the-variants.{Lines, Bench, Details, Fetch, Mend, CsimImport, CsimExport}
-use Rattle.tools.specs.Tools.{memory, GoodMemory, keptIn, stays, ends}
+use Rattle.tools.specs.declared.Tool.the-variants.{Lines, Calls, Bench, Details, Fetch, Mend, CsimImport, CsimExport}
+use Rattle.tools.specs.Tools.{memory, GoodMemory, keptIn, inSession, stays, ends}
 
 module _ (tool : Tool) (b : Bool) (t p g l : List ℕ) (y : GoodMemory (memory t p g)) (r : ℕ) (out : List ℕ) (at : ℕ) (out′ : List ℕ) where
-  pub lines-answer :
-      (t′ p′ : List ℕ) → tool ≡ Lines → lines.Says (lineEnds b (session.shown t p) l) t′ p′ r out at out′ →
-      Says GoodMemory keptIn (ends tool (keptIn b (memory t p g)) l) (memory t′ p′ g) r out at out′
-  unfolding ends
-  lines-answer t′ p′ e h =
-      rw e
-      (record {
+  -- a tool that concerns the session alone
+  session-answer :
+      (f : Said State) (t′ p′ : List ℕ) → lines.Says f t′ p′ r out at out′ →
+      Says GoodMemory keptIn (inSession (keptIn b (memory t p g)) f) (memory t′ p′ g) r out at out′
+  session-answer f t′ p′ h =
+      record {
         good = record { session = h .good; gathers = y .gathers };
         state = λ i. record { begun = true; state = h .state i; gathered = gatheredIn g };
         stands = h .stands;
         place = h .place;
-      })
+      }
+
+  pub lines-answer :
+      (t′ p′ : List ℕ) → tool ≡ Lines → lines.Says (lineEnds b (session.shown t p) l) t′ p′ r out at out′ →
+      Says GoodMemory keptIn (ends tool (keptIn b (memory t p g)) l) (memory t′ p′ g) r out at out′
+  unfolding ends
+  lines-answer t′ p′ e h = rw e (session-answer (lineEnds b (session.shown t p) l) t′ p′ h)
+
+  pub calls-answer :
+      (t′ p′ : List ℕ) → tool ≡ Calls → lines.Says (callsEnds b (session.shown t p) l) t′ p′ r out at out′ →
+      Says GoodMemory keptIn (ends tool (keptIn b (memory t p g)) l) (memory t′ p′ g) r out at out′
+  unfolding ends
+  calls-answer t′ p′ e h = rw e (session-answer (callsEnds b (session.shown t p) l) t′ p′ h)
 
   -- a tool that keeps nothing
   stays-answer : (s : List ℕ) → Prints s r out at out′ → Says GoodMemory keptIn (stays (keptIn b (memory t p g)) s) (memory t p g) r out at out′

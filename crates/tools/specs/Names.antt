@@ -2,13 +2,16 @@
 use Prim.Native.Nat.{ℕ}
 use mathlib.Core.List.{List, [], _∷_}
 use Rattle.rules.specs.Checks.{_⇒_else_, same}
-use Rattle.tools.specs.declared.Tool.the-variants.{Lines, Bench, Details, Fetch, Mend, CsimImport, CsimExport}
+use Rattle.tools.specs.declared.Tool.the-variants.{Lines, Calls, Bench, Details, Fetch, Mend, CsimImport, CsimExport}
 use Rattle.tools.specs.declared.Named.{Named}
 use Rattle.tools.specs.declared.Named.the-variants.{One, Unknown}
 
--- "lines", "bench", "details", "fetch", "mend", "csim-import", "csim-export"
+-- "lines", "calls", "bench", "details", "fetch", "mend", "csim-import", "csim-export"
 abbrev pub linesName : List ℕ
 linesName = 108 ∷ 105 ∷ 110 ∷ 101 ∷ 115 ∷ []
+
+abbrev pub callsName : List ℕ
+callsName = 99 ∷ 97 ∷ 108 ∷ 108 ∷ 115 ∷ []
 
 abbrev pub benchName : List ℕ
 benchName = 98 ∷ 101 ∷ 110 ∷ 99 ∷ 104 ∷ []
@@ -32,6 +35,7 @@ exportName = 99 ∷ 115 ∷ 105 ∷ 109 ∷ 45 ∷ 101 ∷ 120 ∷ 112 ∷ 111 �
 unfoldable pub toolNamed : List ℕ → Named
 toolNamed w =
     same w linesName ⇒ One Lines else
+    same w callsName ⇒ One Calls else
     same w benchName ⇒ One Bench else
     same w detailsName ⇒ One Details else
     same w fetchName ⇒ One Fetch else

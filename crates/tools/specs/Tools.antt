@@ -6,6 +6,7 @@ use Rattle.rules.specs.State.{State, start}
 use Rattle.rules.specs.Input.{Said, lineEnds}
 use Rattle.session.specs.Picture as session
 use Rattle.fetch.specs.Gathers.{gatheredIn, Gathers}
+use Rattle.lines.specs.Asks.{callsEnds}
 use Rattle.bench.specs.Printed.{benchLine}
 use Rattle.details.specs.Printed.{detailsLine}
 use Rattle.mending.specs.Printed.{mendLine}
@@ -14,7 +15,7 @@ use Rattle.bursts.specs.Bursts.{Awaits, burstEnds}
 use Rattle.flow.specs.Flow.{Ends}
 use Rattle.flow.specs.Holds.{View}
 use Rattle.tools.specs.declared.Tool.{Tool}
-use Rattle.tools.specs.declared.Tool.the-variants.{Lines, Bench, Details, Fetch, Mend, CsimImport, CsimExport}
+use Rattle.tools.specs.declared.Tool.the-variants.{Lines, Calls, Bench, Details, Fetch, Mend, CsimImport, CsimExport}
 
 -- what is kept: whether the first line was read, the session's state, and the bytes gathered of a command
 pub record Kept : Type 0 where
@@ -59,6 +60,7 @@ stays k s = record { kept = record { begun = true; state = k .state; gathered = 
 -- what a tool says of a line
 unfoldable pub ends : Tool → Ends Kept
 ends Lines k l = inSession k (lineEnds (k .begun) (k .state) l)
+ends Calls k l = inSession k (callsEnds (k .begun) (k .state) l)
 ends Bench k l = stays k (benchLine l)
 ends Details k l = stays k (detailsLine l)
 ends Fetch k l = inBursts (burstEnds (k .begun) (record { state = k .state; gathered = k .gathered }) l)

@@ -12,6 +12,7 @@ use flow::Running;
 use flow::Size;
 use flow::gather;
 use lines::end_line;
+use lines::tell_call;
 use mending::tell_mended;
 use octets;
 use pool::Pool;
@@ -31,9 +32,10 @@ ghost use Rattle.flow.specs.Holds.{Ready, readerIn, Says, Goes, Keeps, Fills};
 ghost use Rattle.tools.specs.Names.{toolNamed};
 ghost use Rattle.tools.specs.Tools.{memory, GoodMemory, keptIn, ends};
 
-// The tools: document 01's program, the bench, what command is at hand, bytes as they come off the line, applet commands mended, and lines of +CSIM logs in and out.
+// The tools: document 01's program, the calls of timers beside its lines, the bench, what command is at hand, bytes as they come off the line, applet commands mended, and lines of +CSIM logs in and out.
 pub enum Tool {
     Lines,
+    Calls,
     Bench,
     Details,
     Fetch,
@@ -54,6 +56,9 @@ pub fn tool_named(word: &[u8]) -> Named
 {
     if check::same(word, b"lines") {
         return Named::One(Tool::Lines);
+    }
+    if check::same(word, b"calls") {
+        return Named::One(Tool::Calls);
     }
     if check::same(word, b"bench") {
         return Named::One(Tool::Bench);
@@ -92,6 +97,7 @@ fn answer(
 {
     match tool {
         Tool::Lines => end_line(begun, ledger, pool, line, out, at),
+        Tool::Calls => tell_call(begun, ledger, pool, line, out, at),
         Tool::Bench => tell_bench(line, out, at),
         Tool::Details => tell_details(line, out, at),
         Tool::Fetch => tell_burst(begun, ledger, pool, gathered, line, out, at),

@@ -35,4 +35,7 @@ tool-named-spec =
     (λ c. search needs)
     (λ c κs. search needs)
     (λ c. search names)
+    (λ c. search needs)
+    (λ c κs. search needs)
+    (λ c. search names)
     (λ c. search names))
