@@ -1,9 +1,10 @@
 #!/usr/bin/env python3
-"""Makes the lines of the tool bench, which gate.py writes, with the answers that they must get, from document 01.
+"""Makes the lines of the tool bench, which gate.py writes, with the answers that they must get, from document 01 and M-102.
 
 A response is read here as a list of tagged objects and looked up in tables of the paper; a record is written object by object.
 """
-SEVEN = [0x02, 0x05, 0x40, 0x41, 0x42, 0x43, 0x44]
+SEVEN = [0x02, 0x05, 0x40, 0x41, 0x42, 0x43, 0x44]      # those that the bench writes
+EIGHT = SEVEN + [0x27]                                  # those whose responses it reads
 CAUSES = {0x40: [0x01, 0x04, 0x06], 0x41: [0x03], 0x42: [0x03], 0x43: [0x02, 0x03, 0x04]}
 TO_MODEM = [0x02, 0x05, 0x40, 0x44]
 OTHERS = [0x00, 0x01, 0x03, 0x04, 0x06, 0x3F, 0x45, 0x7F, 0x80, 0xC0, 0xFF]
@@ -52,10 +53,28 @@ def number_of(value, dropped):
     return None
 
 
-def follows(kind, rest):
+def time_of(value):
+    """The six digits of a time from one second to 23:59:59, hours first, or None."""
+    digits = "".join(two[::-1] for two in value.hex(" ").split())
+    if len(digits) != 6 or not digits.isdecimal() or digits == "000000":
+        return None
+    return digits if digits[:2] < "24" and digits[2:4] < "60" and digits[4:] < "60" else None
+
+
+def timer_follows(action, tags, values):
+    """Whether these objects may follow a timer command that asked for so much: a timer, and its time but for a start."""
+    if tags != {0: [0x24], 1: [0x24, 0x25], 2: [0x24, 0x25]}.get(action) or len(values[0]) != 1:
+        return False
+    return values[0][0] in range(1, 9) and (action == 0 or time_of(values[1]) is not None)
+
+
+def follows(details, rest):
     """Whether these objects may follow a result 00, 01, 02 or 07."""
+    kind = details[1]
     tags = [t for t, _ in rest]
     values = [v for _, v in rest]
+    if kind == 0x27:
+        return timer_follows(details[2] % 4, tags, values)
     if kind == 0x40:
         if tags != [0x38, 0x35, 0x39] or number_of(values[0], False) is None or len(values[2]) != 2:
             return False
@@ -80,21 +99,23 @@ def fits(details, result, rest):
     if len(result) == 2:
         return code == 0x3A and result[1] in CAUSES.get(kind, []) and rest == []
     if code in (0x00, 0x01, 0x02, 0x07):
-        may = {0x00: SEVEN, 0x01: SEVEN, 0x02: [0x42], 0x07: [0x40]}[code]
-        return kind in may and follows(kind, rest)
+        may = {0x00: EIGHT, 0x01: EIGHT, 0x02: [0x42], 0x07: [0x40]}[code]
+        return kind in may and follows(details, rest)
     if rest:
         return False
+    if code == 0x24:
+        return kind == 0x27 and details[2] % 4 in (1, 2)
     if code == 0x30:
-        return kind in SEVEN
+        return kind in EIGHT
     if code == 0x31:
-        return kind not in SEVEN
+        return kind not in EIGHT
     if code == 0x32:
         return True
-    return code == 0x36 and (kind in SEVEN or details == b"\x00\x00\x00")
+    return code == 0x36 and (kind in EIGHT or details == b"\x00\x00\x00")
 
 
-def shown(value):
-    return value.hex().upper() or "--"
+def shown(tag, value):
+    return time_of(value) if tag == 0x25 else value.hex().upper() or "--"
 
 
 def heard(data):
@@ -106,7 +127,7 @@ def heard(data):
     rest = found[3:]
     if len(details) != 3 or devices != b"\x82\x81" or len(result) not in (1, 2) or not fits(details, result, rest):
         return "R8"
-    return " ".join(shown(v) for v in [details, result] + [v for _, v in rest])
+    return " ".join(shown(t, v) for t, v in found[:1] + found[2:])
 
 
 # Writing a record
@@ -195,8 +216,29 @@ def followers(kind):
         yield ()
 
 
+TIMES = ["000010", "000020", "000090", "000001", "000095", "001000", "009500", "100000", "900000", "010000", "910000",
+         "020000", "320000", "323595", "329595", "213454"]
+
+
+def timer_forms():
+    """Every form of a response to a timer command; the six high bits of the qualifier mean nothing."""
+    for high in (0x00, 0xFC):
+        for code in (0x00, 0x01):
+            for timer in (1, 8):
+                yield response([0x01, 0x27, high], [code], (0x24, [timer]))
+                for action in (1, 2):
+                    yield response([0x01, 0x27, high + action], [code], (0x24, [timer]), (0x25, b"\x00\x50\x00"))
+        for action in range(4):
+            for code in [0x30, 0x32, 0x36] + [0x24] * (action in (1, 2)):
+                yield response([0xFE, 0x27, high + action], [code])
+    for time in TIMES:
+        for action in (1, 2):
+            yield response([0x01, 0x27, action], [0x00], (0x24, [8]), (0x25, bytes.fromhex(time)))
+
+
 def forms():
     """Every form that the paper lists."""
+    yield from timer_forms()
     for kind in SEVEN:
         for code in [0x00, 0x01] + [0x02] * (kind == 0x42) + [0x07] * (kind == 0x40):
             for rest in followers(kind):
@@ -235,12 +277,44 @@ def long_tags(data):
         i += len(tlv(tag, value))
 
 
+def timer_sweeps():
+    """Every result and qualifier of a timer command, every timer, every byte of a time, and what else may not follow."""
+    one, time = (0x24, [0x01]), (0x25, b"\x00\x50\x00")
+    for action in range(4):
+        for code in range(256):
+            yield response([0x01, 0x27, action], [code])
+        for code in (0x02, 0x07, 0x24, 0x30, 0x31, 0x32, 0x36, 0x3A):
+            yield response([0x01, 0x27, action], [code], one)
+            yield response([0x01, 0x27, action], [code], one, time)
+        for rest in ((time,), (time, one), (one, one), (one, time, time), (one, time, one), (one, one, time),
+                     ((0xA4, [0x01]),), ((0xA4, [0x01]), time), (one, (0xA5, time[1])), (one, (0x26, time[1])),
+                     ((0x24, []),), ((0x24, []), time), ((0x24, [1, 1]),), ((0x24, [1, 1]), time), (one, (0x37, [0x01]))):
+            yield response([0x01, 0x27, action], [0x00], *rest)
+            yield response([0x01, 0x27, action], [0x24], *rest)
+        for n in (0, 1, 2, 4, 6):
+            yield response([0x01, 0x27, action], [0x00], one, (0x25, b"\x10" * n))
+        for timer in range(256):
+            yield response([0x01, 0x27, action], [0x00], (0x24, [timer]), *([time] if action else []))
+    for qualifier in range(256):
+        for code in (0x00, 0x01, 0x24, 0x31, 0x36):
+            yield response([0x01, 0x27, qualifier], [code], *((one,) if code < 0x02 else ()))
+        yield response([0x01, 0x27, qualifier], [0x00], one, time)
+    for byte in range(256):
+        for value in ([byte, 0, 0], [0, byte, 0], [0, 0, byte], [byte, 0x95, 0x95], [0x32, byte, 0x95], [0x32, 0x95, byte]):
+            yield response([0x01, 0x27, 0x02], [0x00], one, (0x25, value))
+    for kind in EIGHT:
+        yield response([0x01, kind, 0x01], [0x24])
+        yield response([0x01, kind, 0x01], [0x00], one)
+        yield response([0x01, kind, 0x01], [0x00], one, time)
+
+
 def sweeps():
     """Every result of some types, every cause, every type, every status, and grants about their bounds."""
+    yield from timer_sweeps()
     for kind in SEVEN + [0x00, 0x45]:
         for code in range(256):
             yield response([0x01, kind, 0x00], [code])
-    for kind in (0x02, 0x40, 0x41, 0x42, 0x43, 0x44):
+    for kind in (0x02, 0x27, 0x40, 0x41, 0x42, 0x43, 0x44):
         for cause in range(256):
             yield response([0x01, kind, 0x00], [0x3A, cause])
     for kind in range(256):
@@ -289,7 +363,7 @@ def odd_forms():
         yield response([0x01, 0x40, 0x00], [0x00], *rest)
     for rest in (((0x37, [0]), (0x36, b"A")), ((0x36, b"A"),), ((0x37, [0]),), ((0x36, b"A"), (0x37, [0]), (0x37, [0])), ((0xB6, b"A"), (0x37, [0]))):
         yield response([0x01, 0x42, 0x00], [0x00], *rest)
-    for kind in SEVEN:
+    for kind in EIGHT:
         for other in SEVEN:
             for rest in list(followers(other))[:1]:
                 yield response([0x01, kind, 0x00], [0x00], *rest)
@@ -320,6 +394,11 @@ def records():
         for destination in (0x82, 0x21):
             for body in bodies(kind):
                 yield bytes([0xB0, 0x01, kind, 0x00, 0x81, destination]) + body
+    for rest in (b"\x00", b"\x01", b"\x01\x00\x50\x00", b"\x24\x01\x01"):
+        for source, destination in ((0x81, 0x82), (0x82, 0x81)):
+            yield bytes([0xB0, 0x01, 0x27, 0x00, source, destination]) + rest
+    for qualifier in range(4):
+        yield bytes([0xB0, 0x01, 0x27, qualifier, 0x81, 0x82])
     for kind in SEVEN:
         fit = 0x82 if kind in TO_MODEM else 0x21
         for body in bodies(kind):
@@ -385,11 +464,66 @@ def others():
     yield b"B0" * 35000
 
 
+# Lines of timers with the answer, worked out by hand from the request.
+BY_HAND = [
+    (b"810301270082028281830100240101", "012700 00 01"),
+    (b"810301270082028281830101240108", "012700 01 08"),
+    (b"81037F27FC82028281830100240102", "7F27FC 00 02"),
+    (b"8103012702820282818301002401012503005000", "012702 00 01 000500"),
+    (b"8103012702820282818301002401012503004095", "012702 00 01 000459"),
+    (b"8103012701820282818301002401012503004095", "012701 00 01 000459"),
+    (b"8103012702820282818301012401032503323595", "012702 01 03 235359"),
+    (b"8103012702820282818301002401032503329595", "012702 00 03 235959"),
+    (b"8103012701820282818301002401082503000010", "012701 00 08 000001"),
+    (b"81030127FE820282818301002401082503910290", "0127FE 00 08 192009"),
+    (b"810301270182028281830124", "012701 24"),
+    (b"810301270282028281830124", "012702 24"),
+    (b"810301270082028281830124", "R8"),
+    (b"810301270382028281830124", "R8"),
+    (b"810301020082028281830124", "R8"),
+    (b"8103012701820282818301242401012503004095", "R8"),
+    (b"810301270082028281830130", "012700 30"),
+    (b"810301270382028281830130", "012703 30"),
+    (b"810301270282028281830131", "R8"),
+    (b"810301270382028281830132", "012703 32"),
+    (b"810301270382028281830136", "012703 36"),
+    (b"810301260382028281830136", "R8"),
+    (b"810301260382028281830131", "012603 31"),
+    (b"810301270382028281830100", "R8"),
+    (b"810301270382028281830100240101", "R8"),
+    (b"8103012703820282818301012401012503004095", "R8"),
+    (b"810301270082028281830100", "R8"),
+    (b"8103012700820282818301002401012503004095", "R8"),
+    (b"810301270182028281830100240101", "R8"),
+    (b"81030127018202828183010025030040952401" b"01", "R8"),
+    (b"810301270082028281830100A40101", "R8"),
+    (b"810301270282028281830100240101A503004095", "R8"),
+    (b"810301270082028281830100240100", "R8"),
+    (b"810301270082028281830100240109", "R8"),
+    (b"8103012702820282818301002401012503000000", "R8"),
+    (b"8103012702820282818301002401012503420000", "R8"),
+    (b"8103012702820282818301002401012503000600", "R8"),
+    (b"8103012702820282818301002401012503000006", "R8"),
+    (b"8103012702820282818301002401012503A00000", "R8"),
+    (b"81030127028202828183010024010125030A0000", "R8"),
+    (b"810301270282028281830102240101", "R8"),
+    (b"810301270082028281830107240101", "R8"),
+    (b"81030127008202828183023A01", "R8"),
+    (b"B00127008182", "R7"),
+    (b"B00127028182", "R7"),
+    (b"B00127008282", "R7"),
+    (b"B0012700818201", "R9"),
+    (b"B0012700818201005000", "R9"),
+]
+
+
 def check(accepted):
     """What the paper says by hand."""
     assert answer(b"81030140018202828183010038028100350103390205DC") == "014001 00 8100 03 05DC"
     assert answer(b"8103014200820282818301023603414243370100") == "014200 02 414243 00"
     assert answer(b"B00140018182030005DC021F90") == "D015810301400182028182B50103B90205DC3C03021F90"
+    for line, want in BY_HAND:
+        assert answer(line) == want, line
     assert all(heard(f) != "R8" for f in accepted) and len(set(accepted)) == len(accepted)
 
 
@@ -400,7 +534,8 @@ def played():
     responses = accepted + [c for f in accepted for c in changed(f)] + [c for f in accepted[::4] for c in long_tags(f)]
     responses += list(sweeps()) + list(odd_forms())
     orders = list(records())
-    lines = [d.hex().upper().encode() for d in responses + orders] + list(others())
+    lines = [line for line, _ in BY_HAND]
+    lines += [d.hex().upper().encode() for d in responses + orders] + list(others())
     lines.append(b"81030102008202828183010")
     lines.append(b"810301020082028281830100")
     answers = [answer(line) for line in lines]

@@ -17,6 +17,7 @@ BY_HAND = [
     (b"D009810301020082028182", "010200"),
     (b"d009810301020082028182", "010200"),
     (b"D0098103FE43FF82028121", "FE43FF"),
+    (b"D00C8103012701820281822401FF", "012701"),
     (b"D000", "000000"),
     (b"D0", "000000"),
     (b"00", "000000"),
@@ -79,6 +80,7 @@ def lines():
         text = script.whole()[0]
         yield from (line for line in text.split(b"\n") if len(line) <= LINE_CAP)
     for frame in (generate.more_time(), generate.send(3, b"ABC", q=0x7F), generate.open_(1500, generate.UDP),
+                  generate.start_timer(8, "329595", q=0x80),
                   generate.tagged(generate.basic(0x42, "21") + [(0x37, True, "09")], {0, 2})):
         yield from (data.hex().upper().encode() for data in cut_and_changed(frame))
 

@@ -11,8 +11,9 @@ import copy
 import itertools
 
 import oracle
-from generate import (BEARER2, BEARER3, OTHER, PROFILE_7, TCP, UDP, H, Rng, close, damage, data, det, dev, events, hx,
-                      meets, more_time, open_, padded_more_time, ramp, recv, send, status)
+from generate import (BEARER2, BEARER3, OTHER, PROFILE_7, TCP, TIMED_7, UDP, H, Rng, ask_timer, close, damage, data, det,
+                      dev, events, hx, meets, more_time, open_, padded_more_time, ramp, recv, send, start_timer, status,
+                      stop_timer, swapped)
 
 MORE_TIME = "D009" "8103010200" "82028182"
 DONE = "=8103010200" "82028281" "830100"
@@ -86,6 +87,13 @@ BY_HAND = [
     ("D009" "8103014400" "82028182", "..38028100 0"),
     ("D009" "8103014100" "82028121" "D009" "8103014400" "82028182", "=8103014100" "82028281" "830100 11"),
     ("D009" "8103014400" "82028182", "..38020000 0"),
+    # A timer, started by pieces, asked and stopped out of one burst.
+    ("D011" "8103012700" "82028182" "A40108" "A503", "-- 0"), ("3295", "-- 0"),
+    ("95AA", "=8103012700" "82028281" "830100" "240108 1"),
+    ("D00C" "8103012702" "82028182" "240108" "D00C" "8103012701" "82028182" "240108",
+     "=8103012702" "82028281" "830100" "240108" "2503329595 14"),
+    ("D00C" "8103012701" "82028182" "2401", "-- 0"), ("08", "=8103012701" "82028281" "830100" "240108" "2503329595 0"),
+    ("D00C" "8103012702" "82028182" "240108", "=8103012702" "82028281" "830124 0"),
 ]
 
 # Lines that are unreadable, as they stand there, and longer ones.
@@ -143,7 +151,7 @@ def cut(whole, places):
 class Delivery:
     """The lines for the program behind its profile, what they print, and the bytes that they hand over."""
     def __init__(self):
-        self.lines = [PROFILE_7.encode("ascii")]
+        self.lines = [TIMED_7.encode("ascii")]
         self.session, _ = oracle.start(self.lines[0])
         self.gathered = oracle.Gathered()
         self.printed = []
@@ -316,10 +324,18 @@ def channel_life(num):
     yield status()
 
 
+def timer_life(num):
+    """Commands that start a timer, ask and stop it, with a time that their answers show."""
+    yield start_timer(1 + num % 8, swapped(num % 24) + swapped(num) + swapped(59 - num))
+    yield ask_timer(1 + num % 8)
+    yield stop_timer(1 + num % 8)
+    yield stop_timer(1 + num % 8)
+
+
 def session_moves(s):
     """Commands that change the session, divided at many places: a byte lost or there twice would show."""
     for num in range(1, 40):
-        for whole in channel_life(num):
+        for whole in itertools.chain(channel_life(num), timer_life(num)):
             s.frame(whole, *sorted(1 + num * k % (len(whole) - 1) for k in (1, 5)))
     opening = open_(0x0155, bearer=BEARER2, num=0x77)
     for places in itertools.combinations(range(1, len(opening)), 2):
@@ -362,7 +378,9 @@ def some_frame(rng):
     bearer, transport = rng.pick([BEARER2, BEARER3]), rng.pick([TCP, TCP, UDP, UDP, OTHER])
     opening = open_(rng.between(1, 600), transport, q=q, bearer=bearer, num=num)
     return rng.pick([opening, opening, send(ch, few, q=q), send(ch, few, q=q), send(ch, many, q=q), recv(ch, num),
-                     close(ch), status(), more_time(num=num, q=q), events(rng.pick(["", "09", "090A", "0B"]))])
+                     close(ch), status(), more_time(num=num, q=q), events(rng.pick(["", "09", "090A", "0B"])),
+                     start_timer(ch, swapped(rng.below(24)) + swapped(rng.below(60)) + swapped(rng.below(60))),
+                     ask_timer(ch), stop_timer(ch)])
 
 
 def some_bytes(rng):
@@ -445,7 +463,7 @@ def whole_inputs():
 
 def byte_by_byte(taken):
     """The answers that bytes get in bursts of one byte each, by a session of its own."""
-    session, gathered = oracle.Session(H(PROFILE_7)), oracle.Gathered()
+    session, gathered = oracle.Session(H(TIMED_7)), oracle.Gathered()
     each = (gathered.fetch(session, bytes([byte]), oracle.RESPONSE_MAX) for byte in taken)
     return [oracle.printed(answer) for answer, _ in each if answer != b""]
 

@@ -1,9 +1,9 @@
 #!/usr/bin/env python3
-"""Writes what the gate plays, into crates/pomerassol: data/NAME.in and, of the lessons, NAME.out; the scripts,
-data/scripts/NAME.in; data/fetch.in, the lines of the tool of that name, and so on; its args, which are
-pairs of a tool and a file; its stdout, which is for each pair a line "== TOOL FILE" and the answers; and for readers
-notes/NAME.txt (one note for each line of a script that has one). With a folder behind it everything is written below
-that folder instead.
+"""Writes what the gate plays, into crates/pomerassol: data/NAME.in and, of the lessons, NAME.out; the scripts of the
+line program and of the tool calls, data/scripts/NAME.in; data/fetch.in, the lines of the tool of that name, and so on;
+its args, which are pairs of a tool and a file; its stdout, which is for each pair a line "== TOOL FILE" and the answers;
+and for readers notes/NAME.txt (one note for each line of a script that has one). With a folder behind it everything is
+written below that folder instead.
 
     python3 gate.py [FOLDER]
 """
@@ -14,6 +14,7 @@ import shutil
 import sys
 
 import bench
+import calls
 import csim
 import details
 import fetch
@@ -33,6 +34,7 @@ def write_file(root, name, content):
 def scripts():
     """The lessons and then the other scripts, each with the name of its file."""
     generate.make_all()
+    calls.make_all()
     names = [s.name for s in generate.ALL]
     assert len(names) == len(set(names)), "a name twice"
     for s in generate.ALL:
@@ -58,7 +60,7 @@ def main(root):
 
     for s, file in scripts():
         text, out = s.whole()
-        play("lines", file, text, out)
+        play(s.tool, file, text, out)
         s.write_notes(os.path.join(root, NOTES))
         if s.lesson:
             write_file(root, os.path.join("data", file + ".out"), out)

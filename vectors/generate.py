@@ -18,6 +18,8 @@ import oracle
 
 PROFILE = "00000800010C00000000001F82"          # the listing's: N = 4
 PROFILE_7 = "00000800010C00000000001FE2"        # N = 7
+TIMED = "00000800010C00030000001F82"            # the listing's with timers, which may be asked too
+TIMED_7 = "00000800010C00030000001FE2"          # N = 7
 
 
 # ---------------------------------------------------------------- building frames
@@ -96,6 +98,22 @@ def events(values, *extra):
     return cmd(0x05, obj(0x99, values), *extra)
 
 
+def timer(q, n, *extra):
+    return cmd(0x27, obj(0xA4, bytes([n])), *extra, q=q)
+
+
+def start_timer(n, time, *extra, q=0):
+    return timer(q, n, obj(0xA5, time), *extra)
+
+
+def stop_timer(n, *extra, q=1):
+    return timer(q, n, *extra)
+
+
+def ask_timer(n, *extra, q=2):
+    return timer(q, n, *extra)
+
+
 def arr(ch, data=b""):
     return bytes([0xA0, ch]) + data
 
@@ -167,6 +185,9 @@ ALL = []
 
 
 class Script:
+    tool = "lines"
+    line_of = staticmethod(oracle.run_line)
+
     def __init__(self, name, profile=PROFILE, final_line_feed=True, lesson=False):
         self.name = name
         self.lines = [profile.encode("latin-1")]
@@ -184,7 +205,7 @@ class Script:
             line_bytes = hx(line).encode("ascii")
         assert b"\n" not in line_bytes
         self.lines.append(line_bytes)
-        got = oracle.run_line(self.session, line_bytes)
+        got = self.line_of(self.session, line_bytes)
         self.printed.append(got)
         if want is not None and not meets(got, want):
             raise SystemExit("%s line %d (%s): %s\n got  %s\n want %s"
@@ -196,7 +217,7 @@ class Script:
 
     def whole(self):
         text = b"\n".join(self.lines) + (b"\n" if self.final else b"")
-        out = oracle.run(text)
+        out = oracle.run(text, self.line_of)
         assert out.decode("ascii").splitlines() == self.printed, self.name
         return text, out
 
@@ -905,6 +926,7 @@ def make_results():
 ONE_OF_EACH = [
     (0x02, lambda: more_time()),
     (0x05, lambda: events("09")),
+    (0x27, lambda: start_timer(1, "000010")),
     (0x40, lambda: open_(32)),
     (0x44, lambda: status()),
     (0x43, lambda: send(1, b"\x41")),
@@ -915,9 +937,9 @@ ONE_OF_EACH = [
 
 def make_results_profiles():
     # All but one type.
-    for without in (0x02, 0x05, 0x40, 0x41, 0x42, 0x43, 0x44):
-        p = bytearray(H(PROFILE))
-        byte, bit = {0x02: (3, 4), 0x05: (5, 1), 0x40: (12, 1), 0x41: (12, 2), 0x42: (12, 3),
+    for without in (0x02, 0x05, 0x27, 0x40, 0x41, 0x42, 0x43, 0x44):
+        p = bytearray(H(TIMED))
+        byte, bit = {0x02: (3, 4), 0x05: (5, 1), 0x27: (8, 1), 0x40: (12, 1), 0x41: (12, 2), 0x42: (12, 3),
                      0x43: (12, 4), 0x44: (12, 5)}[without]
         p[byte - 1] &= ~(1 << (bit - 1)) & 0xFF
         s = Script("results_without_%02X" % without, hx(bytes(p)))
@@ -934,9 +956,10 @@ def make_results_profiles():
         s.add(raw(without, b"\x05"), "32", "but after a fault of the walk")
 
     # Nothing allowed: a profile that has all the other bits set.
-    s = Script("results_nothing_allowed", "FFFFF7FFFEF3FFFFFFFFFFE01D")
+    s = Script("results_nothing_allowed", "FFFFF7FFFEF3FFFCFFFFFFE01D")
     for kind, make in ONE_OF_EACH:
         s.add(make(), "30")
+    s.add(ask_timer(1), "30")
     s.add(cmd(0x45), "31")
 
     # Only the types, no event, no bearer 02, no channel.
@@ -1201,10 +1224,11 @@ def make_sizes():
 # ---------------------------------------------------------------- cuts
 
 def make_cuts():
-    s = Script("cuts")
+    s = Script("cuts", TIMED)
     good = [
         (0x02, more_time()),
         (0x05, events("090A")),
+        (0x27, start_timer(1, "100000")),
         (0x40, open_(1500, TCP)),
         (0x41, close(1, obj(0x05, "4142"))),
         (0x42, recv(1, 5, obj(0x1E, "0001"))),
@@ -1221,6 +1245,7 @@ def make_cuts():
     ends = {
         0x02: {7: "36"},
         0x05: {7: "36", 11: "36"},
+        0x27: {7: "36", 11: "36", 14: "36"},
         0x40: {7: "36", 11: "36", 14: "36", 18: "00"},      # 18: without 3C, a good OPEN
         0x41: {7: "36", 11: "00"},                          # 11: without 05, a good CLOSE
         0x42: {7: "36", 11: "36", 14: "02"},                # 14: without 1E, a good RECEIVE
@@ -1257,17 +1282,15 @@ def make_cuts():
 
 # ---------------------------------------------------------------- types, identities, tags
 
-SEVEN = (0x02, 0x05, 0x40, 0x41, 0x42, 0x43, 0x44)
-
-
 def make_types():
-    s = Script("types")
+    s = Script("types", TIMED)
+    absent = {kind: "36" for kind in (0x05, 0x27, 0x40, 0x42, 0x43)}
     for kind in range(256):
-        want = {0x02: "00", 0x44: "00", 0x05: "36", 0x40: "36", 0x42: "36", 0x43: "36", 0x41: "32"}.get(kind, "31")
+        want = {0x02: "00", 0x44: "00", 0x41: "32", **absent}.get(kind, "31")
         s.add(cmd(kind), want)
     s.add(open_(32), "00")
     for kind in range(256):
-        want = {0x02: "32", 0x44: "32", 0x05: "36", 0x40: "36", 0x42: "36", 0x43: "36", 0x41: "00"}.get(kind, "31")
+        want = {0x02: "32", 0x44: "32", 0x41: "00", **absent}.get(kind, "31")
         s.add(cmd(kind, dst=0x21), want)
     s.add(status(), "..38020000")
 
@@ -1374,6 +1397,19 @@ def make_long_tags():
     in_all_forms(s, basic(0x44), "=810301440082028281830100" "38028100")
     in_all_forms(s, basic(0x41, "21") + NAMED, "=810301410082028281830100", (open_(32), "00"))
 
+    s = Script("long_tags_timers", TIMED)
+    start = basic(0x27) + [(0x24, True, "01"), (0x25, True, "005000")]
+    in_all_forms(s, start, "=810301270082028281830100" "240101")
+    in_all_forms(s, basic(0x27, q="02") + [(0x24, True, "01")], "=810301270282028281830100" "240101" "2503005000")
+    in_all_forms(s, basic(0x27, q="01") + [(0x24, True, "01")], "=810301270182028281830100" "240101" "2503005000",
+                 (tagged(start, {3}), "00"))
+    in_all_forms(s, basic(0x27, q="02") + [(0x24, True, "01"), (0x25, False, "FF")],
+                 "=810301270282028281830101" "240101" "2503005000")
+    in_all_forms(s, basic(0x27, q="02") + [(0x24, True, "01"), (0x25, True, "005000")], "32")
+    s.add(ask_timer(1, long_obj(0x125, "005000")), "01", "293 is not 25, and unexpected as well")
+    s.add(timer(0, 1, long_obj(0x125, "005000")), "36", "nor does it stand for it")
+    s.add(cmd(0x27, long_obj(0x124, "01"), q=2), "36", "292 is not 24")
+
     s = Script("long_tags_values")
     s.add(tagged(basic(0x40, q="01") + [(0x35, True, "02030405061F02"), (0x39, True, "0100"), (0x3C, False, "011F90")],
                  {2, 3, 4}), "=810301400182028281830100" "38028100" "350702030405061F02" "39020100",
@@ -1473,6 +1509,247 @@ def make_long_tags():
     s.add(more_time(H("0500" "7F8005")), "32")
     s.add(more_time(H("0500" "7F800500")), "32", "flagged and not expected")
     s.add(more_time(H("0500" "7F000500")), "01")
+
+
+# ---------------------------------------------------------------- timers, where no second passes
+
+FIVE_MINUTES = "005000"
+START_1 = (start_timer(1, FIVE_MINUTES), "=810301270082028281830100" "240101")
+ASKED_1 = "=810301270282028281830100" "240101" "2503005000"     # what is told of timer 1 then
+STOPPED_1 = "=810301270182028281830100" "240101" "2503005000"
+
+
+def told(n, time, q=2, result=0):
+    """The answer to a stop or an ask of a timer that runs."""
+    return "=810301%02X%02X" "82028281" "8301%02X" "2401%02X" "2503%s" % (0x27, q, result, n, time)
+
+
+def swapped(number):
+    """A number's two decimal digits, the last one first."""
+    return ("%02d" % number)[::-1]
+
+
+def make_timers_actions():
+    s = Script("timers_actions", TIMED)
+    s.add(ask_timer(1), "=810301270282028281830124", "none runs")
+    s.add(stop_timer(1), "=810301270182028281830124")
+    s.add(*START_1, "start")
+    s.add(ask_timer(1), ASKED_1, "ask")
+    s.add(ask_timer(1), ASKED_1, "asking changed nothing")
+    s.add(stop_timer(1), STOPPED_1, "stop")
+    s.add(stop_timer(1), "=810301270182028281830124", "it runs no more")
+    s.add(ask_timer(1), "=810301270282028281830124")
+    for q in range(0, 256, 4):
+        s.add(start_timer(1, FIVE_MINUTES, q=q), "=81030127%02X82028281830100" "240101" % q, "qualifier %02X" % q)
+        s.add(ask_timer(1, q=q + 2), told(1, FIVE_MINUTES, q + 2))
+        s.add(timer(q + 3, 1), "=81030127%02X82028281830132" % (q + 3), "value 3")
+        s.add(stop_timer(1, q=q + 1), told(1, FIVE_MINUTES, q + 1))
+        s.add(stop_timer(1, q=q + 1), "=81030127%02X82028281830124" % (q + 1))
+        s.add(ask_timer(1, q=q + 2), "=81030127%02X82028281830124" % (q + 2))
+    s.add(cmd(0x27, obj(0xA4, "01"), obj(0xA5, "005000"), num=0xFE), "=8103FE270082028281830100" "240101", "the number is echoed")
+    s.add(cmd(0x27, obj(0xA4, "01"), q=2, num=0), "=810300270282028281830100" "240101" "2503005000")
+
+
+def make_timers_objects():
+    s = Script("timers_objects", TIMED)
+    unk, unk_flagged = obj(0x5E, "AA"), obj(0xDE, "AA")
+    t24, t25, f25 = obj(0xA4, "01"), obj(0x25, FIVE_MINUTES), obj(0xA5, FIVE_MINUTES)
+    # the start's row
+    s.add(cmd(0x27, obj(0x24, "01"), t25), START_1[1], "24 and 25 unflagged")
+    s.add(raw(0x27, f25, t24, dev()), START_1[1], "in another order")
+    s.add(cmd(0x27, f25, t24), START_1[1])
+    s.add(raw(0x27), "36", "all absent")
+    s.add(raw(0x27, dev()), "36", "24 and 25 absent")
+    s.add(raw(0x27, t24, f25), "36", "02 absent")
+    s.add(cmd(0x27, f25), "36", "24 absent")
+    s.add(cmd(0x27, t24), "=810301270082028281830136", "25 absent at a start")
+    s.add(cmd(0x27, t24, unk), "36")
+    s.add(start_timer(1, FIVE_MINUTES, unk), "=810301270082028281830101" "240101", "an object ignored")
+    s.add(start_timer(1, FIVE_MINUTES, unk_flagged), "=810301270082028281830132")
+    for number in (0x04, 0x05, 0x19, 0x1E, 0x26, 0x35, 0x36, 0x37, 0x38, 0x39, 0x3C, 0x3E, 0x47):
+        s.add(start_timer(1, FIVE_MINUTES, obj(number, "41")), "01", "%02X has no place here" % number)
+        s.add(start_timer(1, FIVE_MINUTES, obj(number | 0x80, "41")), "32")
+    s.add(start_timer(2, FIVE_MINUTES, obj(0x24, "03")), "=810301270082028281830101" "240102", "a second 24: the first counts")
+    s.add(ask_timer(3), "24", "the second one started nothing")
+    s.add(start_timer(2, FIVE_MINUTES, obj(0x24)), "01", "a second 24 has no length rule")
+    s.add(start_timer(2, FIVE_MINUTES, obj(0xA4, "02")), "32", "a second 24, flagged")
+    s.add(start_timer(2, "100000", obj(0x25, "200000")), "=810301270082028281830101" "240102", "a second 25: the first counts")
+    s.add(ask_timer(2), told(2, "100000"))
+    s.add(start_timer(2, FIVE_MINUTES, obj(0x25, "FF")), "01", "a second 25 has neither length nor digits")
+    s.add(ask_timer(2), told(2, FIVE_MINUTES))
+    s.add(start_timer(2, "100000", obj(0xA5, FIVE_MINUTES)), "32", "a second 25, flagged")
+    s.add(ask_timer(2), told(2, FIVE_MINUTES), "32 started nothing")
+    s.add(start_timer(2, "FFFFFF", obj(0x25, FIVE_MINUTES)), "32", "the first 25 counts, and is none")
+    for number, value in ((0x01, "012700"), (0x02, "8182")):
+        s.add(start_timer(1, FIVE_MINUTES, obj(number, value)), "01", "a second %02X" % number)
+        s.add(start_timer(1, FIVE_MINUTES, obj(number | 0x80, value)), "32")
+    # lengths
+    for value in ("", "0101", "010101"):
+        for tag in (0x24, 0xA4):
+            s.add(cmd(0x27, obj(tag, value), f25), "32", "24 of length %d" % (len(value) // 2))
+            s.add(cmd(0x27, obj(tag, value), q=1), "32", "the same at a stop")
+            s.add(cmd(0x27, obj(tag, value), q=2), "32", "at an ask")
+            s.add(cmd(0x27, obj(tag, value), q=3), "32", "and with value 3")
+    for value in ("", "10", "1000", "00500000", "000000005000"):
+        s.add(cmd(0x27, t24, obj(0x25, value)), "32", "25 of length %d at a start" % (len(value) // 2))
+        s.add(cmd(0x27, t24, obj(0xA5, value)), "32")
+    # 25 where it is unexpected: neither its length nor its digits are looked at
+    for value in ("", "10", "FFFF", FIVE_MINUTES, "000000", "FFFFFF", "420000", "00500000", "FF" * 130):
+        s.add(ask_timer(1, obj(0x25, value)), told(1, FIVE_MINUTES, 2, 1), "an unflagged 25 at an ask: ignored")
+        s.add(ask_timer(1, obj(0xA5, value)), "=810301270282028281830132", "flagged")
+        s.add(stop_timer(1, obj(0xA5, value)), "=810301270182028281830132", "flagged at a stop: the timer runs on")
+        s.add(stop_timer(1, obj(0x25, value)), told(1, FIVE_MINUTES, 1, 1), "unflagged: ignored, and stopped")
+        s.add(stop_timer(1, obj(0x25, value)), "=810301270182028281830124", "24 hides 01")
+        s.add(timer(3, 1, obj(0x25, value)), "=810301270382028281830132", "value 3")
+        s.add(timer(3, 1, obj(0xA5, value)), "=810301270382028281830132")
+        s.add(*START_1)
+    s.add(ask_timer(1, t25, t25), told(1, FIVE_MINUTES, 2, 1), "two of them")
+    s.add(ask_timer(1, t25, f25), "32", "the second is flagged")
+    s.add(raw(0x27, t25, t24, dev(), q=2), told(1, FIVE_MINUTES, 2, 1), "before 24 and 02")
+    # the rows of stop, ask and value 3
+    for q in (1, 2, 3):
+        s.add(cmd(0x27, q=q), "=81030127%02X82028281830136" % q, "24 absent")
+        s.add(cmd(0x27, t25, q=q), "36", "a 25 does not stand for it")
+        s.add(cmd(0x27, f25, q=q), "32", "flagged: unexpected before absent")
+        s.add(raw(0x27, t24, q=q), "36", "02 absent")
+        s.add(cmd(0x27, t24, unk_flagged, q=q), "32")
+    s.add(ask_timer(1, unk), told(1, FIVE_MINUTES, 2, 1))
+    s.add(ask_timer(1, obj(0x24, "02")), told(1, FIVE_MINUTES, 2, 1), "a second 24: the first counts")
+    s.add(cmd(0x27, obj(0x24, "01"), q=2), ASKED_1, "24 unflagged")
+    # devices
+    for src in (0x80, 0x82, 0x21, 0x00):
+        s.add(cmd(0x27, t24, f25, src=src), "32", "source %02X" % src)
+        s.add(cmd(0x27, t24, q=2, src=src), "32")
+    for dst in (0x81, 0x83, 0x21, 0x27, 0x00):
+        s.add(cmd(0x27, t24, f25, dst=dst), "32", "destination %02X" % dst)
+        s.add(cmd(0x27, t24, q=1, dst=dst), "32")
+        s.add(cmd(0x27, t24, q=2, dst=dst), "32")
+    for value in ("", "81", "818282"):
+        s.add(raw(0x27, obj(0x82, value), t24, f25), "32", "02 of length %d" % (len(value) // 2))
+    s.add(stop_timer(1), STOPPED_1, "it ran all the time")
+    # 24 and 25 with the other types
+    for number in (0x24, 0x25):
+        s.add(more_time(obj(number)), "01", "%02X has no place with another type, and no length" % number)
+        s.add(more_time(obj(number | 0x80, "01")), "32")
+        s.add(status(obj(number, "01")), "01")
+        s.add(events("09", obj(number, "01")), "01")
+
+
+def make_timers_values():
+    s = Script("timers_values", TIMED)
+    for n in range(256):
+        good = 1 <= n <= 8
+        s.add(start_timer(n, "000010"), "=810301270082028281830100" "2401%02X" % n if good else "32", "timer %02X" % n)
+        s.add(stop_timer(n), told(n, "000010", 1) if good else "32")
+    for n in list(range(11)) + [0x10, 0x18, 0x80, 0x81, 0x88, 0xFF]:
+        good = 1 <= n <= 8
+        s.add(ask_timer(n), "24" if good else "32", "timer %02X: outside 1 to 8 it is 32, not 24" % n)
+        s.add(stop_timer(n), "24" if good else "32")
+        s.add(timer(3, n), "32", "value 3")
+    # each byte at each place; zero time is none
+    below_24, below_60 = [[swapped(number) for number in range(limit)] for limit in (24, 60)]
+    for byte in range(256):
+        two = "%02X" % byte
+        for time, good in ((two + "0000", below_24), ("00" + two + "00", below_60), ("0000" + two, below_60)):
+            runs = two in good and two != "00"
+            s.add(start_timer(4, time), "=810301270082028281830100" "240104" if runs else "32", "time %s" % time)
+            s.add(stop_timer(4), told(4, time, 1) if runs else "24")
+    for time, want in (("329595", "00"), ("323595", "00"), ("429595", "32"), ("320695", "32"), ("329506", "32"),
+                       ("000000", "32"), ("000010", "00"), ("001000", "00"), ("100000", "00"), ("A00010", "32"),
+                       ("0A0010", "32"), ("00A010", "32"), ("000A10", "32"), ("0000A0", "32"), ("00000A", "32"),
+                       ("995999", "32"), ("235959", "32"), ("900000", "00"), ("090000", "32"), ("FFFFFF", "32")):
+        s.add(start_timer(5, time), want, "time %s" % time)
+        s.add(stop_timer(5), told(5, time, 1) if want == "00" else "24")
+
+
+def make_timers_profile():
+    # bit 1 alone, bit 2 alone, both, neither; the other bits of byte 8 and the same bits elsewhere
+    for name, profile, others, asking in (("bit_1", "0000000000000001", True, False),
+                                          ("bit_2", "0000000000000002", False, True),
+                                          ("both", "0000000000000003", True, True),
+                                          ("neither", "FFFFFFFFFFFFFFFCFFFFFFFFFF", False, False),
+                                          ("seven_bytes", "FFFFFFFFFFFFFF", False, False),
+                                          ("blank", "", False, False)):
+        s = Script("timers_profile_" + name, profile)
+        s.add(start_timer(1, FIVE_MINUTES), START_1[1] if others else "=810301270082028281830130")
+        s.add(ask_timer(1), ("24" if not others else ASKED_1) if asking else "=810301270282028281830130")
+        s.add(timer(3, 1), "32" if others else "=810301270382028281830130")
+        s.add(timer(3, 9), "32" if others else "30")
+        s.add(cmd(0x27, q=3), "36" if others else "30", "value 3 without 24")
+        s.add(stop_timer(1), STOPPED_1 if others else "30")
+        s.add(stop_timer(1), "24" if others else "30")
+        for q in (4, 5, 7, 0xFC, 0xFD, 0xFF):
+            s.add(raw(0x27, q=q), "36" if others else "30", "qualifier %02X" % q)
+        for q in (6, 0xFE):
+            s.add(raw(0x27, q=q), "36" if asking else "30", "qualifier %02X" % q)
+
+
+def make_timers_order():
+    flagged, f25 = obj(0xDE, "AA"), obj(0xA5, FIVE_MINUTES)
+    s = Script("timers_order_forbidden", PROFILE)
+    for q in range(4):
+        s.add(raw(0x27, b"\x05", q=q), "32", "a fault of the walk before the profile")
+        s.add(timer(q, 9, flagged), "30", "the profile before the flagged one")
+        s.add(raw(0x27, q=q), "30", "and before what is absent")
+    s = Script("timers_order", TIMED)
+    s.add(raw(0x27, flagged), "32", "flagged before absent")
+    s.add(cmd(0x27, obj(0xA4, "0101")), "36", "absent 25 before the length of 24")
+    s.add(cmd(0x27, f25, src=0x82), "36", "absent before the source")
+    s.add(cmd(0x27, obj(0xA4, "01"), q=3, dst=0x21), "32", "the destination")
+    s.add(cmd(0x27, q=3), "36", "absent before value 3")
+    s.add(timer(3, 1), "32", "value 3")
+    s.add(timer(3, 9), "32")
+    s.add(stop_timer(9), "32", "the timer before whether it runs")
+    s.add(ask_timer(0), "32")
+    s.add(start_timer(9, "FFFFFF"), "32")
+    s.add(stop_timer(8), "24", "the last that may be")
+    s.add(start_timer(1, "FFFFFF", obj(0x5E)), "32", "32 hides 01")
+    s.add(stop_timer(1, obj(0x5E)), "24", "24 hides 01")
+    s.add(ask_timer(1, obj(0x5E)), "24")
+    s.add(cmd(0x27, obj(0xA4, "01"), q=1, dst=0x21), "32", "the destination before 24")
+
+
+def make_timers_kept():
+    s = Script("timers_kept", TIMED)
+    times = [swapped(n) + swapped(10 + n) + swapped(50 + n) for n in range(1, 9)]
+    assert times[0] == "101115" and times[7] == "808185"
+    for n in range(8, 0, -1):
+        s.add(start_timer(n, times[n - 1]), "=810301270082028281830100" "2401%02X" % n)
+    for n in range(1, 9):
+        s.add(ask_timer(n), told(n, times[n - 1]), "each has its own time")
+    s.add(start_timer(3, "329595"), "00", "started again while it runs")
+    s.add(ask_timer(3), told(3, "329595"), "the new time")
+    s.add(ask_timer(2), told(2, times[1]))
+    s.add(ask_timer(4), told(4, times[3]))
+    s.add(start_timer(3, "000000"), "32", "a start that is refused")
+    s.add(start_timer(3, "000006"), "32")
+    s.add(ask_timer(3), told(3, "329595"), "leaves it running")
+    s.add(stop_timer(4), told(4, times[3], 1))
+    s.add(ask_timer(4), "24")
+    s.add(ask_timer(5), told(5, times[4]), "the others run on")
+    # beside channels and events
+    s.add(open_(32), "..38028100" "350103" "39020020")
+    s.add(events("090A"), "00")
+    s.add(arr(1, H("4142")), "=D60E1901098202828138028100370102")
+    s.add(send(1, H("51")), "..37011F")
+    s.add(start_timer(4, "000010"), "00")
+    s.add(stop_timer(5), told(5, times[4], 1))
+    s.add(recv(1, 9), "..3602" "4142" "370100", "no channel was touched")
+    s.add(take(1, 9), "=51")
+    s.add(drop(1), "=D60B19010A8202828138020105")
+    s.add(status(), "..38020105")
+    s.add(close(1), "00")
+    s.add(status(), "..38020000")
+    s.add(events(""), "00")
+    s.add(more_time(), "00")
+    for n, time in ((1, times[0]), (2, times[1]), (3, "329595"), (4, "000010"), (6, times[5]), (7, times[6]), (8, times[7])):
+        s.add(ask_timer(n), told(n, time), "nor did a channel's call touch a timer")
+    s.add(ask_timer(5), "24")
+    s.add("A3", "R9", "the line program has no line for a second")
+    s.add("A30001", "R9")
+    s.add("A4", "R9", "nor for an envelope")
+    s.add("A40E", "R9")
+    s.add(ask_timer(4), told(4, "000010"), "none passed")
 
 
 # ---------------------------------------------------------------- unreadable
@@ -1580,6 +1857,8 @@ def make_unreadable():
 
 class Bare:
     """A file that need not begin with a good profile."""
+    tool = "lines"
+
     def __init__(self, name, text, want):
         self.name, self.text, self.want, self.lesson = name, text, want, False
         ALL.append(self)
@@ -2593,6 +2872,12 @@ def make_all():
     make_identities()
     make_tags()
     make_long_tags()
+    make_timers_actions()
+    make_timers_objects()
+    make_timers_values()
+    make_timers_profile()
+    make_timers_order()
+    make_timers_kept()
     make_unreadable()
     make_bare()
     make_mixed()

@@ -1,9 +1,10 @@
 #!/usr/bin/env python3
 """An independent oracle for the line program of document 01 ("Data channels: the rules").
 
-Written from the paper, from the requests M-104 ("Datagram channels") and M-109 ("Fetch bytes as
-they come off the line") and from the settled readings alone. It keeps plain Python bytes for each
-stream and way, and lists of them for datagrams; of the pool it keeps only the counts of cells.
+Written from the paper, from the requests M-102 ("Timers"), M-104 ("Datagram channels") and M-109
+("Fetch bytes as they come off the line") and from the settled readings alone. It keeps plain Python
+bytes for each stream and way, and lists of them for datagrams; of the pool it keeps only the counts
+of cells, and of a timer seconds alone.
 
     python3 oracle.py < script.in > script.out
 """
@@ -22,14 +23,19 @@ COMMAND_MAX = 256      # R2 above
 RESPONSE_MAX = 255     # bytes of a buffer for a response, R1 under
 LINE_MAX = 1600        # bytes of a line, R9 above
 TAKE_MAX = 1500        # R9 above
+ENVELOPE_SIZE = 14     # bytes of a timer's envelope, R1 under
 
-MORE_TIME, SET_UP_EVENT_LIST = 0x02, 0x05
+MORE_TIME, SET_UP_EVENT_LIST, TIMER = 0x02, 0x05, 0x27
 OPEN, CLOSE, RECEIVE, SEND, STATUS = 0x40, 0x41, 0x42, 0x43, 0x44
+
+# What the two low bits of a timer command's qualifier ask for; value 3 asks for nothing.
+START, STOP, ASK = 0, 1, 2
 
 # Type -> (required tag numbers, {tag number that may also stand: how often})
 TABLE = {
     MORE_TIME:         ([0x01, 0x02], {}),
     SET_UP_EVENT_LIST: ([0x01, 0x02, 0x19], {}),
+    TIMER:             ([0x01, 0x02, 0x24], {}),       # 25 too for a start
     OPEN:              ([0x01, 0x02, 0x35, 0x39],
                         {0x05: 1, 0x1E: 1, 0x3C: 1, 0x47: 1, 0x04: 2, 0x0D: 2, 0x3E: 2}),
     CLOSE:             ([0x01, 0x02], {0x05: 1, 0x1E: 1}),
@@ -42,12 +48,24 @@ TABLE = {
 PROFILE_PLACE = {
     MORE_TIME: (3, 4),
     SET_UP_EVENT_LIST: (5, 1),
+    TIMER: (8, 1),                                     # bit 2 for asking
     OPEN: (12, 1), CLOSE: (12, 2), RECEIVE: (12, 3), SEND: (12, 4), STATUS: (12, 5),
 }
 EVENT_PLACE = {0x09: (6, 3), 0x0A: (6, 4)}
 BEARER_02_PLACE = (13, 2)
 
-FIXED_LENGTH = {0x01: 3, 0x02: 2, 0x04: 2, 0x1E: 2, 0x37: 1, 0x39: 2, 0x3C: 3}
+FIXED_LENGTH = {0x01: 3, 0x02: 2, 0x04: 2, 0x1E: 2, 0x24: 1, 0x25: 3, 0x37: 1, 0x39: 2, 0x3C: 3}
+
+
+def row_of(kind, qualifier):
+    """The objects of a type; those of a timer command go by its qualifier."""
+    required, optional = TABLE[kind]
+    return (required + [0x25] if kind == TIMER and qualifier & 3 == START else required), optional
+
+
+def place_of(kind, qualifier):
+    """The profile place of a type; that of a timer command goes by its qualifier."""
+    return (8, 2) if kind == TIMER and qualifier & 3 == ASK else PROFILE_PLACE[kind]
 
 
 class Refusal(Exception):
@@ -127,6 +145,23 @@ def length_is_right(number, value):
             return len(value) == 1
         return True
     return True
+
+
+# ---------------------------------------------------------------- times
+
+def read_time(value):
+    """The seconds of three bytes of swapped digits, hours first, or None where they are no time of day."""
+    if any(byte & 15 > 9 or byte >> 4 > 9 for byte in value):
+        return None
+    hours, minutes, seconds = (10 * (byte & 15) + (byte >> 4) for byte in value)
+    if hours > 23 or minutes > 59 or seconds > 59:
+        return None
+    return 3600 * hours + 60 * minutes + seconds
+
+
+def write_time(seconds):
+    parts = seconds // 3600, seconds // 60 % 60, seconds % 60
+    return bytes(part // 10 | part % 10 << 4 for part in parts)
 
 
 # ---------------------------------------------------------------- the session
@@ -240,6 +275,7 @@ class Session:
         self.profile = profile
         self.channels = {}      # number -> Channel
         self.events = b""       # the event list
+        self.timers = {}        # number -> [seconds left, seconds it was started with]; it waits where none are left
 
     # -- profile
 
@@ -306,10 +342,10 @@ class Session:
         # Step 5.
         if kind not in TABLE:
             raise Answer(0x31)
-        if not self.allows(PROFILE_PLACE[kind]):
+        if not self.allows(place_of(kind, qualifier)):
             raise Answer(0x30)
         # Step 6.
-        required, optional = TABLE[kind]
+        required, optional = row_of(kind, qualifier)
         counting = {}                       # tag number -> list of values that count
         ignored = False
         for number, flag, value in objects:
@@ -348,6 +384,8 @@ class Session:
             return self.open(details, plain, qualifier, counting)
         if kind == STATUS:
             return self.response(details, plain, after=self.statuses())
+        if kind == TIMER:
+            return self.timer(details, plain, qualifier & 3, counting)
         channel = self.channels.get(destination - 0x20)
         if channel is None:
             raise Answer(0x3A, 0x03)
@@ -407,6 +445,25 @@ class Session:
         room = min(channel.room(), 0xFF)
         return self.response(details, plain, after=write_object(0x37, bytes([room])))
 
+    def timer(self, details, plain, action, counting):
+        number = counting[0x24][0][0]
+        if action not in (START, STOP, ASK):
+            raise Answer(0x32)
+        if not 1 <= number <= 8:
+            raise Answer(0x32)
+        if action == START:
+            seconds = read_time(counting[0x25][0])
+            if not seconds:                 # no time of day, or zero time
+                raise Answer(0x32)
+            self.timers[number] = [seconds, seconds]
+            return self.response(details, plain, after=write_object(0x24, bytes([number])))
+        left, _ = self.timers.get(number, [0, 0])
+        if left == 0:                       # not started, stopped, or waiting
+            raise Answer(0x24)
+        if action == STOP:
+            del self.timers[number]
+        return self.response(details, plain, after=timer_objects(number, left))
+
     def statuses(self):
         if not self.channels:
             return write_object(0x38, b"\x00\x00")
@@ -453,6 +510,28 @@ class Session:
         if 0x0A in self.events:
             return event(0x0A, write_object(0x38, channel.status()))
         return b""
+
+
+    # -- calls of the host's clock
+
+    def second(self):
+        for timer in self.timers.values():
+            timer[0] = max(timer[0] - 1, 0)
+
+    def envelope(self, buffer):
+        """The envelope of the lowest waiting timer, into a buffer of so many bytes."""
+        if buffer < ENVELOPE_SIZE:
+            raise Refusal(1)
+        waiting = [number for number, (left, _) in self.timers.items() if left == 0]
+        if not waiting:
+            raise Refusal(10)
+        number = min(waiting)
+        _, started = self.timers.pop(number)
+        return write_object(0xD7, write_object(0x82, b"\x82\x81") + timer_objects(number, started))
+
+
+def timer_objects(number, seconds):
+    return write_object(0x24, bytes([number])) + write_object(0x25, write_time(seconds))
 
 
 def event(number, after):
@@ -565,6 +644,23 @@ def run(raw, line_of=run_line):
     out = [] if first is None else [first]
     out += [line_of(session, line) for line in lines[1:]]
     return "".join(o + "\n" for o in out).encode("ascii")
+
+
+# ---------------------------------------------------------------- the tool calls
+
+def calls_line(session, line):
+    """What one later line prints: a second or more, an envelope, or what the line program's line prints."""
+    data = read_hex(line) or b""
+    if data[:1] == b"\xA3" and len(data) in (1, 3):
+        for _ in range(data[1] * 256 + data[2] if data[1:] else 1):
+            session.second()
+        return printed(b"")
+    if data[:1] == b"\xA4" and len(data) in (1, 2):
+        try:
+            return printed(session.envelope(data[1] if data[1:] else ENVELOPE_SIZE))
+        except Refusal as r:
+            return printed(r)
+    return run_line(session, line)
 
 
 # ---------------------------------------------------------------- the program fetch_lines
