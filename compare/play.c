@@ -1,14 +1,17 @@
-/* The line program of the paper over reference.c: a script on standard input, its answers on standard output. */
+/* The line program of the paper over reference.c: a script on standard input, its answers on standard output. With the word
+ * `calls` it is the tool of that name, which has lines for seconds and envelopes beside. */
 #include "reference.h"
 
 #include <stdbool.h>
 #include <stdio.h>
+#include <string.h>
 
-enum { FRAME_CAP = 1600, TAKE_CAP = 1500 };
-enum { COMMAND = 0xD0, ARRIVAL = 0xA0, TAKE = 0xA1, DROP = 0xA2 };
+enum { FRAME_CAP = 1600, TAKE_CAP = 1500, ENVELOPE_SIZE = 14 };
+enum { COMMAND = 0xD0, ARRIVAL = 0xA0, TAKE = 0xA1, DROP = 0xA2, SECOND = 0xA3, ENVELOPE = 0xA4 };
 enum { R9 = REFERENCE_REFUSED + 9 };
 
 static reference_session session;
+static bool calls; /* whether seconds and envelopes have lines */
 
 /* The line at hand. */
 static uint8_t frame[FRAME_CAP];
@@ -68,6 +71,14 @@ static uint32_t take(const uint8_t *f, uint8_t *out)
     return reference_take(&session, f[1], out, count);
 }
 
+/* A3: one second, or as many as two bytes count. */
+static uint32_t seconds(const uint8_t *f, size_t n)
+{
+    for (uint32_t left = n == 1 ? 1 : (uint32_t)(f[1] << 8 | f[2]); left > 0; left--)
+        reference_second(&session);
+    return 0;
+}
+
 /* The call that the line at hand asks for. */
 static uint32_t perform(uint8_t *out)
 {
@@ -83,6 +94,10 @@ static uint32_t perform(uint8_t *out)
         return take(f, out);
     if (f[0] == DROP && n == 2)
         return reference_drop(&session, f[1], out, TAKE_CAP);
+    if (calls && f[0] == SECOND && (n == 1 || n == 3))
+        return seconds(f, n);
+    if (calls && f[0] == ENVELOPE && n <= 2)
+        return reference_envelope(&session, out, n == 1 ? ENVELOPE_SIZE : f[1]);
     return R9;
 }
 
@@ -106,9 +121,10 @@ static void begin(void)
     reference_start(&session, frame, readable() ? digits / 2 : 0);
 }
 
-int main(void)
+int main(int argc, char **argv)
 {
     uint8_t out[TAKE_CAP];
+    calls = argc > 1 && strcmp(argv[1], "calls") == 0;
     if (read_line())
         begin();
     while (read_line())

@@ -1,7 +1,7 @@
 #!/usr/bin/env python3
-"""Holds reference.c to vectors/oracle.py: plays every script of the gate and twenty seeded histories
-through both, and compares each line of the answers. The words are the command of the player, which
-is play.c compiled with reference.c.
+"""Holds reference.c to vectors/oracle.py: plays every script of the gate, those of the tool calls too,
+and thirty seeded histories through both, and compares each line of the answers. The words are the
+command of the player, which is play.c compiled with reference.c.
 
     python3 compare/play.py target/compare/play
 """
@@ -15,6 +15,7 @@ PROGRAM = os.path.join(ROOT, "crates", "pomerassol")
 sys.dont_write_bytecode = True
 sys.path.insert(0, os.path.join(ROOT, "vectors"))
 
+import calls
 import generate
 import oracle
 
@@ -22,23 +23,29 @@ LINES = 5000        # of a history
 BYTES = 400000      # that go in and out of a history of streams, about
 
 
+# The tools that are played, with what a line of each prints by the oracle.
+LINE_OF = {"lines": oracle.run_line, "calls": oracle.calls_line}
+
+
 def scripts():
-    """Each script of the line program that the gate plays: its file and its bytes."""
+    """Each script that the gate plays by one of the tools: the tool, the script's file and its bytes."""
     with open(os.path.join(PROGRAM, "args")) as f:
         words = f.read().split()
     for tool, name in zip(words[::2], words[1::2]):
-        if tool == "lines":
+        if tool in LINE_OF:
             with open(os.path.join(PROGRAM, "data", name), "rb") as f:
-                yield name, f.read()
+                yield tool, name, f.read()
 
 
 def histories():
-    """Seeded histories of streams and of both kinds, of four channels and of seven in turn: the name and the bytes of each."""
+    """Seeded histories of streams, of both kinds and of timers, of four channels and of seven in turn: the tool, the name
+    and the bytes of each."""
     for seed in range(1, 11):
-        profile = generate.PROFILE_7 if seed % 2 else generate.PROFILE
+        profile = generate.TIMED_7 if seed % 2 else generate.TIMED
         for script in (generate.history("seed %d of streams" % seed, profile, seed, LINES, BYTES),
-                       generate.both_kinds("seed %d of both kinds" % seed, profile, seed, LINES)):
-            yield script.name, b"\n".join(script.lines) + b"\n"
+                       generate.both_kinds("seed %d of both kinds" % seed, profile, seed, LINES),
+                       calls.history("seed %d of timers" % seed, profile, seed, LINES)):
+            yield script.tool, script.name, b"\n".join(script.lines) + b"\n"
 
 
 def shown(lines, at):
@@ -61,12 +68,12 @@ def differ(name, text, asked, got):
     sys.exit(1)
 
 
-def hold(player, name, text):
+def hold(player, tool, name, text):
     """Plays one script on both sides; the count of its answers."""
-    done = subprocess.run(player, input=text, stdout=subprocess.PIPE)
+    done = subprocess.run([*player, tool], input=text, stdout=subprocess.PIPE)
     if done.returncode != 0:
         sys.exit("%s: the player ended with status %d" % (name, done.returncode))
-    asked = oracle.run(text)
+    asked = oracle.run(text, LINE_OF[tool])
     if done.stdout != asked:
         differ(name, text, asked, done.stdout)
     return asked.count(b"\n")
@@ -75,8 +82,8 @@ def hold(player, name, text):
 def main():
     if not sys.argv[1:]:
         sys.exit("usage: python3 compare/play.py PLAYER")
-    played = [hold(sys.argv[1:], name, text) for name, text in scripts()]
-    made = [hold(sys.argv[1:], name, text) for name, text in histories()]
+    played = [hold(sys.argv[1:], *script) for script in scripts()]
+    made = [hold(sys.argv[1:], *history) for history in histories()]
     print("%d scripts with %d answers and %d histories with %d: the reference answers as the oracle does"
           % (len(played), sum(played), len(made), sum(made)))
 

@@ -1,5 +1,5 @@
-/* The modem of "Data channels: the rules", section by section, with the datagram channels of request M-104 and the fetch
- * of M-109. */
+/* The modem of "Data channels: the rules", section by section, with the timers of request M-102, the datagram channels of
+ * M-104 and the fetch of M-109. */
 #include "reference.h"
 
 #include <stdbool.h>
@@ -7,19 +7,20 @@
 
 /* A planted fault: 1 the count left by its low byte, 2 arrivals cut to the room, 3 the highest unused number,
  * 4 RECEIVE DATA past the end of a datagram, 5 a take of two datagrams, 6 event 09 at every arrival, 7 the number of a long
- * tag by its low byte, 8 a byte lost between bursts, 9 the bytes left of a burst off by one. */
+ * tag by its low byte, 8 the highest waiting timer first, 9 a stop that clears the mark of a waiting timer, 10 a byte lost
+ * between bursts, 11 the bytes left of a burst off by one. */
 #ifndef FAULT
 #define FAULT 0
 #endif
 
 enum { CELLS = 256, CELL = 32, GRANT_CAP = 1500, DATA_CAP = 237 };
-enum { COMMAND_CAP = REFERENCE_COMMAND, RESPONSE_SPACE = 255, EVENT_SPACE = 16 };
+enum { COMMAND_CAP = REFERENCE_COMMAND, RESPONSE_SPACE = 255, EVENT_SPACE = 16, ENVELOPE_SPACE = 14 };
 enum { EVENT_ARRIVAL = 0x09, EVENT_DROP = 0x0A };
 enum { BEARER_02 = 0x02, BEARER_03 = 0x03, UDP = 0x01, TCP = 0x02, IMMEDIATELY = 0x01 };
 enum { CARD = 0x81, TERMINAL = 0x82, FIRST_CHANNEL = 0x21, LAST_CHANNEL = 0x27 };
 
 /* The refusals. */
-enum { R1 = REFERENCE_REFUSED + 1, R2, R3, R4, R5, R6, R11 = REFERENCE_REFUSED + 11, R12 };
+enum { R1 = REFERENCE_REFUSED + 1, R2, R3, R4, R5, R6, R10 = REFERENCE_REFUSED + 10, R11, R12 };
 
 /* The results. */
 enum {
@@ -27,6 +28,7 @@ enum {
     PARTLY_READ = 0x01,
     FEWER = 0x02,
     LESS_GRANTED = 0x07,
+    NOT_RUNNING = 0x24,
     BEYOND = 0x30,
     UNKNOWN_TYPE = 0x31,
     BAD_DATA = 0x32,
@@ -37,8 +39,11 @@ enum {
 /* The causes of result 3A. */
 enum { NO_CHANNEL = 1, LINK_DROPPED = 2, UNOPENED = 3, NO_ROOM = 4, NO_TRANSPORT = 6 };
 
-/* The seven types. */
-enum { MORE_TIME = 0x02, EVENT_LIST = 0x05, OPEN = 0x40, CLOSE, RECEIVE, SEND, STATUS };
+/* The eight types. */
+enum { MORE_TIME = 0x02, EVENT_LIST = 0x05, TIMER = 0x27, OPEN = 0x40, CLOSE, RECEIVE, SEND, STATUS };
+
+/* What a timer command asks for, by the two low bits of its qualifier. */
+enum { START, STOP, ASK, NONE, ACTIONS };
 
 /* A place for each tag number that some command may carry. */
 enum {
@@ -50,6 +55,8 @@ enum {
     P_0D,
     P_19,
     P_1E,
+    P_24,
+    P_25,
     P_35,
     P_36,
     P_37,
@@ -65,29 +72,37 @@ enum {
 /* The place of each tag number. */
 static const uint8_t place_of[128] = {
     [0x01] = P_01, [0x02] = P_02, [0x04] = P_04, [0x05] = P_05, [0x0D] = P_0D, [0x19] = P_19, [0x1E] = P_1E,
-    [0x35] = P_35, [0x36] = P_36, [0x37] = P_37, [0x39] = P_39, [0x3C] = P_3C, [0x3E] = P_3E, [0x47] = P_47,
+    [0x24] = P_24, [0x25] = P_25, [0x35] = P_35, [0x36] = P_36, [0x37] = P_37, [0x39] = P_39, [0x3C] = P_3C, [0x3E] = P_3E,
+    [0x47] = P_47,
 };
 
 /* The length that each object must have; 0 where it may have any (35 has a rule of its own). */
 static const uint8_t length_of[PLACES] = {
-    [P_01] = 3, [P_02] = 2, [P_04] = 2, [P_1E] = 2, [P_37] = 1, [P_39] = 2, [P_3C] = 3,
+    [P_01] = 3, [P_02] = 2, [P_04] = 2, [P_1E] = 2, [P_24] = 1, [P_25] = 3, [P_37] = 1, [P_39] = 2, [P_3C] = 3,
 };
 
 /* What a type needs: its place in the profile, and the objects it carries. */
 typedef struct {
     uint8_t byte, bit;  /* both numbered from 1 */
-    uint16_t required;
-    uint16_t may;       /* the required ones too */
-    uint16_t twice;
+    uint32_t required;
+    uint32_t may;       /* the required ones too */
+    uint32_t twice;
 } rule;
 
 #define ALWAYS (B(P_01) | B(P_02))
 #define SHOWN (B(P_05) | B(P_1E))
 #define TWICE (B(P_04) | B(P_0D) | B(P_3E))
 #define OPENING (ALWAYS | B(P_35) | B(P_39))
+#define TIMED (ALWAYS | B(P_24))
 
 static const rule rule_more_time = {3, 4, ALWAYS, ALWAYS, 0};
 static const rule rule_event_list = {5, 1, ALWAYS | B(P_19), ALWAYS | B(P_19), 0};
+static const rule rule_timer[ACTIONS] = {
+    {8, 1, TIMED | B(P_25), TIMED | B(P_25), 0},
+    {8, 1, TIMED, TIMED, 0},
+    {8, 2, TIMED, TIMED, 0},
+    {8, 1, TIMED, TIMED, 0},
+};
 static const rule rule_channel[5] = {
     {12, 1, OPENING, OPENING | SHOWN | B(P_3C) | B(P_47) | TWICE, TWICE},
     {12, 2, ALWAYS, ALWAYS | SHOWN, 0},
@@ -262,6 +277,7 @@ void reference_start(reference_session *s, const uint8_t *profile, size_t n)
         s->profile[i] = i < n ? profile[i] : 0;
     s->listed = 0;
     s->promised = 0;
+    memset(s->timer, 0, sizeof s->timer);
     for (size_t i = 0; i < REFERENCE_CHANNELS; i++)
         s->channel[i].link = REFERENCE_UNOPENED;
 }
@@ -356,6 +372,32 @@ static uint8_t *write_data_head(uint8_t *at, uint32_t n)
     return at;
 }
 
+/* Object 24: a timer. */
+static uint8_t *write_timer(uint8_t *at, uint32_t number)
+{
+    at[0] = 0x24;
+    at[1] = 0x01;
+    at[2] = (uint8_t)number;
+    return at + 3;
+}
+
+/* The two decimal digits of a number, the last one first. */
+static uint8_t swapped(uint32_t number)
+{
+    return (uint8_t)(number / 10 | number % 10 << 4);
+}
+
+/* Object 25: a time. */
+static uint8_t *write_time(uint8_t *at, uint32_t seconds)
+{
+    at[0] = 0x25;
+    at[1] = 0x03;
+    at[2] = swapped(seconds / 3600);
+    at[3] = swapped(seconds / 60 % 60);
+    at[4] = swapped(seconds % 60);
+    return at + 5;
+}
+
 /* The result where nothing was cut: 01 if an unexpected object was ignored, else 00. */
 static uint8_t whole(const asked *a)
 {
@@ -423,13 +465,22 @@ static const uint8_t *open_frame(const uint8_t *command, const uint8_t *end)
     return objects;
 }
 
-/* The rule of a type. */
-static const rule *rule_of(uint8_t type)
+/* What the qualifier of a timer command asks for. */
+static uint8_t action_of(const uint8_t *details)
 {
+    return details[2] & 3;
+}
+
+/* The rule of a type, and of a timer command by its qualifier. */
+static const rule *rule_of(const uint8_t *details)
+{
+    uint8_t type = details[1];
     if (type == MORE_TIME)
         return &rule_more_time;
     if (type == EVENT_LIST)
         return &rule_event_list;
+    if (type == TIMER)
+        return &rule_timer[action_of(details)];
     if (type >= OPEN && type <= STATUS)
         return &rule_channel[type - OPEN];
     return &rule_other;
@@ -722,6 +773,53 @@ static uint32_t channel_status(const reference_session *s, const asked *a, uint8
     return (uint32_t)(at - out);
 }
 
+/* The number in a byte of swapped digits; one over all bounds where a digit is over 9. */
+static uint32_t number_in(uint8_t byte)
+{
+    uint32_t tens = byte & 15, ones = byte >> 4;
+    return tens > 9 || ones > 9 ? 100 : 10 * tens + ones;
+}
+
+/* The seconds of a time in swapped digits, or 0 where it is none. */
+static uint32_t seconds_in(const uint8_t *time)
+{
+    uint32_t hours = number_in(time[0]), minutes = number_in(time[1]), seconds = number_in(time[2]);
+    return hours > 23 || minutes > 59 || seconds > 59 ? 0 : 3600 * hours + 60 * minutes + seconds;
+}
+
+/* 27, start: the timer runs with that time, whatever it did. */
+static uint32_t start_timer(reference_timer *t, uint32_t number, const asked *a, uint8_t *out)
+{
+    uint32_t seconds = seconds_in(a->at[P_25].value);
+    if (seconds == 0)
+        return answer(out, a->details, BAD_DATA);
+    t->left = t->started = seconds;
+    return (uint32_t)(write_timer(write_result(out, a->details, whole(a)), number) - out);
+}
+
+/* 27, stop and ask: the time left of a timer that runs; with a stop it runs no more. */
+static uint32_t tell_timer(reference_timer *t, uint32_t number, const asked *a, uint8_t *out)
+{
+    uint32_t left = t->left;
+    bool stop = action_of(a->details) == STOP;
+    if (stop && (left != 0 || FAULT == 9))
+        t->left = t->started = 0;
+    if (left == 0)
+        return answer(out, a->details, NOT_RUNNING);
+    return (uint32_t)(write_time(write_timer(write_result(out, a->details, whole(a)), number), left) - out);
+}
+
+/* 27: value 3, the timer, then what is asked for. */
+static uint32_t timer_management(reference_session *s, const asked *a, uint8_t *out)
+{
+    uint32_t number = a->at[P_24].value[0];
+    uint8_t action = action_of(a->details);
+    if (action == NONE || number < 1 || number > REFERENCE_TIMERS)
+        return answer(out, a->details, BAD_DATA);
+    reference_timer *t = &s->timer[number - 1];
+    return action == START ? start_timer(t, number, a, out) : tell_timer(t, number, a, out);
+}
+
 /* 41, 42 and 43: an unopened channel is 3A 03. */
 static uint32_t on_channel(reference_session *s, const asked *a, uint8_t *out)
 {
@@ -743,6 +841,8 @@ static uint32_t own(reference_session *s, const asked *a, uint8_t *out)
         return answer(out, a->details, whole(a));
     case EVENT_LIST:
         return set_event_list(s, a, out);
+    case TIMER:
+        return timer_management(s, a, out);
     case OPEN:
         return open_channel(s, a, out);
     case STATUS:
@@ -765,7 +865,7 @@ static uint32_t read_objects(reference_session *s, const uint8_t *at, const uint
     if (first.number != 0x01 || first.length != 3)
         return answer(out, no_details, VALUES_MISSING);
     a.details = first.value;
-    a.rule = rule_of(first.value[1]);
+    a.rule = rule_of(first.value);
     a.once = B(P_01);
     a.again = 0;
     a.flagged = a.ignored = a.misfit = false;
@@ -889,6 +989,46 @@ uint32_t reference_drop(reference_session *s, uint8_t channel, uint8_t *out, siz
     return (uint32_t)(write_event(out, 0x0B, EVENT_DROP, c, channel) - out);
 }
 
+/* ---- Calls of the clock ---- */
+
+/* Every timer that runs loses a second; one without any left waits. */
+void reference_second(reference_session *s)
+{
+    for (size_t i = 0; i < REFERENCE_TIMERS; i++)
+        if (s->timer[i].left != 0)
+            s->timer[i].left--;
+}
+
+/* The lowest timer that waits, or 0. */
+static uint32_t lowest_waiting(const reference_session *s)
+{
+    uint32_t found = 0;
+    for (uint32_t number = 1; number <= REFERENCE_TIMERS; number++) {
+        const reference_timer *t = &s->timer[number - 1];
+        if (t->left == 0 && t->started != 0 && (found == 0 || FAULT == 8))
+            found = number;
+    }
+    return found;
+}
+
+/* The envelope of the lowest timer that waits, with the time it was started with; its mark is cleared. */
+uint32_t reference_envelope(reference_session *s, uint8_t *out, size_t size)
+{
+    static const uint8_t head[6] = {0xD7, 0x0C, 0x82, 0x02, TERMINAL, CARD};
+    if (size < ENVELOPE_SPACE)
+        return R1;
+    uint32_t number = lowest_waiting(s);
+    if (number == 0)
+        return R10;
+    reference_timer *t = &s->timer[number - 1];
+    memcpy(out, head, sizeof head);
+    uint8_t *at = write_time(write_timer(out + sizeof head, number), t->started);
+    t->started = 0;
+    return (uint32_t)(at - out);
+}
+
+/* ---- What is at hand ---- */
+
 /* What command is at hand: the details in the first object; 0 where the frame or that object is none. */
 uint32_t reference_details(const uint8_t *command, size_t n)
 {
@@ -960,11 +1100,11 @@ uint64_t reference_fetch(reference_session *s, reference_gathered *g, const uint
 {
     if (size < RESPONSE_SPACE)
         return with_left(n, R1);
-    for (size_t i = FAULT == 8 && g->count != 0 ? 1 : 0; i < n; i++) {
+    for (size_t i = FAULT == 10 && g->count != 0 ? 1 : 0; i < n; i++) {
         g->bytes[g->count++] = bytes[i];
         standing found = stands(g);
         if (found != UNFINISHED)
-            return with_left(n - i - (FAULT == 9 ? 0 : 1), give_up(s, g, found, out, size));
+            return with_left(n - i - (FAULT == 11 ? 0 : 1), give_up(s, g, found, out, size));
     }
     return with_left(0, 0);
 }

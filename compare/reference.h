@@ -1,5 +1,5 @@
-/* The modem of "Data channels: the rules" with datagram channels (request M-104) and the fetch (M-109), written a second
- * time straight from the paper. */
+/* The modem of "Data channels: the rules" with timers (request M-102), datagram channels (M-104) and the fetch (M-109),
+ * written a second time straight from the paper. */
 #ifndef REFERENCE_H
 #define REFERENCE_H
 
@@ -8,6 +8,7 @@
 
 enum {
     REFERENCE_CHANNELS = 7,       /* channel numbers 1 to 7 */
+    REFERENCE_TIMERS = 8,         /* timer numbers 1 to 8 */
     REFERENCE_PROFILE = 13,       /* profile bytes that are looked at */
     REFERENCE_RING = 2048,        /* bytes of a queue: a power of two above the largest grant */
     REFERENCE_DATAGRAMS = 16,     /* datagrams held each way at most */
@@ -46,11 +47,19 @@ typedef struct {
     reference_queue send;
 } reference_channel;
 
-/* One session; channel number 1 stands first. */
+/* One timer: the seconds left, and those it was started with. It waits where only the first are 0, and neither runs nor
+ * waits where both are. */
+typedef struct {
+    uint32_t left;
+    uint32_t started;
+} reference_timer;
+
+/* One session; channel number 1 and timer number 1 stand first. */
 typedef struct {
     uint8_t profile[REFERENCE_PROFILE];
     uint8_t listed;    /* events: bit 0 for 09, bit 1 for 0A */
     uint32_t promised; /* cells of the pool promised to the open channels */
+    reference_timer timer[REFERENCE_TIMERS];
     reference_channel channel[REFERENCE_CHANNELS];
 } reference_session;
 
@@ -66,6 +75,10 @@ uint32_t reference_command(reference_session *s, const uint8_t *command, size_t 
 uint32_t reference_arrival(reference_session *s, uint8_t channel, const uint8_t *bytes, size_t n, uint8_t *out, size_t size);
 uint32_t reference_take(reference_session *s, uint8_t channel, uint8_t *out, size_t size);
 uint32_t reference_drop(reference_session *s, uint8_t channel, uint8_t *out, size_t size);
+
+/* A second passes; and the envelope of the lowest timer that waits. */
+void reference_second(reference_session *s);
+uint32_t reference_envelope(reference_session *s, uint8_t *out, size_t size);
 
 /* What command is at hand: number, type and qualifier in one number, or REFERENCE_REFUSED plus 2. */
 uint32_t reference_details(const uint8_t *command, size_t n);

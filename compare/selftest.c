@@ -1,4 +1,5 @@
-/* Holds reference.c to the listing and the twelve numbers of the paper, written down by hand. */
+/* Holds reference.c to the listing and the twelve numbers of the paper and to the examples of request M-102, written down
+ * by hand. */
 #include "reference.h"
 
 #include <stdio.h>
@@ -96,9 +97,18 @@ static const char *counted(char *to, const char *beginning, unsigned from, unsig
     return to;
 }
 
+/* An envelope into a buffer of so many bytes, and its line. */
+static void envelope(size_t size, const char *line)
+{
+    uint8_t out[SPACE];
+    memset(out, 0x5A, SPACE);
+    hold("envelope", reference_envelope(&session, out, size), out, line);
+}
+
 static char one[8192], two[8192];
 
 #define FULL "00000800010C00000000001F82"
+#define TIMERS "0000000000000003"
 #define OPEN_1500 "D015810301400182028182350103390205DC3C03021F90"
 #define OPENED_1500 "81030140018202828183010038028100350103390205DC"
 #define LIST_09 "D00C810301050082028182190109"
@@ -163,6 +173,43 @@ static void numbers_11_and_12(void)
     says("D00C810301020082028182850141", "810301020082028281830132");
 }
 
+/* The examples of M-102: a timer that is asked and stopped. */
+static void one_timer(void)
+{
+    start("a timer", TIMERS);
+    says("D0118103012700820281822401012503005000", "810301270082028281830100240101");
+    says("D00C810301270282028182240101", "8103012702820282818301002401012503005000");
+    reference_second(&session);
+    says("D00C810301270282028182240101", "8103012702820282818301002401012503004095");
+    says("D00C810301270182028182A40101", "8103012701820282818301002401012503004095");
+    says("D00C810301270182028182A40101", "810301270182028281830124");
+}
+
+/* Two timers that come to zero in one second. */
+static void two_timers(void)
+{
+    start("two timers", TIMERS);
+    says("D0118103012700820281822401082503000010", "810301270082028281830100240108");
+    says("D0118103012700820281822401022503000010", "810301270082028281830100240102");
+    reference_second(&session);
+    envelope(13, "R1");
+    envelope(14, "D70C820282812401022503000010");
+    envelope(14, "D70C820282812401082503000010");
+    envelope(14, "R10");
+}
+
+/* Object 25 where it is unexpected and where it is absent, and value 3. */
+static void timer_objects(void)
+{
+    start("a timer's objects", TIMERS);
+    says("D0118103012700820281822401032503323595", "810301270082028281830100240103");
+    says("D0118103012702820281822401032503FFFFFF", "8103012702820282818301012401032503323595");
+    says("D011810301270282028182240103A503FFFFFF", "810301270282028281830132");
+    says("D00C810301270082028182240103", "810301270082028281830136");
+    says("D009810301270382028182", "810301270382028281830136");
+    says("D00C810301270382028182240103", "810301270382028281830132");
+}
+
 /* Runs every part and counts what is wrong. */
 int main(void)
 {
@@ -171,6 +218,9 @@ int main(void)
     number_8();
     numbers_9_and_10();
     numbers_11_and_12();
+    one_timer();
+    two_timers();
+    timer_objects();
     printf("selftest: %u answers held to the paper, %u wrong\n", steps, wrong);
     return wrong != 0;
 }
