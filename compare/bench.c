@@ -105,6 +105,21 @@ static call send_call(uint8_t *frame, uint8_t channel, uint32_t n)
     return write_command(frame, 0x43, 1, 0x20 + channel, 0xB6, data, n);
 }
 
+/* A start of a timer with three bytes of time. */
+static call timer_call(uint8_t *frame, uint8_t timer, const uint8_t *time)
+{
+    const uint8_t command[] = {0xD0, 0x11, 0x81, 0x03, 0x01, 0x27, 0x00, 0x82, 0x02, 0x81, 0x82, 0xA4, 0x01, timer,
+                               0xA5, 0x03, time[0], time[1], time[2]};
+    memcpy(frame, command, sizeof command);
+    return (call){COMMAND, 0, frame, sizeof command, 255};
+}
+
+/* A second. */
+static call second_call(void)
+{
+    return (call){SECOND, 0, data, 0, 0};
+}
+
 /* An arrival of n bytes. */
 static call arrival_call(uint8_t channel, uint32_t n)
 {
@@ -210,6 +225,28 @@ static void list_status(uint32_t n)
     add(write_command(frames[0], 0x44, 0, 0x82, 0, NULL, 0));
 }
 
+static const uint8_t an_hour[3] = {0x10, 0x00, 0x00}, a_second[3] = {0x00, 0x00, 0x10};
+
+/* A start of timer n. */
+static void list_timer(uint32_t n)
+{
+    add(timer_call(frames[0], (uint8_t)n, an_hour));
+}
+
+/* A second. */
+static void list_second(uint32_t n)
+{
+    (void)n;
+    add(second_call());
+}
+
+/* An envelope. */
+static void list_envelope(uint32_t n)
+{
+    (void)n;
+    add((call){ENVELOPE, 0, data, 0, 14});
+}
+
 static uint32_t random_state;
 
 /* A random number below n, the same in every run. */
@@ -264,43 +301,51 @@ typedef struct {
     uint32_t datagrams; /* in how many equal datagrams the bytes of channel 1 stand; 0 where it is a stream */
     uint32_t arrived;   /* bytes that arrived on channel 1 before */
     uint32_t sent;      /* bytes ready on channel 1 before */
+    uint32_t waiting;   /* timers that wait before */
+    uint32_t running;   /* timers that run before, with an hour each, the highest ones */
     void (*calls)(uint32_t n);
     uint32_t n;
 } line;
 
 static const line lines[] = {
-    {"refused frame (length 81 09)", 0, 1, GRANT, 0, 0, 0, list_refused, 0},
-    {"MORE TIME", 0, 1, GRANT, 0, 0, 0, list_more_time, 0},
-    {"details of MORE TIME, 11 bytes", 0, 0, 0, 0, 0, 0, list_details, 0},
-    {"details of MORE TIME, 256 bytes", 0, 0, 0, 0, 0, 0, list_details, 241},
-    {"fetch of MORE TIME, one burst", 0, 1, GRANT, 0, 0, 0, list_fetch, 11},
-    {"fetch of MORE TIME, 11 bursts of a byte", 0, 1, GRANT, 0, 0, 0, list_fetch, 1},
-    {"fetch of 256 bytes, one burst", 0, 1, GRANT, 0, 0, 0, list_fetch_padded, 241},
-    {"OPEN of 32, none open", 0, 0, 0, 0, 0, 0, list_open, 32},
-    {"OPEN of 32, six open", 0, 6, 32, 0, 0, 0, list_open, 32},
-    {"OPEN of 1500 and CLOSE, the pair", 0, 0, 0, 0, 0, 0, list_open_and_close, GRANT},
-    {"SEND DATA of 1", 1, 1, GRANT, 0, 0, 0, list_send, 1},
-    {"SEND DATA of 200", 200, 1, GRANT, 0, 0, 0, list_send, 200},
-    {"RECEIVE DATA of 1, 237 held", 1, 1, GRANT, 0, 237, 0, list_receive, 1},
-    {"RECEIVE DATA of 1, 1500 held", 1, 1, GRANT, 0, 1500, 0, list_receive, 1},
-    {"RECEIVE DATA of 237, 237 held", 237, 1, GRANT, 0, 237, 0, list_receive, 237},
-    {"RECEIVE DATA of 237, 1500 held", 237, 1, GRANT, 0, 1500, 0, list_receive, 237},
-    {"arrival of 1", 1, 1, GRANT, 0, 0, 0, list_arrival, 1},
-    {"arrival of 1500", 1500, 1, GRANT, 0, 0, 0, list_arrival, 1500},
-    {"take of 1, 1500 ready", 1, 1, GRANT, 0, 0, 1500, list_take, 1},
-    {"take of 1500, 1500 ready", 1500, 1, GRANT, 0, 0, 1500, list_take, 1500},
-    {"GET CHANNEL STATUS, seven open", 0, 7, 500, 0, 0, 0, list_status, 0},
-    {"datagrams: SEND DATA of 1", 1, 1, GRANT, 1, 0, 0, list_send, 1},
-    {"datagrams: SEND DATA of 200, 15 ready", 200, 1, GRANT, 15, 0, 15, list_send, 200},
-    {"datagrams: RECEIVE DATA of 1, one of 1500 held", 1, 1, GRANT, 1, 1500, 0, list_receive, 1},
-    {"datagrams: RECEIVE DATA of 237, one of 1500 held", 237, 1, GRANT, 1, 1500, 0, list_receive, 237},
-    {"datagrams: RECEIVE DATA of 90, 16 of 90 held", 90, 1, GRANT, 16, 1440, 0, list_receive, 90},
-    {"datagrams: arrival of 1", 1, 1, GRANT, 1, 0, 0, list_arrival, 1},
-    {"datagrams: arrival of 1, 15 held", 1, 1, GRANT, 15, 15, 0, list_arrival, 1},
-    {"datagrams: arrival of 1500", 1500, 1, GRANT, 1, 0, 0, list_arrival, 1500},
-    {"datagrams: take of 90, 16 of 90 ready", 90, 1, GRANT, 16, 0, 1440, list_take, 90},
-    {"datagrams: take of 1500, one of 1500 ready", 1500, 1, GRANT, 1, 0, 1500, list_take, 1500},
-    {"mixed history, each of its 1000 calls", 0, 4, 700, 0, 0, 0, list_mixed, MIXED},
+    {"refused frame (length 81 09)", 0, 1, GRANT, 0, 0, 0, 0, 0, list_refused, 0},
+    {"MORE TIME", 0, 1, GRANT, 0, 0, 0, 0, 0, list_more_time, 0},
+    {"details of MORE TIME, 11 bytes", 0, 0, 0, 0, 0, 0, 0, 0, list_details, 0},
+    {"details of MORE TIME, 256 bytes", 0, 0, 0, 0, 0, 0, 0, 0, list_details, 241},
+    {"fetch of MORE TIME, one burst", 0, 1, GRANT, 0, 0, 0, 0, 0, list_fetch, 11},
+    {"fetch of MORE TIME, 11 bursts of a byte", 0, 1, GRANT, 0, 0, 0, 0, 0, list_fetch, 1},
+    {"fetch of 256 bytes, one burst", 0, 1, GRANT, 0, 0, 0, 0, 0, list_fetch_padded, 241},
+    {"OPEN of 32, none open", 0, 0, 0, 0, 0, 0, 0, 0, list_open, 32},
+    {"OPEN of 32, six open", 0, 6, 32, 0, 0, 0, 0, 0, list_open, 32},
+    {"OPEN of 1500 and CLOSE, the pair", 0, 0, 0, 0, 0, 0, 0, 0, list_open_and_close, GRANT},
+    {"SEND DATA of 1", 1, 1, GRANT, 0, 0, 0, 0, 0, list_send, 1},
+    {"SEND DATA of 200", 200, 1, GRANT, 0, 0, 0, 0, 0, list_send, 200},
+    {"RECEIVE DATA of 1, 237 held", 1, 1, GRANT, 0, 237, 0, 0, 0, list_receive, 1},
+    {"RECEIVE DATA of 1, 1500 held", 1, 1, GRANT, 0, 1500, 0, 0, 0, list_receive, 1},
+    {"RECEIVE DATA of 237, 237 held", 237, 1, GRANT, 0, 237, 0, 0, 0, list_receive, 237},
+    {"RECEIVE DATA of 237, 1500 held", 237, 1, GRANT, 0, 1500, 0, 0, 0, list_receive, 237},
+    {"arrival of 1", 1, 1, GRANT, 0, 0, 0, 0, 0, list_arrival, 1},
+    {"arrival of 1500", 1500, 1, GRANT, 0, 0, 0, 0, 0, list_arrival, 1500},
+    {"take of 1, 1500 ready", 1, 1, GRANT, 0, 0, 1500, 0, 0, list_take, 1},
+    {"take of 1500, 1500 ready", 1500, 1, GRANT, 0, 0, 1500, 0, 0, list_take, 1500},
+    {"GET CHANNEL STATUS, seven open", 0, 7, 500, 0, 0, 0, 0, 0, list_status, 0},
+    {"start of a timer", 0, 1, GRANT, 0, 0, 0, 0, 0, list_timer, 8},
+    {"second, no timer running", 0, 1, GRANT, 0, 0, 0, 0, 0, list_second, 0},
+    {"second, one running", 0, 1, GRANT, 0, 0, 0, 0, 1, list_second, 0},
+    {"second, eight running", 0, 1, GRANT, 0, 0, 0, 0, 8, list_second, 0},
+    {"envelope, eight waiting", 0, 1, GRANT, 0, 0, 0, 8, 0, list_envelope, 0},
+    {"envelope, timer 1 waiting, seven running", 0, 1, GRANT, 0, 0, 0, 1, 7, list_envelope, 0},
+    {"datagrams: SEND DATA of 1", 1, 1, GRANT, 1, 0, 0, 0, 0, list_send, 1},
+    {"datagrams: SEND DATA of 200, 15 ready", 200, 1, GRANT, 15, 0, 15, 0, 0, list_send, 200},
+    {"datagrams: RECEIVE DATA of 1, one of 1500 held", 1, 1, GRANT, 1, 1500, 0, 0, 0, list_receive, 1},
+    {"datagrams: RECEIVE DATA of 237, one of 1500 held", 237, 1, GRANT, 1, 1500, 0, 0, 0, list_receive, 237},
+    {"datagrams: RECEIVE DATA of 90, 16 of 90 held", 90, 1, GRANT, 16, 1440, 0, 0, 0, list_receive, 90},
+    {"datagrams: arrival of 1", 1, 1, GRANT, 1, 0, 0, 0, 0, list_arrival, 1},
+    {"datagrams: arrival of 1, 15 held", 1, 1, GRANT, 15, 15, 0, 0, 0, list_arrival, 1},
+    {"datagrams: arrival of 1500", 1500, 1, GRANT, 1, 0, 0, 0, 0, list_arrival, 1500},
+    {"datagrams: take of 90, 16 of 90 ready", 90, 1, GRANT, 16, 0, 1440, 0, 0, list_take, 90},
+    {"datagrams: take of 1500, one of 1500 ready", 1500, 1, GRANT, 1, 0, 1500, 0, 0, list_take, 1500},
+    {"mixed history, each of its 1000 calls", 0, 4, 700, 0, 0, 0, 0, 0, list_mixed, MIXED},
 };
 
 enum { LINES = sizeof lines / sizeof lines[0] };
@@ -323,10 +368,21 @@ static void send_all(const side *who, void *record, uint32_t n)
     must(who, record, send_call(frame, 1, n));
 }
 
+/* Starts the timers of a line: those that wait have a second, which passes, and then the others have an hour. */
+static void start_timers(const side *who, void *record, const line *l)
+{
+    uint8_t frame[FRAME_CAP];
+    for (uint32_t i = 0; i < l->waiting; i++)
+        must(who, record, timer_call(frame, (uint8_t)(1 + i), a_second));
+    must(who, record, second_call());
+    for (uint32_t i = 0; i < l->running; i++)
+        must(who, record, timer_call(frame, (uint8_t)(8 - i), an_hour));
+}
+
 /* Makes the record that a line begins with; event 09 is listed, nothing is gathered. */
 static void prepare(const side *who, void *record, const line *l)
 {
-    static const uint8_t profile[13] = {0, 0, 8, 0, 1, 0x0C, 0, 0, 0, 0, 0, 0x1F, 0xE2};
+    static const uint8_t profile[13] = {0, 0, 8, 0, 1, 0x0C, 0, 3, 0, 0, 0, 0x1F, 0xE2};
     static const uint8_t event = 0x09;
     uint8_t frame[FRAME_CAP];
     uint32_t parts = l->datagrams == 0 ? 1 : l->datagrams;
@@ -339,6 +395,7 @@ static void prepare(const side *who, void *record, const line *l)
         must(who, record, arrival_call(1, l->arrived / parts));
     for (uint32_t i = 0; i < parts && l->sent != 0; i++)
         send_all(who, record, l->sent / parts);
+    start_timers(who, record, l);
 }
 
 /* Lists the calls of a line. */

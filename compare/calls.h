@@ -5,7 +5,7 @@
 #include "../include/pomerassol.h"
 #include "reference.h"
 
-typedef enum { NOTHING, START, FETCH_START, COMMAND, ARRIVAL, TAKE, DROP, FETCH, DETAILS } call_kind;
+typedef enum { NOTHING, START, FETCH_START, COMMAND, ARRIVAL, TAKE, DROP, SECOND, ENVELOPE, FETCH, DETAILS } call_kind;
 
 /* What is lent to a call: the bytes in, and the size of the buffer for the answer. */
 typedef struct {
@@ -43,6 +43,11 @@ typedef struct {
             return side##_take(s, c->channel, out, c->size);                        \
         case DROP:                                                                  \
             return side##_drop(s, c->channel, out, c->size);                        \
+        case SECOND:                                                                \
+            side##_second(s);                                                       \
+            return 0;                                                               \
+        case ENVELOPE:                                                              \
+            return side##_envelope(s, out, c->size);                                \
         case FETCH:                                                                 \
             return side##_fetch(s, &r->gathered, c->bytes, c->n, out, c->size);     \
         case DETAILS:                                                               \

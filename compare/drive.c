@@ -11,7 +11,8 @@
 
 enum { LARGEST = 65535, GUARD = 64, SPACE = GUARD + LARGEST + 1 + GUARD, NOISE = 1 << 18 };
 enum { REFUSED = REFERENCE_REFUSED, COMMAND_CAP = 256, FRAME_CAP = 300, DATA_CAP = 241, CELLS = 256, CELL = 32 };
-enum { DATAGRAMS = REFERENCE_DATAGRAMS, R1 = 1, R2 = 2, R6 = 6, R11 = 11, R12 = 12, REFUSALS = 13 };
+enum { DATAGRAMS = REFERENCE_DATAGRAMS, R1 = 1, R2 = 2, R6 = 6, R10 = 10, R11 = 11, R12 = 12, REFUSALS = 13 };
+enum { TIMERS = REFERENCE_TIMERS, TIMER_NUMBERS = 16, EACH_TIMER = 6 }; /* a timer's numbers in the library's ledger */
 
 /* ---- The two sides ---- */
 
@@ -76,19 +77,20 @@ static void fill_noise(void)
 
 /* ---- What is counted ---- */
 
-enum { ROWS = 9, COLUMNS = 13, OTHER_TYPE = 7, ZERO_DETAILS = 8 };
+enum { ROWS = 10, COLUMNS = 14, OTHER_TYPE = 8, ZERO_DETAILS = 9 };
 
 static const char *const row_names[ROWS] = {
-    "02 MORE TIME", "05 EVENT LIST", "40 OPEN", "41 CLOSE", "42 RECEIVE", "43 SEND", "44 STATUS", "other type", "zero details",
+    "02 MORE TIME", "05 EVENT LIST", "27 TIMER", "40 OPEN", "41 CLOSE", "42 RECEIVE", "43 SEND", "44 STATUS", "other type",
+    "zero details",
 };
 static const char *const column_names[COLUMNS] = {
-    "00", "01", "02", "07", "30", "31", "32", "36", "3A 01", "3A 02", "3A 03", "3A 04", "3A 06",
+    "00", "01", "02", "07", "24", "30", "31", "32", "36", "3A 01", "3A 02", "3A 03", "3A 04", "3A 06",
 };
 
 /* The answers that the paper knows, row by row. */
 static const char *const known[ROWS] = {
-    "xx..x.xx.....", "xx..x.xx.....", "xx.xx.xxx..xx", "xx..x.xx..x..", "xxx.x.xx..x..",
-    "xx..x.xx.xxx.", "xx..x.xx.....", ".....xx......", ".....xxx.....",
+    "xx...x.xx.....", "xx...x.xx.....", "xx..xx.xx.....", "xx.x.x.xxx..xx", "xx...x.xx..x..",
+    "xxx..x.xx..x..", "xx...x.xx.xxx.", "xx...x.xx.....", "......xx......", "......xxx.....",
 };
 
 static uint64_t answers[ROWS][COLUMNS];
@@ -147,6 +149,28 @@ typedef enum {
     ENDED_WITHOUT_BYTES,
     ENDED_NOTHING,
     NO_PLACE_TO_SEND,
+    TIMER_STARTED,
+    STARTED_RUNNING,
+    STARTED_WAITING,
+    STARTED_LONGEST,
+    TIMER_STOPPED,
+    STOPPED_WAITING,
+    ASKED_RUNNING,
+    ASKED_WAITING,
+    VALUE_3,
+    TIME_IGNORED,
+    TIME_FLAGGED,
+    NO_TIMER_RUNS,
+    EIGHT_RUN,
+    MINUTE_BORROWED,
+    HOUR_BORROWED,
+    CAME_TO_ZERO,
+    TWO_TO_ZERO,
+    ZERO_BESIDE_WAITING,
+    WHOLE_DAY,
+    LOWEST_OF_SEVERAL,
+    EXACTLY_14,
+    ONE_UNDER_14,
     LONG_TAG_DONE,
     LONG_TAG_REFUSED,
     LONGEST_COMMAND,
@@ -163,6 +187,7 @@ typedef enum {
     ACROSS_START,
     ACROSS_COMMAND,
     ACROSS_RADIO,
+    ACROSS_CLOCK,
     FETCHED_255,
     FETCHED_256,
     WRONG_FIRST,
@@ -232,6 +257,28 @@ static const char *const place_names[PLACES] = {
     [ENDED_WITHOUT_BYTES] = "SEND: no bytes end a datagram",
     [ENDED_NOTHING] = "SEND: no bytes end nothing, 16 held",
     [NO_PLACE_TO_SEND] = "SEND: 3A 04 for a seventeenth",
+    [TIMER_STARTED] = "TIMER: start",
+    [STARTED_RUNNING] = "TIMER: start of a running one",
+    [STARTED_WAITING] = "TIMER: start of a waiting one",
+    [STARTED_LONGEST] = "TIMER: start with 23:59:59",
+    [TIMER_STOPPED] = "TIMER: stop",
+    [STOPPED_WAITING] = "TIMER: stop of a waiting one, 24",
+    [ASKED_RUNNING] = "TIMER: ask",
+    [ASKED_WAITING] = "TIMER: ask of a waiting one, 24",
+    [VALUE_3] = "TIMER: value 3, 32",
+    [TIME_IGNORED] = "TIMER: 25 ignored",
+    [TIME_FLAGGED] = "TIMER: 25 unexpected and flagged, 32",
+    [NO_TIMER_RUNS] = "second: no timer runs",
+    [EIGHT_RUN] = "second: eight timers run",
+    [MINUTE_BORROWED] = "second: a minute ends",
+    [HOUR_BORROWED] = "second: an hour ends",
+    [CAME_TO_ZERO] = "second: a timer comes to zero",
+    [TWO_TO_ZERO] = "second: several timers come to zero",
+    [ZERO_BESIDE_WAITING] = "second: to zero, another one waits",
+    [WHOLE_DAY] = "second: 23:59:59 has passed",
+    [LOWEST_OF_SEVERAL] = "envelope: the lowest of several",
+    [EXACTLY_14] = "envelope: into 14 bytes",
+    [ONE_UNDER_14] = "envelope: R1 at 13 bytes, one waits",
     [LONG_TAG_DONE] = "command with a tag of three bytes, done",
     [LONG_TAG_REFUSED] = "command with a tag of three bytes, 32",
     [LONGEST_COMMAND] = "command of 256 bytes",
@@ -248,6 +295,7 @@ static const char *const place_names[PLACES] = {
     [ACROSS_START] = "fetch: completed across a start",
     [ACROSS_COMMAND] = "fetch: completed across a command",
     [ACROSS_RADIO] = "fetch: completed across a radio's call",
+    [ACROSS_CLOCK] = "fetch: completed across a clock's call",
     [FETCHED_255] = "fetch: 255 bytes",
     [FETCHED_256] = "fetch: 256 bytes",
     [WRONG_FIRST] = "fetch: wrong first byte",
@@ -275,7 +323,7 @@ static void count(place p, bool reached)
 /* ---- The first difference ---- */
 
 static const char *const kind_names[] = {
-    "nothing", "start", "start of the fetch", "command", "arrival", "take", "drop", "fetch",
+    "nothing", "start", "start of the fetch", "command", "arrival", "take", "drop", "second", "envelope", "fetch",
 };
 
 /* Prints bytes in hexadecimal, the first thousand of them. */
@@ -322,7 +370,7 @@ static void differ(const char *what, const call *c, uint64_t from_reference, uin
 /* Whether a number is that of a refusal of these calls. */
 static bool is_refusal(uint32_t number)
 {
-    return (number >= 1 && number <= R6) || number == R11 || number == R12;
+    return (number >= 1 && number <= R6) || (number >= R10 && number <= R12);
 }
 
 /* Holds one side to its own answer: a number that can be, and nothing touched but what it reports. */
@@ -351,7 +399,22 @@ static void compare_details(const call *c, uint32_t returned)
         differ("R2 of the details at hand", c, returned, b);
 }
 
-/* Compares what the library keeps: the unpromised cells, and the gathered bytes with 0 in each place behind them. */
+/* Whether the library keeps a timer as it should: hours, minutes and seconds, those left and those it was started with. */
+static bool timer_kept(const records *r, uint32_t number)
+{
+    const reference_timer *t = &r->reference.session.timer[number - 1];
+    const uint16_t *kept = &r->pomerassol.session.ledger[TIMER_NUMBERS + EACH_TIMER * (number - 1)];
+    const uint32_t asked[EACH_TIMER] = {
+        t->left / 3600, t->left / 60 % 60, t->left % 60, t->started / 3600, t->started / 60 % 60, t->started % 60,
+    };
+    for (int i = 0; i < EACH_TIMER; i++)
+        if (kept[i] != asked[i])
+            return false;
+    return true;
+}
+
+/* Compares what the library keeps: the unpromised cells, the timers, and the gathered bytes with 0 in each place behind
+ * them. */
 static void compare_kept(const records *r, const call *c, uint64_t number)
 {
     const reference_gathered *g = &r->reference.gathered;
@@ -359,6 +422,9 @@ static void compare_kept(const records *r, const call *c, uint64_t number)
     memcpy(asked.bytes, g->bytes, g->count);
     if (r->pomerassol.session.ledger[POMERASSOL_FREE_CELLS] != CELLS - r->reference.session.promised)
         differ("the kept number of unpromised cells", c, number, number);
+    for (uint32_t timer = 1; timer <= TIMERS; timer++)
+        if (!timer_kept(r, timer))
+            differ("the kept numbers of a timer", c, number, number);
     if (memcmp(&r->pomerassol.gathered, &asked, sizeof asked) != 0)
         differ("the gathered bytes", c, number, number);
 }
@@ -408,7 +474,7 @@ static void ask_copies(uint8_t type, uint8_t qualifier, uint8_t destination, con
     made_on_copies++;
 }
 
-/* Makes an arrival, a take or a drop on the copies. */
+/* Makes an arrival, a take, a drop, a second or an envelope on the copies. */
 static void call_copies(call_kind kind, uint8_t channel, size_t n, size_t size)
 {
     call c = {kind, channel, noise, n, size};
@@ -447,12 +513,31 @@ static void compare_channel(uint8_t channel)
     call_copies(DROP, channel, 0, 16);
 }
 
+/* Compares the timers: what is told of each, those that wait, and those that come to zero with a second. */
+static void compare_timers(void)
+{
+    for (uint8_t timer = 0; timer <= TIMERS + 1; timer++) {
+        const uint8_t object[3] = {0xA4, 1, timer};
+        ask_copies(0x27, 2, 0x82, object, 3);
+    }
+    for (int i = 0; i <= TIMERS; i++)
+        call_copies(ENVELOPE, 0, 0, 14);
+    call_copies(SECOND, 0, 0, 0);
+    for (int i = 0; i <= TIMERS; i++)
+        call_copies(ENVELOPE, 0, 0, 14);
+    for (uint8_t timer = 1; timer <= TIMERS; timer++) {
+        const uint8_t object[3] = {0xA4, 1, timer};
+        ask_copies(0x27, 1, 0x82, object, 3);
+    }
+}
+
 /* Compares the state behind both records on copies of them. */
 static void compare_state(void)
 {
     static const uint8_t opening[7] = {0xB5, 1, 3, 0xB9, 2, 0x05, 0xDC};
     copies = run;
     on_copies = true;
+    compare_timers();
     ask_copies(0x44, 0, 0x82, NULL, 0);
     for (uint8_t channel = 1; channel <= 7; channel++)
         compare_channel(channel);
@@ -463,6 +548,26 @@ static void compare_state(void)
         ask_copies(0x41, 0, 0x20 + channel, NULL, 0);
     for (int i = 0; i < 8; i++)
         ask_copies(0x40, 0, 0x82, opening, 7);
+    on_copies = false;
+}
+
+/* Compares a day of all eight timers on copies, each second of it. */
+static void compare_day(void)
+{
+    static const uint8_t profile[8] = {0, 0, 0, 0, 0, 0, 0, 3};
+    call start = {START, 0, profile, sizeof profile, 0};
+    copies = run;
+    on_copies = true;
+    perform(&copies, &start);
+    for (uint8_t timer = 1; timer <= TIMERS; timer++) {
+        const uint8_t objects[8] = {0xA4, 1, timer, 0xA5, 3, 0x32, 0x95, 0x95};
+        ask_copies(0x27, 0, 0x82, objects, 8);
+    }
+    for (uint32_t left = 24 * 3600 - 1; left > 0; left--)
+        call_copies(SECOND, 0, 0, 0);
+    count(WHOLE_DAY, copies.reference.session.timer[0].left == 0);
+    for (int i = 0; i <= TIMERS; i++)
+        call_copies(ENVELOPE, 0, 0, 14);
     on_copies = false;
 }
 
@@ -570,6 +675,57 @@ static uint32_t receive_room(uint8_t channel)
 static uint32_t send_room(uint8_t channel)
 {
     return is_open(channel) ? at(channel)->grant - at(channel)->send.held : 0;
+}
+
+/* Whether a timer of the running session runs. */
+static bool runs(uint32_t timer)
+{
+    return run.reference.session.timer[timer - 1].left != 0;
+}
+
+/* Whether a timer of the running session waits. */
+static bool waits(uint32_t timer)
+{
+    return !runs(timer) && run.reference.session.timer[timer - 1].started != 0;
+}
+
+/* Whether a timer of the running session neither runs nor waits. */
+static bool rests(uint32_t timer)
+{
+    return !runs(timer) && !waits(timer);
+}
+
+typedef bool doing(uint32_t timer);
+
+/* How many timers do something. */
+static uint32_t count_timers(doing *so)
+{
+    uint32_t n = 0;
+    for (uint32_t timer = 1; timer <= TIMERS; timer++)
+        n += so(timer);
+    return n;
+}
+
+/* A timer that does something if there is one, else any number from 0 to 9. */
+static uint8_t timer_that(doing *so)
+{
+    uint32_t first = below(TIMERS);
+    for (uint32_t i = 0; i < TIMERS; i++)
+        if (so(1 + (first + i) % TIMERS))
+            return (uint8_t)(1 + (first + i) % TIMERS);
+    return (uint8_t)below(10);
+}
+
+/* A timer for the next command: mostly one that does something, else one that waits, else any. */
+static uint8_t pick_timer(doing *so)
+{
+    if (chance(60))
+        return timer_that(so);
+    if (chance(30))
+        return timer_that(waits);
+    if (chance(85))
+        return (uint8_t)(1 + below(TIMERS));
+    return chance(80) ? (uint8_t)below(10) : random_byte();
 }
 
 /* ---- Sizes ---- */
@@ -861,10 +1017,67 @@ static void plan_status(void)
     begin(0x44, 0x82);
 }
 
-/* A type that is not of the seven. */
+/* A number's two decimal digits, the last one first. */
+static uint8_t swapped(uint32_t number)
+{
+    return (uint8_t)(number / 10 | number % 10 << 4);
+}
+
+/* Writes a time of day. */
+static void write_time(uint8_t *to, uint32_t hours, uint32_t minutes, uint32_t seconds)
+{
+    to[0] = swapped(hours);
+    to[1] = swapped(minutes);
+    to[2] = swapped(seconds);
+}
+
+/* Writes a time: mostly of few seconds; shortly before the end of a minute or an hour; any; at the bounds; any bytes. */
+static void write_some_time(uint8_t *to)
+{
+    static const uint8_t bounds[][3] = {
+        {0x32, 0x95, 0x95}, {0x42, 0, 0}, {0, 0x06, 0}, {0, 0, 0x06}, {0, 0, 0}, {0xA0, 0, 0x10}, {0x0A, 0, 0x10},
+        {0, 0xA0, 0x10}, {0, 0, 0x0A}, {0, 0, 0x10}, {0, 0x10, 0}, {0x10, 0, 0}, {0x32, 0, 0}, {0, 0x95, 0x95},
+    };
+    switch (below(12)) {
+    case 0:
+        memcpy(to, bounds[below(sizeof bounds / sizeof bounds[0])], 3);
+        break;
+    case 1:
+        memcpy(to, random_bytes(), 3);
+        break;
+    case 2:
+        write_time(to, below(24), below(60), below(60));
+        break;
+    case 3:
+        write_time(to, 0, 1 + below(59), below(3));
+        break;
+    case 4:
+        write_time(to, 1 + below(23), 0, below(3));
+        break;
+    default:
+        write_time(to, 0, 0, 1 + below(20));
+    }
+}
+
+/* TIMER MANAGEMENT: starts, stops, asks, seldom value 3; 25 where it is required and sometimes where it is not. */
+static void plan_timer(void)
+{
+    static const uint8_t actions[] = {0, 0, 0, 0, 0, 1, 2, 2, 2, 3};
+    uint8_t action = actions[below(sizeof actions)], timer = pick_timer(action == 0 ? rests : runs), time[3];
+    begin(0x27, 0x82);
+    plan[0].value[2] = action;
+    if (chance(15))
+        plan[0].value[2] |= random_byte() & 0xFC;
+    add(0x24, 90, &timer, 1);
+    write_some_time(time);
+    if (action == 0 ? chance(97) : chance(12))
+        add(0x25, action == 0 ? 90 : 40, time, action == 0 || chance(70) ? 3 : below(4));
+}
+
+/* A type that is not of the eight. */
 static void plan_other(void)
 {
-    static const uint8_t types[] = {0x00, 0x01, 0x03, 0x04, 0x06, 0x3F, 0x45, 0x7F, 0x82, 0xC0, 0xC2, 0xFF};
+    static const uint8_t types[] = {0x00, 0x01, 0x03, 0x04, 0x06, 0x26, 0x28, 0x3F, 0x45, 0x7F, 0x82, 0xC0, 0xC2, 0xFF};
     begin(chance(70) ? types[below(sizeof types)] : random_byte(), chance(50) ? 0x82 : 0x21);
     if (chance(30))
         plan[0].value[0] = plan[0].value[2] = 0;
@@ -893,7 +1106,8 @@ static void remove_one(void)
 /* Plans an object that is not expected, mostly a known one. */
 static void add_unexpected(void)
 {
-    static const uint8_t tags[] = {0x01, 0x02, 0x04, 0x05, 0x0D, 0x19, 0x1E, 0x35, 0x36, 0x37, 0x38, 0x39, 0x3C, 0x3E, 0x47};
+    static const uint8_t tags[] = {0x01, 0x02, 0x04, 0x05, 0x0D, 0x19, 0x1E, 0x24, 0x25, 0x35, 0x36, 0x37, 0x38, 0x39, 0x3C,
+                                   0x3E, 0x47};
     uint8_t number = chance(60) ? tags[below(sizeof tags)] : (uint8_t)(1 + below(126));
     object *o = add(number, 30, random_bytes(), chance(90) ? below(9) : below(140));
     if (chance(80))
@@ -1303,8 +1517,10 @@ static int row_of(const uint8_t *out)
         return 0;
     if (out[3] == 0x05)
         return 1;
+    if (out[3] == 0x27)
+        return 2;
     if (out[3] >= 0x40 && out[3] <= 0x44)
-        return out[3] - 0x40 + 2;
+        return out[3] - 0x40 + 3;
     return OTHER_TYPE;
 }
 
@@ -1528,12 +1744,88 @@ static void count_unsent(const reference_channel *before)
         }
 }
 
+static reference_timer timers_before[TIMERS]; /* the timers before the call at hand */
+
+/* The object of the plan that has a number, or NULL. */
+static const object *planned_object(uint8_t number)
+{
+    for (uint32_t i = 0; i < planned; i++)
+        if ((plan[i].tag & 0x7F) == number)
+            return &plan[i];
+    return NULL;
+}
+
+/* Counts what a start of a timer came by; `t` is the timer before. */
+static void count_started(const reference_timer *t, uint8_t number)
+{
+    count(TIMER_STARTED, true);
+    count(STARTED_RUNNING, t->left != 0);
+    count(STARTED_WAITING, t->left == 0 && t->started != 0);
+    count(STARTED_LONGEST, run.reference.session.timer[number - 1].left == 24 * 3600 - 1);
+}
+
+/* Counts what a stop or an ask that was answered came by; `t` is the timer before. */
+static void count_told(const reference_timer *t, bool stop, uint8_t result)
+{
+    bool waited = t->left == 0 && t->started != 0;
+    count(TIMER_STOPPED, stop && result <= 0x01);
+    count(STOPPED_WAITING, stop && result == 0x24 && waited);
+    count(ASKED_RUNNING, !stop && result <= 0x01);
+    count(ASKED_WAITING, !stop && result == 0x24 && waited);
+    count(TIME_IGNORED, result == 0x01 && planned_object(0x25) != NULL);
+}
+
+/* Counts what a timer command that was answered came by. */
+static void count_timer(const uint8_t *out)
+{
+    const object *timer = planned_object(0x24), *time = planned_object(0x25);
+    uint8_t action = out[4] & 3, result = out[11];
+    count(VALUE_3, action == 3 && result == 0x32);
+    count(TIME_FLAGGED, action != 0 && result == 0x32 && time != NULL && time->tag >= 0x80);
+    if (timer == NULL || timer->n != 1 || timer->value[0] < 1 || timer->value[0] > TIMERS)
+        return;
+    uint8_t number = timer->value[0];
+    if (action == 0 && result <= 0x01)
+        count_started(&timers_before[number - 1], number);
+    if ((action == 1 || action == 2) && (result <= 0x01 || result == 0x24))
+        count_told(&timers_before[number - 1], action == 1, result);
+}
+
+/* Counts what a second came by. */
+static void count_second(void)
+{
+    uint32_t ran = 0, ended = 0, waited = 0;
+    for (uint32_t timer = 1; timer <= TIMERS; timer++) {
+        const reference_timer *t = &timers_before[timer - 1];
+        ran += t->left != 0;
+        ended += t->left == 1;
+        waited += t->left == 0 && t->started != 0;
+        count(MINUTE_BORROWED, t->left != 0 && t->left % 60 == 0);
+        count(HOUR_BORROWED, t->left != 0 && t->left % 3600 == 0);
+    }
+    count(NO_TIMER_RUNS, ran == 0);
+    count(EIGHT_RUN, ran == TIMERS);
+    count(CAME_TO_ZERO, ended != 0);
+    count(TWO_TO_ZERO, ended > 1);
+    count(ZERO_BESIDE_WAITING, ended != 0 && waited != 0);
+}
+
+/* Counts what an envelope came by. */
+static void count_envelope(const call *c, uint32_t returned)
+{
+    count(LOWEST_OF_SEVERAL, returned < REFUSED && count_timers(waits) != 0);
+    count(EXACTLY_14, returned < REFUSED && c->size == 14);
+    count(ONE_UNDER_14, returned == REFUSED + R1 && c->size == 13 && count_timers(waits) != 0);
+}
+
 /* Counts what an answered command came by. */
 static void count_places(const uint8_t *out)
 {
     uint8_t type = out[3], result = out[11], channel = channel_named();
     const reference_channel *before = &before_command[channel];
     bool good = result <= 0x07;
+    if (type == 0x27)
+        count_timer(out);
     if (type == 0x40 && good)
         count_opened(out);
     if (channel == 0)
@@ -1641,6 +1933,7 @@ static void count_completed(const call *c, uint32_t n, uint32_t left)
     count(ACROSS_START, between[START]);
     count(ACROSS_COMMAND, between[COMMAND]);
     count(ACROSS_RADIO, between[ARRIVAL] || between[TAKE] || between[DROP]);
+    count(ACROSS_CLOCK, between[SECOND] || between[ENVELOPE]);
     count(FETCHED_255, n == COMMAND_CAP - 1);
     count(FETCHED_256, n == COMMAND_CAP);
 }
@@ -1671,6 +1964,7 @@ static uint64_t make(const call *c)
     made++;
     if (from_card)
         keep_channels();
+    memcpy(timers_before, run.reference.session.timer, sizeof timers_before);
     uint64_t number = perform(&run, c);
     uint32_t returned = POMERASSOL_ENDED(number);
     if (returned >= REFUSED)
@@ -1687,6 +1981,10 @@ static uint64_t make(const call *c)
         count_take(c, returned);
     if (c->kind == DROP)
         count_drop(c, returned);
+    if (c->kind == SECOND)
+        count_second();
+    if (c->kind == ENVELOPE)
+        count_envelope(c, returned);
     if (c->kind == FETCH)
         count_fetch(c, number);
     follow_between(c->kind);
@@ -1695,15 +1993,17 @@ static uint64_t make(const call *c)
 
 /* ---- Histories ---- */
 
-/* A profile that allows most: bearer 02, the events, and single bits are seldom changed. */
+/* A profile that allows most: bearer 02, the events, the timers, and single bits are seldom changed. */
 static void sensible_profile(uint8_t *profile)
 {
-    memcpy(profile, "\x00\x00\x08\x00\x01\x0C\x00\x00\x00\x00\x00\x1F\x02", 13);
+    memcpy(profile, "\x00\x00\x08\x00\x01\x0C\x00\x03\x00\x00\x00\x1F\x02", 13);
     profile[12] |= (uint8_t)((chance(60) ? 7 : below(8)) << 5);
     if (chance(10))
         profile[12] ^= 0x02;
     if (chance(10))
         profile[5] ^= (uint8_t)(0x04 << below(2));
+    if (chance(10))
+        profile[7] ^= (uint8_t)(0x01 << below(2));
     for (uint32_t i = below(20); i < 4; i++)
         profile[below(13)] ^= (uint8_t)(1u << below(8));
 }
@@ -1777,21 +2077,36 @@ static void make_drop(void)
     make(&c);
 }
 
+/* A second. */
+static void make_second(void)
+{
+    call c = {SECOND, 0, noise, 0, below(64)};
+    make(&c);
+}
+
+/* An envelope. */
+static void make_envelope(void)
+{
+    call c = {ENVELOPE, 0, noise, 0, buffer_size(14)};
+    make(&c);
+}
+
 static planner *const planners[] = {
-    plan_open, plan_close, plan_receive, plan_send, plan_status, plan_more_time, plan_event_list, plan_other,
+    plan_open, plan_close, plan_receive, plan_send, plan_status, plan_more_time, plan_event_list, plan_timer, plan_other,
 };
 
-enum { PLANNERS = 8, KINDS = 12, MOODS = 7 };
+enum { PLANNERS = 9, KINDS = 15, MOODS = 8 };
 
-/* How often each kind of call comes in each mood: the planners, random bytes, arrival, take, drop. */
+/* How often each kind of call comes in each mood: the planners, random bytes, arrival, take, drop, second, envelope. */
 static const uint8_t moods[MOODS][KINDS] = {
-    {10, 3, 14, 18, 3, 2, 3, 1, 1, 26, 12, 1},  /* mixed */
-    {40, 16, 5, 6, 5, 2, 6, 1, 1, 10, 5, 1},    /* opening */
-    {6, 1, 4, 40, 1, 1, 2, 1, 0, 40, 4, 0},     /* filling */
-    {1, 0, 6, 46, 0, 0, 1, 0, 0, 46, 4, 0},     /* crowding */
-    {3, 1, 36, 14, 1, 1, 1, 0, 0, 16, 26, 0},   /* emptying */
-    {20, 20, 10, 8, 8, 2, 4, 1, 1, 12, 8, 6},   /* closing */
-    {20, 6, 15, 15, 6, 8, 10, 6, 6, 6, 4, 2},   /* rough */
+    {10, 3, 14, 18, 3, 2, 3, 6, 1, 1, 26, 12, 1, 6, 3},   /* mixed */
+    {40, 16, 5, 6, 5, 2, 6, 2, 1, 1, 10, 5, 1, 2, 1},     /* opening */
+    {6, 1, 4, 40, 1, 1, 2, 1, 1, 0, 40, 4, 0, 2, 0},      /* filling */
+    {1, 0, 6, 46, 0, 0, 1, 1, 0, 0, 46, 4, 0, 1, 0},      /* crowding */
+    {3, 1, 36, 14, 1, 1, 1, 1, 0, 0, 16, 26, 0, 2, 1},    /* emptying */
+    {20, 20, 10, 8, 8, 2, 4, 3, 1, 1, 12, 8, 6, 3, 2},    /* closing */
+    {1, 1, 1, 1, 1, 1, 1, 45, 1, 0, 2, 1, 0, 32, 12},     /* timing */
+    {20, 6, 15, 15, 6, 8, 10, 14, 6, 6, 6, 4, 2, 6, 4},   /* rough */
 };
 
 /* A kind of call, by the weights of a mood. */
@@ -1852,8 +2167,12 @@ static void step(uint32_t mood)
         make_arrival();
     else if (kind == PLANNERS + 2)
         make_take();
-    else
+    else if (kind == PLANNERS + 3)
         make_drop();
+    else if (kind == PLANNERS + 4)
+        make_second();
+    else
+        make_envelope();
 }
 
 /* The whole history: starts anew now and then, and changes its mood. */
@@ -1885,6 +2204,7 @@ static void history(void)
             compare_state();
     }
     compare_state();
+    compare_day();
     compare_long_bursts();
 }
 
@@ -1912,7 +2232,7 @@ static void print_refusals(void)
 {
     static const char *const given[] = {
         [COMMAND] = ".xx..........", [ARRIVAL] = ".x.xxxx....x.", [TAKE] = "...xxx......x",
-        [DROP] = ".x.xxx.......", [FETCH] = ".xx..........",
+        [DROP] = ".x.xxx.......", [SECOND] = ".............", [ENVELOPE] = ".x........x..", [FETCH] = ".xx..........",
     };
     printf("\n%-14s", "refusals");
     for (uint32_t j = 1; j < REFUSALS; j++)
