@@ -1,5 +1,6 @@
 #!/usr/bin/env python3
-"""Makes the lines of the tool bench, which gate.py writes, with the answers that they must get, from document 01 and M-102.
+"""Makes the lines of the tool bench, which gate.py writes, with the answers that they must get, from document 01 and the
+request M-102.
 
 A response is read here as a list of tagged objects and looked up in tables of the paper; a record is written object by object.
 """

@@ -33,6 +33,7 @@ def began(n):
 
 
 def enveloped(n, time):
+    """The envelope of a timer that was started with a time."""
     return "=D70C" "82028281" "2401%02X" "2503%s" % (n, time)
 
 
@@ -91,7 +92,8 @@ def make_lines():
     s.add("A40D", "R1")
     s.add("A40E", "R10")
     s.add("A4FF", "R10")
-    for line in ("A40000", "A40E0E", "A4000E", "A4000000", "A4" + "0E" * 1599, "A4" + "0E" * 1600, "A4 ", "A4\r", "A40", "A400E"):
+    for line in ("A40000", "A40E0E", "A4000E", "A4000000", "A4" + "0E" * 1599, "A4" + "0E" * 1600, "A4 ", "A4\r", "A40",
+                 "A400E"):
         s.add(line, "R9", "not so many bytes behind A4")
     s.add(start_timer(2, "000010"), began(2))
     s.add(second(), "--")
@@ -457,14 +459,15 @@ def make_profiles():
 def some_time(rng):
     """A time: mostly of few seconds, or at the bounds, or any; seldom one that is none."""
     few = "0000" + swapped(rng.between(1, 12))
-    return rng.pick([few, few, few, few, "001000", "001010", "000100", "100000", "329595", "000000", "006000", "42" "0000",
+    return rng.pick([few, few, few, few, "001000", "001010", "000100", "100000", "329595", "000000", "000600", "420000",
                      swapped(rng.below(24)) + swapped(rng.below(60)) + swapped(rng.between(1, 59)), rng.bytes(3).hex()])
 
 
 def timer_line(rng):
     """A timer command for one of the numbers 0 to 9, mostly of 1 to 8."""
     n, q = rng.pick([rng.between(1, 8)] * 9 + [rng.below(10)]), 4 * rng.pick([0, 0, 0, rng.below(64)])
-    extra = [obj(rng.pick([0x25, 0x25, 0xA5, 0x5E, 0xDE, 0x24]), rng.bytes(rng.pick([3, 3, 0, 1])))] if rng.below(8) == 0 else []
+    other = obj(rng.pick([0x25, 0x25, 0xA5, 0x5E, 0xDE, 0x24]), rng.bytes(rng.pick([3, 3, 0, 1])))
+    extra = [other] if rng.below(8) == 0 else []
     return rng.pick([start_timer(n, some_time(rng), *extra, q=q)] * 4 + [stop_timer(n, *extra, q=q + 1)]
                     + [ask_timer(n, *extra, q=q + 2)] * 3 + [timer(q + rng.below(4), n, *extra)])
 

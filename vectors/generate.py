@@ -1521,7 +1521,7 @@ STOPPED_1 = "=810301270182028281830100" "240101" "2503005000"
 
 def told(n, time, q=2, result=0):
     """The answer to a stop or an ask of a timer that runs."""
-    return "=810301%02X%02X" "82028281" "8301%02X" "2401%02X" "2503%s" % (0x27, q, result, n, time)
+    return "=81030127%02X" "82028281" "8301%02X" "2401%02X" "2503%s" % (q, result, n, time)
 
 
 def swapped(number):
@@ -1546,7 +1546,8 @@ def make_timers_actions():
         s.add(stop_timer(1, q=q + 1), told(1, FIVE_MINUTES, q + 1))
         s.add(stop_timer(1, q=q + 1), "=81030127%02X82028281830124" % (q + 1))
         s.add(ask_timer(1, q=q + 2), "=81030127%02X82028281830124" % (q + 2))
-    s.add(cmd(0x27, obj(0xA4, "01"), obj(0xA5, "005000"), num=0xFE), "=8103FE270082028281830100" "240101", "the number is echoed")
+    s.add(cmd(0x27, obj(0xA4, "01"), obj(0xA5, "005000"), num=0xFE), "=8103FE270082028281830100" "240101",
+          "the number is echoed")
     s.add(cmd(0x27, obj(0xA4, "01"), q=2, num=0), "=810300270282028281830100" "240101" "2503005000")
 
 
@@ -1569,11 +1570,13 @@ def make_timers_objects():
     for number in (0x04, 0x05, 0x19, 0x1E, 0x26, 0x35, 0x36, 0x37, 0x38, 0x39, 0x3C, 0x3E, 0x47):
         s.add(start_timer(1, FIVE_MINUTES, obj(number, "41")), "01", "%02X has no place here" % number)
         s.add(start_timer(1, FIVE_MINUTES, obj(number | 0x80, "41")), "32")
-    s.add(start_timer(2, FIVE_MINUTES, obj(0x24, "03")), "=810301270082028281830101" "240102", "a second 24: the first counts")
+    s.add(start_timer(2, FIVE_MINUTES, obj(0x24, "03")), "=810301270082028281830101" "240102",
+          "a second 24: the first counts")
     s.add(ask_timer(3), "24", "the second one started nothing")
     s.add(start_timer(2, FIVE_MINUTES, obj(0x24)), "01", "a second 24 has no length rule")
     s.add(start_timer(2, FIVE_MINUTES, obj(0xA4, "02")), "32", "a second 24, flagged")
-    s.add(start_timer(2, "100000", obj(0x25, "200000")), "=810301270082028281830101" "240102", "a second 25: the first counts")
+    s.add(start_timer(2, "100000", obj(0x25, "200000")), "=810301270082028281830101" "240102",
+          "a second 25: the first counts")
     s.add(ask_timer(2), told(2, "100000"))
     s.add(start_timer(2, FIVE_MINUTES, obj(0x25, "FF")), "01", "a second 25 has neither length nor digits")
     s.add(ask_timer(2), told(2, FIVE_MINUTES))
