@@ -22,7 +22,7 @@ extern "C" {
 #define POMERASSOL_ASSERT _Static_assert
 #endif
 
-/* A number that a call returns is the count of bytes written, at most 1500, or this flag plus the refusal's number: 1 to 9, 11 or 12. */
+/* A number that a call returns is the count of bytes written, at most 1500, or this flag plus the refusal's number: 1 to 12. */
 #define POMERASSOL_REFUSED UINT32_C(0x1000000)
 
 /* The link of a channel, by its number. */
@@ -34,11 +34,13 @@ extern "C" {
 #define POMERASSOL_STREAM 0
 #define POMERASSOL_DATAGRAMS 1
 
-/* The ledger is 282 numbers. Here is the place of each:
+/* The ledger is 330 numbers. Here is the place of each:
  *   - from 0 to 12 the kept bytes of the profile, each at most 255;
  *   - 13 and 14 the event list: whether 09, data available, and 0A, channel status, are listed. Each is 0 or 1;
  *   - 15 the cells that are promised to no channel, 256 at the start;
- *   - from 16 on 38 numbers for each of the channels 1 to 7, in this order: its grant (0 where it is not open), its link,
+ *   - from 16 on 6 numbers for each of the timers 1 to 8: hours, minutes and seconds that are left, and those that it was
+ *     started with. All are 0 where it neither runs nor waits, and the first three where it waits;
+ *   - from 64 on 38 numbers for each of the channels 1 to 7, in this order: its grant (0 where it is not open), its link,
  *     the bytes held for receive, the bytes held for send, how many of those to send are ready, and what it carries; then
  *     16 lengths of the datagrams held for receive, and 16 of the finished ones held for send, oldest first, 0 where there
  *     is none. The bytes to send that are not ready are those of the unfinished datagram. */
@@ -48,7 +50,10 @@ extern "C" {
 #define POMERASSOL_EVENT_STATUS 14
 #define POMERASSOL_FREE_CELLS 15
 #define POMERASSOL_PLACES 16
-#define POMERASSOL_CHANNEL(n) (16 + 38 * ((n) - 1))
+#define POMERASSOL_TIMER(n) (16 + 6 * ((n) - 1))
+#define POMERASSOL_TIME_LEFT(n) (POMERASSOL_TIMER(n) + 0)
+#define POMERASSOL_TIME_STARTED(n) (POMERASSOL_TIMER(n) + 3)
+#define POMERASSOL_CHANNEL(n) (64 + 38 * ((n) - 1))
 #define POMERASSOL_GRANT(n) (POMERASSOL_CHANNEL(n) + 0)
 #define POMERASSOL_LINK(n) (POMERASSOL_CHANNEL(n) + 1)
 #define POMERASSOL_RX(n) (POMERASSOL_CHANNEL(n) + 2)
@@ -60,14 +65,15 @@ extern "C" {
 
 /* What a host keeps for a card. Every held byte lies in the pool; a host reads the record if it likes, and never writes it. */
 typedef struct {
-    uint16_t ledger[282];
+    uint16_t ledger[330];
     uint8_t pool[8192];
 } pomerassol_session;
 
-POMERASSOL_ASSERT(sizeof(pomerassol_session) == 8756, "session");
+POMERASSOL_ASSERT(sizeof(pomerassol_session) == 8852, "session");
 POMERASSOL_ASSERT(offsetof(pomerassol_session, ledger) == 0, "ledger");
-POMERASSOL_ASSERT(offsetof(pomerassol_session, pool) == 564, "pool");
-POMERASSOL_ASSERT(POMERASSOL_TX_LENGTHS(7) + POMERASSOL_PLACES == 282, "lengths");
+POMERASSOL_ASSERT(offsetof(pomerassol_session, pool) == 660, "pool");
+POMERASSOL_ASSERT(POMERASSOL_TX_LENGTHS(7) + POMERASSOL_PLACES == 330, "lengths");
+POMERASSOL_ASSERT(POMERASSOL_TIME_STARTED(8) + 3 == POMERASSOL_CHANNEL(1), "timers");
 
 /* What was gathered of a command so far: its bytes, 0 behind them, and their count. A host reads it if it likes, and never
  * writes it. */
@@ -80,7 +86,7 @@ POMERASSOL_ASSERT(sizeof(pomerassol_gathered) == 257, "gathered");
 POMERASSOL_ASSERT(offsetof(pomerassol_gathered, count) == 256, "count");
 
 /* A fresh session from profile bytes of any length; at a card's reset, anew. The record may hold anything, as memory that is
- * all 0. Afterwards it shows `start` of the profile: no channel, no event, an empty pool, every cell unpromised. */
+ * all 0. Afterwards it shows `start` of the profile: no channel, no event, no timer, an empty pool, every cell unpromised. */
 void pomerassol_start(pomerassol_session *s, const uint8_t *profile, size_t profile_size);
 
 /* The card sends a command. The answer is `command` of the session, the buffer's size and the bytes: the response that the
@@ -101,6 +107,14 @@ uint32_t pomerassol_take(pomerassol_session *s, uint8_t channel, uint8_t *out, s
 /* The radio tells that the link of a channel was dropped. The answer is `dropping`: the link is dropped, what is held stays,
  * and event 0A, 13 bytes, tells of it where it is listed. R1 where the buffer has fewer than 16 bytes, then R3 to R5. */
 uint32_t pomerassol_drop(pomerassol_session *s, uint8_t channel, uint8_t *out, size_t out_size);
+
+/* A second has passed. The session is that of `passing`: every timer that runs loses a second, and one that comes to zero
+ * stops and waits. Nothing is written and nothing is refused. */
+void pomerassol_second(pomerassol_session *s);
+
+/* The envelope of the lowest timer that waits, 14 bytes with the time that it was started with; then it waits no more. The
+ * answer is `enveloping`. R1 where the buffer has fewer than 14 bytes, then R10 where no timer waits. */
+uint32_t pomerassol_envelope(pomerassol_session *s, uint8_t *out, size_t out_size);
 
 /* What command is at hand, from its outer head and its first object alone: number times 10000 plus type times 100 plus
  * qualifier, all hexadecimal, which are the details that the answer to the same bytes has; 0 where the outer frame is wrong,

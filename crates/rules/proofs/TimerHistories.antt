@@ -13,12 +13,12 @@ use Rattle.rules.specs.Checks.{_⇒_else_, every}
 use Rattle.rules.specs.Timers.{Timer, idle, running, waiting, timerCount, isTimer, actionOf, timeIn, isZero, isTime, lessSecond, runsOn, ticked, beforeWaiting, isWaiting, timeBytes, ofDay, startedOf, isDigits}
 use Rattle.rules.specs.State.{State, start, timer, withTimers, withTimer, withChan, Chan, fresh, closed}
 use Rattle.rules.specs.Sound.{Sound}
-use Rattle.rules.specs.TimerHistory.{secondsOf, clockTime, Since, unset, since, oneSecond, timerBy, setsAfter, envelopeTimer, answerSets, heardSets, timeSet, since-of, waits, setWith, setsFrom, runs, NoneWaiting, LowestWaiting, leftBy}
+use Rattle.rules.specs.TimerHistory.{secondsOf, clockTime, Since, unset, since, oneSecond, timerBy, setsAfter, envelopeTimer, answerSets, heardSets, timeSet, since-of, waits, setWith, setsFrom, runs, NoneWaiting, LowestWaiting, leftBy, tellsTimer, touchesTimer}
 use Rattle.rules.proofs.Laws.{branch, stop, skip, both, both-left, both-right, each-get, and-false, each-replicate}
 use Rattle.rules.proofs.Timers.{OfDay, time-day}
 use Rattle.rules.specs.Reading.{closeChannel, Command, reading, Body, bare, Reading, commandIn, eventList, openChannel, receiveData, sendData, startTimer, manageTimer}
-use Rattle.rules.specs.Own.{listed, own, Reply, Result, protocolOf, carriedBy, tellsLeft, managingTimer, startingTimer, done, plain, leaves, error, started, reply}
-use Rattle.rules.specs.Command.{Meant, meantBy, Answer, Terms, command, wrote, refused}
+use Rattle.rules.specs.Own.{nothing, listed, own, Reply, Result, protocolOf, carriedBy, tellsLeft, managingTimer, startingTimer, done, plain, leaves, error, started, reply, problem, opened, received, sent, reports}
+use Rattle.rules.specs.Command.{Meant, meantBy, Answer, Terms, command, wrote, refused, Outcome}
 use Rattle.rules.specs.History.{commandSeen, seenFrom}
 use Rattle.rules.specs.Run.{Call, step, starting, commanding, radio, timing, after}
 use Rattle.rules.specs.declared.ChannelNumber.{ChannelNumber}
@@ -30,11 +30,12 @@ use Rattle.rules.proofs.Cases.{command-cases, telling-cases, arrival-ca
 use Rattle.rules.proofs.Heard.{modem-heard}
 use Rattle.rules.specs.Radio.{arrives, takes, drops}
 use Rattle.rules.specs.Words.{channelOf}
-use Rattle.rules.specs.Demands.{reached, next, Passed, latest, answerTo}
+use Rattle.rules.specs.Demands.{reached, next, Passed, latest, answerTo, resultTold, heard}
 use Rattle.rules.proofs.Soundness.{start-sound, reached-sound, step-sound}
 use Rattle.rules.specs.declared.Refusal.the-variants.{ShortBuffer, NoneWaits}
 use mathlib.Core.Option.{some}
 use Rattle.rules.proofs.Outside.{own-heard}
+use Rattle.rules.specs.Bench.{Told, told, untold, benchRead}
 
 -- the seconds of a time, there and back
 pub clock-back : (t : Time) → OfDay t → clockTime (secondsOf t) ≡ t
@@ -465,3 +466,39 @@ module _ (p : List ℕ) (cs : List Call) where
           first-at (reached p cs .timers) (n - 1) (omega (arith, eight, low .from, low .upto))
           (waits-told (n - 1) (omega (arith, low .from, low .upto)) ∙ ap (λ (j : ℕ). waits (seen j)) at ∙ low .waits-it)
           (λ j l. waits-told j (omega (arith, low .upto)) ∙ low .below (j + 1) (omega arith) (omega (arith, low .from)))
+
+-- a call that does not touch a timer tells nothing of it
+untouched-answer : (n : ℕ) (x : Since) (c : Command) (r : Result) → tellsTimer n (some r) ≡ false → answerSets n x c r ≡ x
+unfolding answerSets tellsTimer
+untouched-answer n x c (error e) h = refl
+untouched-answer n x c (problem cause) h = refl
+untouched-answer n x c (done r nothing) h = refl
+untouched-answer n x c (done r (opened s b g)) h = refl
+untouched-answer n x c (done r (received s left)) h = refl
+untouched-answer n x c (done r (sent room)) h = refl
+untouched-answer n x c (done r (started m)) h = skip _ _ _ h
+untouched-answer n x c (done r (leaves m t)) h = skip _ _ _ (ap (λ (b : Bool). b && eqb (actionOf (c .qualifier)) 1) h)
+untouched-answer n x c (done r (reports s)) h = refl
+
+untouched-heard : (n : ℕ) (x : Since) (c : Command) (t : Told) → tellsTimer n (resultTold t) ≡ false → heardSets n x c t ≡ x
+unfolding heardSets resultTold
+untouched-heard n x c (told r) h = untouched-answer n x c (r .result) h
+untouched-heard n x c (untold r) h = refl
+
+untouched-sets : (n : ℕ) (x : Since) (c : Call) (o : Outcome) → touchesTimer n c o ≡ false → setsAfter n x c o ≡ x
+unfolding setsAfter touchesTimer heard
+untouched-sets n x (starting p) o h = absurd (true≢false h)
+untouched-sets n x (commanding terms s) (wrote t) h = untouched-heard n x (commandSeen s) (benchRead t) h
+untouched-sets n x (commanding terms s) (refused r) h = refl
+untouched-sets n x (radio buffer m act) o h = refl
+untouched-sets n x (timing second) o h = absurd (true≢false h)
+untouched-sets n x (timing (envelope buffer)) (wrote t) h = skip _ _ _ h
+untouched-sets n x (timing (envelope buffer)) (refused r) h = refl
+
+-- a call that does not touch a timer leaves what is told of it, and the timer
+pub timers-keep :
+    (n : ℕ) (p : List ℕ) (cs : List Call) (c : Call) → isTimer n ≡ true → touchesTimer n c (step (reached p cs) c .outcome) ≡ false →
+    (since-of n p (next cs c) ≡ since-of n p cs) × (timer (reached p (next cs c)) n ≡ timer (reached p cs) n)
+timers-keep n p cs c e h =
+    let same = since-next n p cs c ∙ untouched-sets n (since-of n p cs) c (step (reached p cs) c .outcome) h in
+    (same, timer-told n p (next cs c) e .is ∙ ap timerBy same ∙ sym (timer-told n p cs e .is))

@@ -24,7 +24,7 @@ pub mod Input
 pub mod Run
 pub mod History
 pub mod Acts
-pub mod TimerHistory
 pub mod Demands
+pub mod TimerHistory
 pub mod Sound
 pub mod Numbers

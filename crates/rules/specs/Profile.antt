@@ -36,6 +36,14 @@ pub types-by-bit :
 unfolding allowsType bit _⇒_else_
 types-by-bit = refl
 
+-- a profile with the first of byte 8's bits alone, and one with the second alone, against a start, a stop, an ask and value 3
+pub timers-by-bit :
+    map (λ (p : List ℕ). map (λ (q : ℕ). allowsType p (record { number = 1; kind = 0x27; qualifier = q })) (0 ∷ 1 ∷ 2 ∷ 3 ∷ []))
+    ((replicate 7 0 ++ 0x01 ∷ []) ∷ (replicate 7 0 ++ 0x02 ∷ []) ∷ []) ≡
+    (true ∷ true ∷ false ∷ true ∷ []) ∷ (false ∷ false ∷ true ∷ false ∷ []) ∷ []
+unfolding allowsType actionOf bit _⇒_else_
+timers-by-bit = refl
+
 -- the events: byte 6 bits 3 and 4 for 09 and 0A
 unfoldable pub allowsEvent : List ℕ → ℕ → Bool
 allowsEvent p e =

@@ -8,7 +8,7 @@ use lib.Dec.{ltb, eqb}
 use Rattle.rules.specs.declared.Details.{Details}
 use Rattle.rules.specs.Checks.{_⇒_else_, isEmpty, every, some-of, occurrences, member}
 use Rattle.rules.specs.Frames.{Object}
-use Rattle.rules.specs.Timers.{isStart}
+use Rattle.rules.specs.Timers.{actionOf, isStart}
 
 -- a row: the type, the objects required, those that may also stand, and those of which two may stand
 pub record Row : Type 0 where
@@ -61,6 +61,11 @@ times r n =
 pub times-40 : map (times (rowAmong 0x40 table)) (0x39 ∷ 0x3C ∷ 0x04 ∷ 0x37 ∷ []) ≡ 1 ∷ 1 ∷ 2 ∷ 0 ∷ []
 unfolding times rowAmong table member some-of _⇒_else_
 times-40 = refl
+
+-- a time may stand in the start of a timer, and not in a stop, an ask or value 3
+pub times-27 : map (λ (q : ℕ). times (rowOf (record { number = 1; kind = 0x27; qualifier = q })) 0x25) (0 ∷ 1 ∷ 2 ∷ 3 ∷ 4 ∷ []) ≡ 1 ∷ 0 ∷ 0 ∷ 0 ∷ 1 ∷ []
+unfolding times rowOf rowAmong table isStart actionOf member some-of _⇒_else_
+times-27 = refl
 
 -- the objects that count, and those that are unexpected
 pub record Sifted : Type 0 where

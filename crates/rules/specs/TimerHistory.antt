@@ -16,6 +16,7 @@ use Rattle.rules.specs.Bench.{Told, told, untold, benchRead}
 use Rattle.rules.specs.TimerCalls.{second, envelope}
 use Rattle.rules.specs.Run.{Call, starting, commanding, radio, timing}
 use Rattle.rules.specs.State as state
+use Rattle.rules.specs.Demands.{heard}
 use Rattle.rules.specs.History.{Exchange, commandSeen, seenFrom}
 
 -- a time in seconds, and the time of so many seconds
@@ -131,3 +132,12 @@ tellsTimer n (some (done r (sent room))) = false
 tellsTimer n (some (done r (started m))) = eqb n m
 tellsTimer n (some (done r (leaves m t))) = eqb n m
 tellsTimer n (some (done r (reports s))) = false
+
+-- a call may change the timer n: a start, a second, a command whose answer tells of it, and an envelope of it
+unfoldable pub touchesTimer : ℕ → Call → Outcome → Bool
+touchesTimer n (starting p) o = true
+touchesTimer n (commanding terms s) o = tellsTimer n (heard o)
+touchesTimer n (radio buffer m act) o = false
+touchesTimer n (timing second) o = true
+touchesTimer n (timing (envelope buffer)) (wrote t) = eqb n (envelopeTimer t)
+touchesTimer n (timing (envelope buffer)) (refused r) = false

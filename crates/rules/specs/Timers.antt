@@ -52,6 +52,10 @@ pub swapped-of : map swapped (0 ∷ 5 ∷ 23 ∷ 59 ∷ []) ≡ 0x00 ∷ 0x50 �
 unfolding swapped
 swapped-of = refl
 
+-- a time of so many hours, minutes and seconds
+abbrev pub time : ℕ → ℕ → ℕ → Time
+time h m s = record { hours = h; minutes = m; seconds = s }
+
 -- hours, minutes and seconds, a byte each
 unfoldable pub timeIn : List ℕ → Time
 timeIn v = record { hours = unswapped (getD v 0 0); minutes = unswapped (getD v 1 0); seconds = unswapped (getD v 2 0) }
@@ -69,6 +73,12 @@ isZero t = eqb (t .hours) 0 && eqb (t .minutes) 0 && eqb (t .seconds) 0
 -- from one second up to 23:59:59
 unfoldable pub isTime : Time → Bool
 isTime t = ofDay t && not (isZero t)
+
+-- the last time of a day, and each bound passed; a second, and none
+pub times-of :
+    map isTime (time 23 59 59 ∷ time 24 0 0 ∷ time 0 60 0 ∷ time 0 0 60 ∷ time 0 0 1 ∷ time 0 0 0 ∷ []) ≡ true ∷ false ∷ false ∷ false ∷ true ∷ false ∷ []
+unfolding isTime ofDay isZero
+times-of = refl
 
 abbrev pub noTime : Time
 noTime = record { hours = 0; minutes = 0; seconds = 0 }
