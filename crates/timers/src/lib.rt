@@ -199,14 +199,14 @@ fn before_waiting(ledger: &[u16; Ledger::SIZE], pool: &[u8; Pool::SIZE]) -> usiz
     requires { ⌜ GoodIn (now ledger) (now pool) ⌝ }
     ensures { λ r. ⌜ r ≡ beforeWaiting (shown (now (ledger .entry)) (now (pool .entry)) .timers) ⌝ }
 {
-    let mut k: usize = 0;
-    while k < Ledger::TIMERS {
-        if waits(ledger, place_of(k)) {
-            return k;
+    let mut i: usize = 0;
+    while i < Ledger::TIMERS {
+        if waits(ledger, place_of(i)) {
+            return i;
         }
-        k += 1;
+        i += 1;
     }
-    k
+    i
 }
 
 // Writes the envelope of a timer, with the time that it was started with.
@@ -250,9 +250,9 @@ pub fn envelope_in(
     if k == Ledger::TIMERS {
         return Ended::Refused(Refusal::NoneWaits);
     }
-    let at = place_of(k);
-    let from = time_at(ledger, at + 3);
-    put_timer(ledger, at, NO_TIME, NO_TIME);
+    let place = place_of(k);
+    let from = time_at(ledger, place + 3);
+    put_timer(ledger, place, NO_TIME, NO_TIME);
     tell_envelope(out, (k + 1) as u8, from);
     Ended::Wrote(Limits::ENVELOPE)
 }
