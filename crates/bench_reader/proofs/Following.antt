@@ -16,6 +16,7 @@ use Rattle.rules.specs.declared.Link.the-variants.{NotYet, Established, Dropped
 use Rattle.rules.specs.Checks.{_⇒_else_, isEmpty, some-of, member}
 use Rattle.rules.specs.Results.{dataCap}
 use Rattle.rules.specs.Frames.{walk}
+use Rattle.rules.specs.Timers.{isStart}
 use Rattle.rules.specs.State.{isDropped}
 use Rattle.rules.specs.Pool.{grantCap}
 use Rattle.rules.specs.Reading.{pairIn, bearerIn}
@@ -213,7 +214,7 @@ module _ (d : Details) (x : ℕ) (s : List ℕ) (at : ℕ) {r : One} (m : Single
   unfolding followed furtherIn furtherProper furtherObjects _⇒_else_ valueAt resultOf furtherOf
   room-fits {y} e u = let h = byte-there e m in hears-as (rw (h .walked) (rw (le-leb y 255 u) (step-on h (named (omega arith)) _ _ _ refl)))
 
--- nothing, and a type that is none of the seven
+-- nothing, and a type that is none of the table
 module _ (d : Details) (x : ℕ) (s t : List ℕ) where
   pub followed-as : {r : Heard} (k j : ℕ) → k ≡ j → Hears (followed d j x t) s r → Hears (followed d k x t) s r
   followed-as {r} k j e h = subst (λ (i : ℕ). Hears (followed d i x t) s r) (sym e) h
@@ -222,13 +223,13 @@ module _ (d : Details) (x : ℕ) (s t : List ℕ) where
   module _ (k : ℕ) {b : Bool} (u : b ≡ member k unfollowed) where
     pub plain-fits :
         {r : Heard} → b ≡ true → Hears (checked true [] t (record { details = d; result = resultOf (Done x Plain) s })) s r → Hears (followed d k x t) s r
-    unfolding followed furtherIn furtherProper furtherObjects member some-of _⇒_else_ resultOf furtherOf
+    unfolding followed furtherIn furtherProper furtherObjects isStart member some-of _⇒_else_ resultOf furtherOf
     plain-fits {r} e h =
         each-member (λ (j : ℕ). Hears (followed d j x t) s r) k unfollowed (h, (h, (h, tt))) (sym u ∙ e)
 
-    pub none-follows : b ≡ false → (k ≡ 0x40 → ⊥) → (k ≡ 0x42 → ⊥) → (k ≡ 0x43 → ⊥) → (k ≡ 0x44 → ⊥) → Hears (followed d k x t) s Silence
-    unfolding followed furtherIn furtherProper furtherObjects _⇒_else_
-    none-follows e a c f g =
+    pub none-follows : b ≡ false → (k ≡ 0x27 → ⊥) → (k ≡ 0x40 → ⊥) → (k ≡ 0x42 → ⊥) → (k ≡ 0x43 → ⊥) → (k ≡ 0x44 → ⊥) → Hears (followed d k x t) s Silence
+    unfolding followed furtherIn furtherProper furtherObjects isStart _⇒_else_
+    none-follows e h a c f g =
         let z : followed d k x t ≡ checked false [] t (record { details = d; result = done x nothing }) =
-        simp (ne-eqb k 0x40 a, ne-eqb k 0x42 c, ne-eqb k 0x43 f, ne-eqb k 0x44 g, sym u ∙ e) in
+        simp (ne-eqb k 0x40 a, ne-eqb k 0x42 c, ne-eqb k 0x43 f, ne-eqb k 0x44 g, ne-eqb k 0x27 h, sym u ∙ e) in
         hears-as z (silent _ _ _ _ (λ q _. false≢true q))

@@ -18,7 +18,7 @@ use Rattle.rules.proofs.Laws.{stop, skip, either-left, either-right}
 use Rattle.bench_reader.proofs.Standing.{and-true}
 
 -- a test that cannot fail
-sure : (b : Bool) → (b ≡ false → ⊥) → true ≡ b
+pub sure : (b : Bool) → (b ≡ false → ⊥) → true ≡ b
 sure true h = refl
 sure false h = absurd (h refl)
 

@@ -41,7 +41,7 @@ successes = 0x00 ∷ 0x01 ∷ 0x02 ∷ 0x07 ∷ []
 module _ (d : Details) (s : List ℕ) (at : ℕ) {r : One} {x : ℕ} {next : Cursor} (m : Single r s at 0x03 true) (e : r ≡ one.Byte x next) where
   by-byte :
       {y : Heard} → let t = drop (next .at) s in
-      (x ≡ 0x3A → Taken d x t s y (problem 0)) → (member x successes ≡ true → Taken d x t s y (done x (furtherIn (d .kind) (walk t .objects)))) →
+      (x ≡ 0x3A → Taken d x t s y (problem 0)) → (member x successes ≡ true → Taken d x t s y (done x (furtherIn d (walk t .objects)))) →
       (member x successes ≡ false → Taken d x t s y (error x)) → Hears (resulted d (drop at s)) s y
   unfolding resulted resultIn valueAt
   by-byte {y} a b c =

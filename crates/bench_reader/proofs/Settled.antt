@@ -7,13 +7,13 @@ use native.Mathlib.Omega.{arith}
 use lib.ListN.{length, drop, length-drop}
 use Rattle.rules.specs.Reading.{bearerIn}
 use Rattle.rules.specs.Own as own
-use Rattle.rules.specs.Own.{Result, error, problem, done, opened, received, sent, statuses, reports, nothing}
+use Rattle.rules.specs.Own.{Result, error, problem, done, opened, received, sent, started, leaves, statuses, reports, nothing}
 use Rattle.rules.specs.Bench.{Told, told, untold}
 use Rattle.octets.specs.Parts.{part}
 use Rattle.octets.proofs.Copies.{length-part}
 use Rattle.outcomes.specs.Determined.{Determined}
 use Rattle.bench_reader.specs.declared.Further.{Further}
-use Rattle.bench_reader.specs.declared.Further.the-variants.{Plain, Opened, Received, Sent, Statuses}
+use Rattle.bench_reader.specs.declared.Further.the-variants.{Plain, Opened, Received, Sent, Started, Leaves, Statuses}
 use Rattle.bench_reader.specs.declared.Verdict.{Verdict}
 use Rattle.bench_reader.specs.declared.Verdict.the-variants.{Error, Problem, Done}
 use Rattle.bench_reader.specs.declared.Heard.{Heard}
@@ -34,6 +34,8 @@ further-in nothing n = Plain
 further-in (opened st b g) n = let k = length (b .parameters) + 1 in Opened (st .number) (st .link) (n - 4 - k) k g
 further-in (received v left) n = Received (n - 3 - length v) (length v) left
 further-in (sent room) n = Sent room
+further-in (started k) n = Started k
+further-in (leaves k left) n = Leaves k left
 further-in (reports (statuses ss)) n = Statuses (n - 4 * length ss) (length ss)
 
 further-back : (f : Further) (s : List ℕ) → FurtherAt f s → further-in (furtherOf f s) (length s) ≡ f
@@ -51,6 +53,8 @@ further-back (Received start len left) s h =
     let a : length s - 3 - len ≡ start = omega (arith, h) in
     λ i. Received ((ap (λ (m : ℕ). length s - 3 - m) k ∙ a) i) (k i) left
 further-back (Sent room) s h = refl
+further-back (Started n) s h = refl
+further-back (Leaves n left) s h = refl
 further-back (Statuses start count) s h =
     let k = count-back count (drop start s) in
     let a : length s - 4 * count ≡ start = omega (arith, h) in

@@ -6,11 +6,11 @@ use lib.ListN.{length, drop}
 use Rattle.rules.specs.declared.Refusal.the-variants.{NoResponse}
 use Rattle.rules.specs.Reading.{bearerIn}
 use Rattle.rules.specs.Own as own
-use Rattle.rules.specs.Own.{Status, Result, error, problem, done, opened, received, sent, statuses, reports, nothing}
+use Rattle.rules.specs.Own.{Status, Result, error, problem, done, opened, received, sent, started, leaves, statuses, reports, nothing}
 use Rattle.rules.specs.Bench.{Told, told, untold, statusIn}
 use Rattle.octets.specs.Parts.{part}
 use Rattle.bench_reader.specs.declared.Further.{Further}
-use Rattle.bench_reader.specs.declared.Further.the-variants.{Plain, Opened, Received, Sent, Statuses}
+use Rattle.bench_reader.specs.declared.Further.the-variants.{Plain, Opened, Received, Sent, Started, Leaves, Statuses}
 use Rattle.bench_reader.specs.declared.Verdict.{Verdict}
 use Rattle.bench_reader.specs.declared.Verdict.the-variants.{Error, Problem, Done}
 use Rattle.bench_reader.specs.declared.Heard.{Heard}
@@ -27,6 +27,8 @@ furtherOf Plain s = nothing
 furtherOf (Opened n link start len grant) s = opened (record { number = n; link = link }) (bearerIn (part start (start + len) s)) grant
 furtherOf (Received start len left) s = received (part start (start + len) s) left
 furtherOf (Sent room) s = sent room
+furtherOf (Started n) s = started n
+furtherOf (Leaves n left) s = leaves n left
 furtherOf (Statuses start count) s = reports (statuses (statusesAt count (drop start s)))
 
 unfoldable pub resultOf : Verdict → List ℕ → Result
@@ -45,6 +47,8 @@ FurtherAt Plain s = Unit {0}
 FurtherAt (Opened n link start len grant) s = (1 ≤ len) × (start + len + 4 ≡ length s)
 FurtherAt (Received start len left) s = start + len + 3 ≡ length s
 FurtherAt (Sent room) s = Unit {0}
+FurtherAt (Started n) s = Unit {0}
+FurtherAt (Leaves n left) s = Unit {0}
 FurtherAt (Statuses start count) s = start + 4 * count ≡ length s
 
 abbrev pub VerdictAt : Verdict → List ℕ → Type 0

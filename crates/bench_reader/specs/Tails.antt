@@ -9,10 +9,11 @@ use Rattle.rules.specs.declared.Details.{Details}
 use Rattle.rules.specs.declared.Refusal.the-variants.{NoResponse}
 use Rattle.rules.specs.Checks.{_⇒_else_, same}
 use Rattle.rules.specs.Frames.{Object, object, objectAt, walk, objectBytes, written}
+use Rattle.rules.specs.Timers.{timeIn, isTime}
 use Rattle.rules.specs.Pool.{grantCap}
 use Rattle.rules.specs.Reading.{pairIn, bearerIn}
-use Rattle.rules.specs.Own.{Status, opened, statuses, reports, done}
-use Rattle.rules.specs.Written.{Response, flagged, unflagged, pairBytes, bearerBytes, statusObject, furtherObjects, resultBytes, resultObjects}
+use Rattle.rules.specs.Own.{Status, opened, leaves, statuses, reports, done}
+use Rattle.rules.specs.Written.{Response, flagged, unflagged, pairBytes, bearerBytes, statusObject, timeObject, furtherObjects, resultBytes, resultObjects}
 use Rattle.rules.specs.Bench.{bearerProper, rising, furtherProper, resultProper, valueAt, statusIn, furtherIn, resultIn, Told, told, untold}
 use Rattle.objects.specs.Places.{objectOf}
 use Rattle.bench_reader.specs.declared.Value.{Value}
@@ -91,14 +92,18 @@ checked b os t r = b && same (written os) t ⇒ told r else untold NoResponse
 unfoldable pub resulted : Details → List ℕ → Told
 resulted d t =
     let os = walk t .objects in
-    let x = resultIn (d .kind) (valueAt os 0) (drop 1 os) in
+    let x = resultIn d (valueAt os 0) (drop 1 os) in
     checked (resultProper d x) (flagged 0x03 (resultBytes x) ∷ resultObjects x) t (record { details = d; result = x })
+
+-- details, but of type k
+abbrev pub ofType : Details → ℕ → Details
+ofType d k = record { number = d .number; kind = k; qualifier = d .qualifier }
 
 -- behind the result x of a command of type k that succeeded
 unfoldable pub followed : Details → ℕ → ℕ → List ℕ → Told
 followed d k x t =
-    let f = furtherIn k (walk t .objects) in
-    checked (furtherProper k f) (furtherObjects f) t (record { details = d; result = done x f })
+    let f = furtherIn (ofType d k) (walk t .objects) in
+    checked (furtherProper (ofType d k) f) (furtherObjects f) t (record { details = d; result = done x f })
 
 -- behind the status of an opened channel: the bearer and the grant
 unfoldable pub borne : Details → ℕ → Status → List ℕ → Told
@@ -108,6 +113,12 @@ borne d x st t =
     let g = pairIn (valueAt os 1) in
     checked (bearerProper b && leb 1 g && leb g grantCap) (unflagged 0x35 (bearerBytes b) ∷ unflagged 0x39 (pairBytes g) ∷ []) t
     (record { details = d; result = done x (opened st b g) })
+
+-- behind the timer n that was stopped or asked for: the time left
+unfoldable pub timed : Details → ℕ → ℕ → List ℕ → Told
+timed d x n t =
+    let v = timeIn (valueAt (walk t .objects) 0) in
+    checked (isTime v) (timeObject v ∷ []) t (record { details = d; result = done x (leaves n v) })
 
 -- statuses, at least one, that rise
 unfoldable pub listed : Details → ℕ → List ℕ → Told

@@ -8,8 +8,10 @@ use rules::Details;
 use rules::Limits;
 use rules::Link;
 use rules::Results;
+use rules::Time;
 use rules::is_known;
 use rules::lists;
+use times;
 ghost use mathlib.Core.Path.{_≡_};
 ghost use mathlib.Core.Bool.{true};
 ghost use mathlib.Core.List.{[], _∷_};
@@ -19,9 +21,22 @@ ghost use lib.Dec.{leb};
 ghost use Rattle.rules.specs.Checks.{member, same};
 ghost use Rattle.rules.specs.Reading.{pairIn};
 ghost use Rattle.rules.specs.Written.{pairBytes, detailsBytes};
-ghost use Rattle.rules.specs.Bench.{unfollowed, errorProper, causeProper, successProper, benchRead};
+ghost use Rattle.rules.specs.Bench.{unfollowed, asksLeft, errorProper, causeProper, successProper, benchRead};
 ghost use Rattle.bench_reader.specs.Heard.{resultOf, VerdictAt};
-ghost use Rattle.bench_reader.specs.Tails.{Tag, Misfit, Holder, Single, Double, ShownAt, sized, Hears, checked, resulted, followed, borne, listed};
+ghost use Rattle.bench_reader.specs.Tails.{Tag, Misfit, Holder, Single, Double, ShownAt, sized, Hears, checked, resulted, followed, timed, borne, listed};
+
+// What is done with a timer, by the two low bits of the qualifier: started, stopped, asked for, or nothing.
+const ACTIONS: u8 = 4;
+
+const START: u8 = 0;
+
+const STOP: u8 = 1;
+
+const ASK: u8 = 2;
+
+const NONE: u8 = 3;
+// How many timers there are.
+const TIMERS: u8 = 8;
 
 // What follows the result of a response. A bearer and data stand in the bytes that were read, from a place on and so long; statuses from a place on, four bytes each.
 pub enum Further {
@@ -29,6 +44,8 @@ pub enum Further {
     Opened(ChannelNumber, Link, usize, usize, u16),
     Received(usize, usize, u8),
     Sent(u8),
+    Started(u8),
+    Leaves(u8, Time),
     Statuses(usize, usize),
 }
 
@@ -125,11 +142,26 @@ fn is_zero(d: Details) -> bool
     d.qualifier == 0
 }
 
-// Whether an error can have these details: 30 the seven types, 31 others, 32 any, 36 the seven or zeros.
+// Whether a timer is stopped or asked for.
+fn asks_left(d: Details) -> bool
+    ensures { λ r. ⌜ r ≡ asksLeft d ⌝ }
+{
+    if d.kind != 0x27 {
+        return false;
+    }
+    let action = d.qualifier % ACTIONS;
+    if action == STOP {
+        return true;
+    }
+    action == ASK
+}
+
+// Whether an error can have these details: 24 a timer stopped or asked for, 30 the types of the table, 31 others, 32 any, 36 those of the table or zeros.
 fn fits_error(d: Details, e: u8) -> bool
     ensures { λ r. ⌜ r ≡ errorProper d e ⌝ }
 {
     match e {
+        Results::TIMER_CONTRADICTION => asks_left(d),
         Results::BEYOND_CAPABILITIES => is_known(d.kind),
         Results::TYPE_NOT_UNDERSTOOD => !is_known(d.kind),
         Results::DATA_NOT_UNDERSTOOD => true,
@@ -287,6 +319,53 @@ fn read_sent(s: &[u8], c: Cursor, d: Details, result: u8) -> Heard
     last(s, next, d, Verdict::Done(result, Further::Sent(room)))
 }
 
+// Reads the time that is left of a timer: three bytes of sound digits, from one second up to 23:59:59.
+fn read_left(s: &[u8], c: Cursor, d: Details, result: u8, n: u8) -> Heard
+    ensures { λ r. ⌜ Hears (timed d result n (drop (c .at) (now (s .entry)))) (now (s .entry)) r ⌝ }
+{
+    let Value::At(start, len, next) = object_of(s, c, 0x25) else {
+        return Heard::Silence;
+    };
+    if len != 3 {
+        return Heard::Silence;
+    }
+    let end = start + len;
+    if !times::all_digits(&s[start..end]) {
+        return Heard::Silence;
+    }
+    let left = times::time_in(&s[start..end]);
+    if !times::of_day(left) {
+        return Heard::Silence;
+    }
+    if times::is_zero(left) {
+        return Heard::Silence;
+    }
+    last(s, next, d, Verdict::Done(result, Further::Leaves(n, left)))
+}
+
+// Reads an answer to TIMER MANAGEMENT: the timer, 1 to 8, and what is left of one that was stopped or asked for.
+fn read_timer(s: &[u8], c: Cursor, d: Details, result: u8) -> Heard
+    ensures { λ r. ⌜ Hears (followed d 0x27 result (drop (c .at) (now (s .entry)))) (now (s .entry)) r ⌝ }
+{
+    let One::Byte(n, next) = byte_of(s, c, 0x24) else {
+        return Heard::Silence;
+    };
+    if n < 1 {
+        return Heard::Silence;
+    }
+    if TIMERS < n {
+        return Heard::Silence;
+    }
+    let action = d.qualifier % ACTIONS;
+    if action == START {
+        return last(s, next, d, Verdict::Done(result, Further::Started(n)));
+    }
+    if action == NONE {
+        return Heard::Silence;
+    }
+    read_left(s, next, d, result, n)
+}
+
 // Reads statuses that rise, up to the end.
 fn read_rising(s: &[u8], c: Cursor, d: Details, result: u8) -> Heard
     requires { ⌜ c .at ≤ length (now s) ⌝ }
@@ -344,6 +423,7 @@ fn read_further(s: &[u8], c: Cursor, d: Details, result: u8) -> Heard
         return last(s, c, d, Verdict::Done(result, Further::Plain));
     }
     match kind {
+        0x27 => read_timer(s, c, d, result),
         0x40 => read_opened(s, c, d, result),
         0x42 => read_received(s, c, d, result),
         0x43 => read_sent(s, c, d, result),
