@@ -23,18 +23,19 @@ ghost use mathlib.Core.Option.{some};
 ghost use Prim.Native.Nat.{ℕ, _+_, _-_, _*_, _≤_, _<_};
 ghost use lib.ListN.{length, drop, getD};
 ghost use Rattle.rules.specs.Frames.{walk};
-ghost use Rattle.rules.specs.Command.{wrote};
-ghost use Rattle.rules.specs.Lines.{printed};
+ghost use Rattle.rules.specs.Written.{unflagged};
 ghost use Rattle.rules.specs.Bench.{benchRead};
 ghost use Rattle.octets.specs.Parts.{part};
 ghost use Rattle.text.specs.Sizes.{frameCap};
 ghost use Rattle.text.specs.Prints.{Prints};
 ghost use Rattle.bench_writer.specs.Records.{bodyOf};
-ghost use Rattle.bench.specs.Printed.{room, commandRoom, objectsBehind, heardLine, bareBody, openingIn, bodyFor, commandFor, recordIn, recordLine, replyLine, benchLine};
+ghost use Rattle.bench.specs.Printed.{room, commandRoom, digitsText, objectText, objectsBehind, heardLine, bareBody, openingIn, bodyFor, commandFor, recordIn, recordLine, replyLine, benchLine};
 ghost use Rattle.bench.specs.Asks.{Asks};
 
 // Where the result of a response stands, behind its details and its devices.
 const RESULT: usize = 9;
+// The object that is a time.
+const TIME: u16 = 0x25;
 // Where the values of a record start, and the parameters of the bearer that it opens with.
 const VALUES: usize = 6;
 
@@ -46,12 +47,30 @@ enum Values {
     Unfit,
 }
 
-// Prints a blank and the value of an object, which stands from `start` up to `end`, and tells the place behind it.
-fn print_object(s: &[u8], start: usize, end: usize, out: &mut [u8], at: usize) -> usize
+// Prints the digits of a time, of each byte the tens and then the units, and tells the place behind them.
+fn print_digits(out: &mut [u8], at: usize, bytes: &[u8]) -> usize
+    requires { ⌜ at + 2 * length (now bytes) ≤ length (now out) ⌝ }
+    ensures { λ r. ⌜ Prints (digitsText (now (bytes .entry))) r (now (out .entry)) at (now (out .exit)) ⌝ }
+{
+    let mut i: usize = 0;
+    while i < bytes.len() {
+        let k = 2 * i;
+        out[at + k] = bytes[i] % 16 + 48;
+        out[at + (k + 1)] = bytes[i] / 16 + 48;
+        i += 1;
+    }
+    at + 2 * bytes.len()
+}
+
+// Prints a blank and the text of an object, whose value stands from `start` up to `end`, and tells the place behind it.
+fn print_object(s: &[u8], number: u16, start: usize, end: usize, out: &mut [u8], at: usize) -> usize
     requires { ⌜ (start ≤ end) × (end ≤ length (now s)) × (at + 2 * (end - start) + 3 ≤ length (now out)) ⌝ }
-    ensures { λ r. ⌜ Prints (32 ∷ printed (wrote (part start end (now (s .entry))))) r (now (out .entry)) at (now (out .exit)) ⌝ }
+    ensures { λ r. ⌜ Prints (32 ∷ objectText (unflagged number (part start end (now (s .entry))))) r (now (out .entry)) at (now (out .exit)) ⌝ }
 {
     let from = print_char(out, at, b' ');
+    if number == TIME {
+        return print_digits(out, from, &s[start..end]);
+    }
     print_value(out, from, &s[start..end])
 }
 
@@ -64,8 +83,8 @@ fn print_objects(s: &[u8], from: Cursor, out: &mut [u8], at: usize) -> usize
     let mut end = at;
     loop {
         match c.object(s) {
-            Found::Object(_, _, start, len, next) => {
-                end = print_object(s, start, start + len, out, end);
+            Found::Object(number, _, start, len, next) => {
+                end = print_object(s, number, start, start + len, out, end);
                 c = next;
             }
             Found::Fault(_) => return print_char(out, end, b'\n'),

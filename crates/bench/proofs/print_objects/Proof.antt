@@ -18,31 +18,31 @@ abbrev μ-loop : tie.MeasureT-loop
 
 add-print-object : tie.Need-add-print-object Inv-loop μ-loop
 add-print-object c =
-    let b : tie.After-start Inv-loop μ-loop = search in
+    let b : tie.After-number Inv-loop μ-loop = search in
     let o : tie.After-object Inv-loop μ-loop = search in
-    let st = object-told (b .start .given .1) (o .object .ensures) in
+    let st = object-told (b .number .given .1) (o .object .ensures) in
     omega (arith, st .ends, st .within)
 
 print-object-requires : tie.Need-print-object-requires Inv-loop μ-loop
 print-object-requires c κs =
-    let b : tie.After-start Inv-loop μ-loop = search in
+    let b : tie.After-number Inv-loop μ-loop = search in
     let o : tie.After-object Inv-loop μ-loop = search in
     let l : tie.At-loop Inv-loop μ-loop = search in
-    object-room (object-told (b .start .given .1) (o .object .ensures)) _ _ (l .loop .inv .room)
+    object-room (object-told (b .number .given .1) (o .object .ensures)) _ _ (l .loop .inv .room)
 
 loop-less : tie.Need-loop-less Inv-loop μ-loop
 loop-less c =
-    let b : tie.After-start Inv-loop μ-loop = search in
+    let b : tie.After-number Inv-loop μ-loop = search in
     let o : tie.After-object Inv-loop μ-loop = search in
-    nearer (object-told (b .start .given .1) (o .object .ensures))
+    nearer (object-told (b .number .given .1) (o .object .ensures))
 
 loop-again : tie.Need-loop-again Inv-loop μ-loop
 loop-again c =
     let p : tie.After-print-object Inv-loop μ-loop = search in
-    let b : tie.After-start Inv-loop μ-loop = search in
+    let b : tie.After-number Inv-loop μ-loop = search in
     let o : tie.After-object Inv-loop μ-loop = search in
     let l : tie.At-loop Inv-loop μ-loop = search in
-    going-on (object-told (b .start .given .1) (o .object .ensures)) (l .loop .inv) (p .print-object .ensures)
+    going-on (object-told (b .number .given .1) (o .object .ensures)) (l .loop .inv) (p .print-object .ensures)
 
 returns : tie.Need-returns Inv-loop μ-loop
 returns c =
