@@ -22,7 +22,10 @@ print-digits-spec =
     (λ c. search timed-none)
     (λ c. omega arith)
     (λ c. omega arith)
-    (λ c. omega arith)
+    (λ c.
+    let k : tie.After-shared-slice-known Inv-loop μ-loop = search in
+    let l : tie.At-loop Inv-loop μ-loop = search in
+    omega (arith, k .shared-slice-known .given (l .loop .i)))
     (λ c. omega arith)
     (λ c. omega arith)
     (λ c. omega arith)
