@@ -65,7 +65,7 @@ impl Limits {
     pub const VALUE: usize = 241;
 }
 
-// The refusals R1 to R9, R11, R12 and R16 to R18, by their numbers.
+// The refusals R1 to R9, R11 to R14 and R16 to R18, by their numbers.
 pub enum Refusal {
     ShortBuffer,
     CommandSize,
@@ -78,6 +78,8 @@ pub enum Refusal {
     Unreadable,
     NoPlace,
     Undersized,
+    Malformed,
+    ShortText,
     Unmendable,
     NoRecord,
     WrongCount,
@@ -100,6 +102,8 @@ impl Refusal {
             Refusal::Unreadable => 9,
             Refusal::NoPlace => 11,
             Refusal::Undersized => 12,
+            Refusal::Malformed => 13,
+            Refusal::ShortText => 14,
             Refusal::Unmendable => 16,
             Refusal::NoRecord => 17,
             Refusal::WrongCount => 18,
