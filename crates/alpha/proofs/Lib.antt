@@ -5,3 +5,6 @@ pub mod Defaults
 pub mod Pairings
 pub mod Bases
 pub mod Marks
+pub mod Codings
+pub mod Surveys
+pub mod Layings

@@ -13,9 +13,9 @@ use text::print_refusal;
 use text::read_frame;
 ghost use mathlib.Core.Path.{_≡_};
 ghost use mathlib.Core.Bool.{true, false};
-ghost use mathlib.Core.List.{[], _∷_, map};
+ghost use mathlib.Core.List.{[], _∷_, _++_, map};
 ghost use mathlib.Core.Option.{some};
-ghost use Prim.Native.Nat.{_+_, _*_, _/_, _%_, _≤_, _<_};
+ghost use Prim.Native.Nat.{_+_, _-_, _*_, _≤_, _<_, min, max};
 ghost use lib.ListN.{length, getD, drop};
 ghost use lib.Dec.{eqb};
 ghost use Rattle.rules.specs.Checks.{every, same};
@@ -27,7 +27,7 @@ ghost use Rattle.alpha.specs.Reads.{padding, pairs, basedUnit, basedFrom
 ghost use Rattle.alpha.specs.Writes.{defaultCoding, pairCoding, blockServes, blockWith, baseServes, baseWith, serves, basedByte, basedBytes, pairBytes, writes};
 ghost use Rattle.alpha.specs.Calls.{fitted, laid, endedOf, leaves};
 ghost use Rattle.alpha.specs.Printed.{unitText, furtherText, unitsText, areDigits, fourDigits, unitsFrom, unitsOf, alphaReadLine, alphaWriteLine};
-ghost use Rattle.alpha.specs.Passes.{isThere, sizeOf, unitsIn, well, Fills, isPlain, unitTold, codeTold};
+ghost use Rattle.alpha.specs.Passes.{isThere, sizeOf, unitsIn, well, Fills, isPlain, unitTold, codeTold, lengthCap, surveyNone, surveyNeeding, surveyStep, surveyFrom, firstForm, excessOf, blockFits, chosen, CodedBy, Ends};
 
 // The numbers of the codings.
 pub struct Coded {}
@@ -55,9 +55,9 @@ impl Coded {
     pub const BASE_HEAD: usize = 4;
 
     // The units of a block, the blocks that 81 can name, and the most units that its count tells.
-    pub const SPAN: usize = 128;
+    pub const SPAN: u16 = 128;
 
-    pub const BLOCKS: usize = 256;
+    pub const BLOCKS: u16 = 256;
 
     pub const COUNT: usize = 255;
 
@@ -451,7 +451,7 @@ fn wide(b: u8) -> usize
 fn block_pointer(block: u8) -> u16
     ensures { λ r. ⌜ r ≡ 128 * block ⌝ }
 {
-    128 * block as u16
+    Coded::SPAN * block as u16
 }
 
 // The base that two bytes name.
@@ -637,4 +637,298 @@ pub fn read(value: &[u8], out: &mut [u16]) -> Ended
     }
     fill(value, out);
     Ended::Wrote(n)
+}
+
+// The lower and the higher of two units.
+fn lower(a: u16, b: u16) -> u16
+    ensures { λ r. ⌜ r ≡ min a b ⌝ }
+{
+    if a < b {
+        return a;
+    }
+    b
+}
+
+fn higher(a: u16, b: u16) -> u16
+    ensures { λ r. ⌜ r ≡ max a b ⌝ }
+{
+    if a < b {
+        return b;
+    }
+    a
+}
+
+// The survey behind a unit that has no code of the base table.
+fn survey_needing(s: Survey, unit: u16) -> Survey
+    requires { ⌜ s .extras < lengthCap ⌝ }
+    ensures { λ r. ⌜ r ≡ surveyNeeding s unit (extensionCodeOf unit) ⌝ }
+{
+    let lowest = lower(s.lowest, unit);
+    let highest = higher(s.highest, unit);
+    match extension_code(unit) {
+        Code::Of(_) => Survey {
+            coded: s.coded,
+            extras: s.extras + 1,
+            lowest,
+            highest,
+        },
+        Code::Nothing => Survey {
+            coded: false,
+            extras: s.extras,
+            lowest,
+            highest,
+        },
+    }
+}
+
+// The survey behind a unit.
+fn survey_step(s: Survey, unit: u16, codes: &[u16; Coded::CODES]) -> Survey
+    requires { ⌜ (now codes ≡ table) × (s .extras < lengthCap) ⌝ }
+    ensures { λ r. ⌜ r ≡ surveyStep s unit ⌝ }
+{
+    match code_of(unit, codes) {
+        Code::Of(_) => s,
+        Code::Nothing => survey_needing(s, unit),
+    }
+}
+
+// The survey of units.
+fn survey_of(units: &[u16], codes: &[u16; Coded::CODES]) -> Survey
+    requires { ⌜ now codes ≡ table ⌝ }
+    ensures { λ r. ⌜ r ≡ surveyFrom surveyNone (now (units .entry)) ⌝ }
+{
+    let mut s = Survey {
+        coded: true,
+        extras: 0,
+        lowest: 0xFFFF,
+        highest: 0,
+    };
+    let mut i: usize = 0;
+    while i < units.len() {
+        s = survey_step(s, units[i], codes);
+        i += 1;
+    }
+    s
+}
+
+// The default alphabet where it serves, else pairs.
+fn first_form(s: Survey) -> Coding
+    ensures { λ r. ⌜ r ≡ firstForm s ⌝ }
+{
+    if s.coded {
+        return Coding::Default(s.extras);
+    }
+    Coding::Pairs
+}
+
+// By how many bytes the first form is longer than its units.
+fn excess(s: Survey, n: usize) -> usize
+    requires { ⌜ n ≤ 255 ⌝ }
+    ensures { λ r. ⌜ r ≡ excessOf s n ⌝ }
+{
+    if s.coded {
+        return s.extras;
+    }
+    n + 1
+}
+
+// Whether the units that need a block lie in one that can be named.
+fn block_fits(s: Survey) -> bool
+    ensures { λ r. ⌜ r ≡ blockFits s ⌝ }
+{
+    let block = s.lowest / Coded::SPAN;
+    if s.highest / Coded::SPAN != block {
+        return false;
+    }
+    block < Coded::BLOCKS
+}
+
+// The lowest base that reaches the highest unit.
+fn base_of(highest: u16) -> u16
+    ensures { λ r. ⌜ r ≡ highest - 127 ⌝ }
+{
+    if highest < Coded::SPAN {
+        return 0;
+    }
+    highest - (Coded::SPAN - 1)
+}
+
+// The coding of n units: the shortest, on a tie the first.
+fn choose(s: Survey, n: usize) -> Coding
+    ensures { λ r. ⌜ r ≡ chosen s n ⌝ }
+{
+    let first = first_form(s);
+    if Coded::COUNT < n {
+        return first;
+    }
+    let over = excess(s, n);
+    if over <= Coded::BLOCK_HEAD {
+        return first;
+    }
+    if block_fits(s) {
+        return Coding::Block((s.lowest / Coded::SPAN) as u8);
+    }
+    if over <= Coded::BASE_HEAD {
+        return first;
+    }
+    let base = base_of(s.highest);
+    if base <= s.lowest {
+        return Coding::Base(base);
+    }
+    first
+}
+
+// Writes units in the default alphabet to the front of `out`.
+fn write_default(units: &[u16], out: &mut [u8], codes: &[u16; Coded::CODES])
+    requires { ⌜ (now codes ≡ table) × (readable (defaultCoding (now units)) ≡ true) × (length (frameBytes (defaultCoding (now units))) ≤ length (now out)) ⌝ }
+    ensures { λ _. ⌜ now (out .exit) ≡ overlaid (frameBytes (defaultCoding (now (units .entry)))) (now (out .entry)) ⌝ }
+{
+    let mut n: usize = 0;
+    let mut i: usize = 0;
+    while i < units.len() {
+        let unit = units[i];
+        match code_of(unit, codes) {
+            Code::Of(code) => {
+                out[n] = code;
+                n += 1;
+                i += 1;
+            }
+            Code::Nothing => {
+                let Code::Of(code) = extension_code(unit) else {
+                    return;
+                };
+                out[n] = Coded::ESCAPE;
+                out[n + 1] = code;
+                n += 2;
+                i += 1;
+            }
+        }
+    }
+}
+
+// The default alphabet, with so many extension characters.
+fn put_default(extras: usize, units: &[u16], out: &mut [u8], codes: &[u16; Coded::CODES]) -> Ended
+    requires { ⌜ (now codes ≡ table) × CodedBy extras (now units) ⌝ }
+    ensures { λ r. ⌜ Ends (frameBytes (defaultCoding (now (units .entry)))) r (now (out .entry)) (now (out .exit)) ⌝ }
+{
+    let room = out.len();
+    if room < extras {
+        return Ended::Refused(Refusal::ShortText);
+    }
+    if room - extras < units.len() {
+        return Ended::Refused(Refusal::ShortText);
+    }
+    write_default(units, out, codes);
+    Ended::Wrote(extras + units.len())
+}
+
+// Writes a pair for each unit from `at` on.
+fn write_pairs(units: &[u16], out: &mut [u8], at: usize)
+    requires { ⌜ at + 2 * length (now units) ≤ length (now out) ⌝ }
+    ensures { λ _. ⌜ now (out .exit) ≡ pasted (now (out .entry)) at (pairBytes (now (units .entry))) ⌝ }
+{
+    let mut i: usize = 0;
+    while i < units.len() {
+        let k = 2 * i;
+        let unit = units[i];
+        out[at + k] = (unit / 256) as u8;
+        out[at + (k + 1)] = (unit % 256) as u8;
+        i += 1;
+    }
+}
+
+// Pairs behind their mark.
+fn put_pairs(units: &[u16], out: &mut [u8]) -> Ended
+    ensures { λ r. ⌜ Ends (pairCoding (now (units .entry))) r (now (out .entry)) (now (out .exit)) ⌝ }
+{
+    let room = out.len();
+    if room == 0 {
+        return Ended::Refused(Refusal::ShortText);
+    }
+    if (room - 1) / 2 < units.len() {
+        return Ended::Refused(Refusal::ShortText);
+    }
+    out[0] = Coded::PAIRS;
+    write_pairs(units, out, 1);
+    Ended::Wrote(1 + 2 * units.len())
+}
+
+// The byte of a unit in 81 or 82.
+fn based_byte(pointer: u16, unit: u16, codes: &[u16; Coded::CODES]) -> u8
+    requires { ⌜ (now codes ≡ table) × (serves pointer (unit ∷ []) ≡ true) ⌝ }
+    ensures { λ r. ⌜ r ≡ basedByte pointer unit (codeOf unit) ⌝ }
+{
+    match code_of(unit, codes) {
+        Code::Of(code) => code,
+        Code::Nothing => Coded::LIMIT + (unit - pointer) as u8,
+    }
+}
+
+// Writes the bytes of units in 81 or 82 from `at` on.
+fn write_based(pointer: u16, units: &[u16], out: &mut [u8], at: usize, codes: &[u16; Coded::CODES])
+    requires { ⌜ (now codes ≡ table) × (serves pointer (now units) ≡ true) × (at + length (now units) ≤ length (now out)) ⌝ }
+    ensures { λ _. ⌜ now (out .exit) ≡ pasted (now (out .entry)) at (basedBytes pointer (now (units .entry))) ⌝ }
+{
+    let mut i: usize = 0;
+    while i < units.len() {
+        out[at + i] = based_byte(pointer, units[i], codes);
+        i += 1;
+    }
+}
+
+// A head, and behind it the bytes of units in 81 or 82.
+fn put_based(
+    head: &[u8],
+    pointer: u16,
+    units: &[u16],
+    out: &mut [u8],
+    codes: &[u16; Coded::CODES],
+) -> Ended
+    requires { ⌜ (now codes ≡ table) × (serves pointer (now units) ≡ true) × (length (now head) ≤ 4) × (length (now units) ≤ 255) ⌝ }
+    ensures { λ r. ⌜ Ends (now (head .entry) ++ basedBytes pointer (now (units .entry))) r (now (out .entry)) (now (out .exit)) ⌝ }
+{
+    let size = head.len() + units.len();
+    if out.len() < size {
+        return Ended::Refused(Refusal::ShortText);
+    }
+    octets::put(out, 0, head);
+    write_based(pointer, units, out, head.len(), codes);
+    Ended::Wrote(size)
+}
+
+// 81 with a block.
+fn put_block(block: u8, units: &[u16], out: &mut [u8], codes: &[u16; Coded::CODES]) -> Ended
+    requires { ⌜ (now codes ≡ table) × (blockServes block (now units) ≡ true) ⌝ }
+    ensures { λ r. ⌜ Ends (blockWith block (now (units .entry))) r (now (out .entry)) (now (out .exit)) ⌝ }
+{
+    let head = [Coded::BLOCK, units.len() as u8, block];
+    put_based(&head, block_pointer(block), units, out, codes)
+}
+
+// 82 with a base.
+fn put_base(base: u16, units: &[u16], out: &mut [u8], codes: &[u16; Coded::CODES]) -> Ended
+    requires { ⌜ (now codes ≡ table) × (baseServes base (now units) ≡ true) ⌝ }
+    ensures { λ r. ⌜ Ends (baseWith base (now (units .entry))) r (now (out .entry)) (now (out .exit)) ⌝ }
+{
+    let head = [
+        Coded::BASE,
+        units.len() as u8,
+        (base / 256) as u8,
+        (base % 256) as u8,
+    ];
+    put_based(&head, base, units, out, codes)
+}
+
+// Writes units as an alpha identifier, in the shortest coding, to the front of `out`. R14 where it has more bytes than `out`, which is then as it was.
+pub fn write(units: &[u16], out: &mut [u8]) -> Ended
+    ensures { λ r. ⌜ r ≡ fitted (writes (now (units .entry))) (length (now (out .entry))) ⌝ }
+    ensures { λ r. ⌜ now (out .exit) ≡ laid (writes (now (units .entry))) (now (out .entry)) ⌝ }
+{
+    let codes = &TABLE;
+    match choose(survey_of(units, codes), units.len()) {
+        Coding::Default(extras) => put_default(extras, units, out, codes),
+        Coding::Pairs => put_pairs(units, out),
+        Coding::Block(block) => put_block(block, units, out, codes),
+        Coding::Base(base) => put_base(base, units, out, codes),
+    }
 }
