@@ -8,3 +8,5 @@ pub mod Marks
 pub mod Codings
 pub mod Surveys
 pub mod Layings
+pub mod Lines
+pub mod Telling

@@ -4,7 +4,7 @@ use mathlib.Core.Path.{_≡_}
 use mathlib.Core.Bool.{Bool, true, false, not, _&&_}
 use mathlib.Core.List.{List, [], _∷_}
 use mathlib.Core.Option.{Option, none, some}
-use lib.ListN.{length}
+use lib.ListN.{length, getD}
 use lib.Dec.{ltb, leb, eqb}
 use Rattle.rules.specs.Checks.{_⇒_else_}
 use Rattle.alpha.specs.declared.Size.{Size}
@@ -22,6 +22,7 @@ use Rattle.alpha.specs.Writes.{needs, countCap, defaultCoding, pairCodin
 use Rattle.rules.specs.declared.Ended.{Ended}
 use Rattle.alpha.specs.Reads.{Text, units, malformed}
 use Rattle.alpha.specs.Calls.{fitted, laid}
+use Rattle.alpha.specs.Printed.{areDigits, fourDigits}
 
 -- something is there
 unfoldable pub isThere : Option ℕ → Bool
@@ -123,3 +124,19 @@ Serves (Base base) us = baseServes base us ≡ true
 pub record Ends (s : List ℕ) (r : Ended) (before after : List ℕ) : Type 0 where
   pub told : r ≡ fitted s (length before)
   pub left : after ≡ laid s before
+
+-- the most characters that are printed for a line: 1600 units of four digits, each with a blank or the line feed behind it
+abbrev pub room : ℕ
+room = 8004
+
+-- four digits at a place of a line, and their unit
+unfoldable pub digitsAt : List ℕ → ℕ → Bool
+digitsAt l i = areDigits (getD l i 0) (getD l (i + 1) 0) (getD l (i + 2) 0) (getD l (i + 3) 0)
+
+unfoldable pub unitAt : List ℕ → ℕ → ℕ
+unitAt l i = fourDigits (getD l i 0) (getD l (i + 1) 0) (getD l (i + 2) 0) (getD l (i + 3) 0)
+
+-- how many units a line has, if it is one of units
+unfoldable pub sizeTold : Option (List ℕ) → Size
+sizeTold none = Malformed
+sizeTold (some us) = Units (length us)

@@ -21,13 +21,15 @@ ghost use lib.Dec.{eqb};
 ghost use Rattle.rules.specs.Checks.{every, same};
 ghost use Rattle.octets.specs.Parts.{pasted, overlaid};
 ghost use Rattle.text.specs.Frames.{readable, frameBytes};
-ghost use Rattle.text.specs.Prints.{Prints};
+ghost use Rattle.rules.specs.Command.{wrote};
+ghost use Rattle.rules.specs.Lines.{isDigit, digitValue};
+ghost use Rattle.text.specs.Prints.{lineOf, Prints};
 ghost use Rattle.alpha.specs.Alphabet.{table, unitOf, extensionUnit, codeOf, extensionCodeOf};
-ghost use Rattle.alpha.specs.Reads.{padding, pairs, basedUnit, basedFrom, based, defaultFrom, reads};
+ghost use Rattle.alpha.specs.Reads.{units, padding, pairs, basedUnit, basedFrom, based, defaultFrom, reads};
 ghost use Rattle.alpha.specs.Writes.{defaultCoding, pairCoding, blockServes, blockWith, baseServes, baseWith, serves, basedByte, basedBytes, pairBytes, writes};
 ghost use Rattle.alpha.specs.Calls.{fitted, laid, endedOf, leaves};
-ghost use Rattle.alpha.specs.Printed.{unitText, furtherText, unitsText, areDigits, fourDigits, unitsFrom, unitsOf, alphaReadLine, alphaWriteLine};
-ghost use Rattle.alpha.specs.Passes.{isThere, sizeOf, unitsIn, well, Fills, isPlain, unitTold, codeTold, lengthCap, surveyNone, surveyNeeding, surveyStep, surveyFrom, firstForm, excessOf, blockFits, chosen, CodedBy, Ends};
+ghost use Rattle.alpha.specs.Printed.{dashes, unitText, furtherText, textLine, unitsFrom, unitsOf, alphaReadLine, alphaWriteLine};
+ghost use Rattle.alpha.specs.Passes.{isThere, sizeOf, unitsIn, well, Fills, isPlain, unitTold, codeTold, lengthCap, surveyNone, surveyNeeding, surveyStep, surveyFrom, firstForm, excessOf, blockFits, chosen, CodedBy, Ends, room, digitsAt, unitAt, sizeTold};
 
 // The numbers of the codings.
 pub struct Coded {}
@@ -930,5 +932,193 @@ pub fn write(units: &[u16], out: &mut [u8]) -> Ended
         Coding::Pairs => put_pairs(units, out),
         Coding::Block(block) => put_block(block, units, out, codes),
         Coding::Base(base) => put_base(base, units, out, codes),
+    }
+}
+
+// Prints the four digits of a unit, and tells the place behind them.
+fn print_unit(out: &mut [u8], at: usize, unit: u16) -> usize
+    requires { ⌜ at + 4 ≤ length (now out) ⌝ }
+    ensures { λ r. ⌜ Prints (unitText unit) r (now (out .entry)) at (now (out .exit)) ⌝ }
+{
+    let bytes = [(unit / 256) as u8, (unit % 256) as u8];
+    print_bytes(out, at, &bytes)
+}
+
+// Prints units, a blank in front of each, and tells the place behind them.
+fn print_further(out: &mut [u8], at: usize, units: &[u16]) -> usize
+    requires { ⌜ at + 5 * length (now units) ≤ length (now out) ⌝ }
+    ensures { λ r. ⌜ Prints (furtherText (now (units .entry))) r (now (out .entry)) at (now (out .exit)) ⌝ }
+{
+    let mut end = at;
+    let mut i: usize = 0;
+    while i < units.len() {
+        let start = print_char(out, end, b' ');
+        end = print_unit(out, start, units[i]);
+        i += 1;
+    }
+    end
+}
+
+// Prints the line of a text, and tells the place behind it.
+fn print_units(out: &mut [u8], at: usize, text: &[u16]) -> usize
+    requires { ⌜ (length (now text) ≤ 1600) × (at + room ≤ length (now out)) ⌝ }
+    ensures { λ r. ⌜ Prints (textLine (units (now (text .entry)))) r (now (out .entry)) at (now (out .exit)) ⌝ }
+{
+    if text.len() == 0 {
+        return print(out, at, Ended::Wrote(0), b"");
+    }
+    let first = print_unit(out, at, text[0]);
+    let end = print_further(out, first, &text[1..]);
+    print_char(out, end, b'\n')
+}
+
+// Prints the units of a value, or R13.
+fn print_text(value: &[u8], out: &mut [u8], at: usize) -> usize
+    requires { ⌜ (length (now value) ≤ 1600) × (at + room ≤ length (now out)) ⌝ }
+    ensures { λ r. ⌜ Prints (textLine (reads (now (value .entry)))) r (now (out .entry)) at (now (out .exit)) ⌝ }
+{
+    let mut units = [0u16; Units::MOST];
+    match read(value, &mut units) {
+        Ended::Wrote(n) => print_units(out, at, &units[..n]),
+        Ended::Refused(refusal) => print_refusal(out, at, refusal),
+    }
+}
+
+// Prints the units of a value in hex, R13 where it is malformed, R9 where the line is unreadable; tells the place behind them.
+pub fn tell_alpha_read(line: &[u8], out: &mut [u8], at: usize) -> usize
+    requires { ⌜ at + room ≤ length (now out) ⌝ }
+    ensures { λ r. ⌜ Prints (alphaReadLine (now (line .entry))) r (now (out .entry)) at (now (out .exit)) ⌝ }
+{
+    let mut frame = [0u8; Line::FRAME];
+    match read_frame(line, &mut frame) {
+        Frame::Bytes(n) => print_text(&frame[..n], out, at),
+        Frame::Unreadable => print_refusal(out, at, Refusal::Unreadable),
+    }
+}
+
+// Whether four digits stand at a place.
+fn are_digits(line: &[u8], at: usize) -> bool
+    requires { ⌜ at + 4 ≤ length (now line) ⌝ }
+    ensures { λ r. ⌜ r ≡ digitsAt (now (line .entry)) at ⌝ }
+{
+    if !is_digit(line[at]) {
+        return false;
+    }
+    if !is_digit(line[at + 1]) {
+        return false;
+    }
+    if !is_digit(line[at + 2]) {
+        return false;
+    }
+    is_digit(line[at + 3])
+}
+
+// The value of a digit, as wide as a unit.
+fn wide_digit(c: u8) -> u16
+    requires { ⌜ isDigit c ≡ true ⌝ }
+    ensures { λ r. ⌜ (r ≡ digitValue c) × (r ≤ 15) ⌝ }
+{
+    digit_value(c) as u16
+}
+
+// The unit of four digits at a place.
+fn unit_at(line: &[u8], at: usize) -> u16
+    requires { ⌜ (at + 4 ≤ length (now line)) × (digitsAt (now line) at ≡ true) ⌝ }
+    ensures { λ r. ⌜ r ≡ unitAt (now (line .entry)) at ⌝ }
+{
+    let a = wide_digit(line[at]);
+    let b = wide_digit(line[at + 1]);
+    let c = wide_digit(line[at + 2]);
+    let d = wide_digit(line[at + 3]);
+    4096 * a + 256 * b + 16 * c + d
+}
+
+// Whether a line is units of four digits with a blank between.
+fn are_units(line: &[u8]) -> bool
+    ensures { λ r. ⌜ r ≡ readable (unitsFrom (now (line .entry))) ⌝ }
+{
+    let mut i: usize = 0;
+    while Units::STEP <= line.len() - i {
+        if !are_digits(line, i) {
+            return false;
+        }
+        if line[i + Units::DIGITS] != b' ' {
+            return false;
+        }
+        i += Units::STEP;
+    }
+    if line.len() - i < Units::DIGITS {
+        return false;
+    }
+    are_digits(line, i)
+}
+
+// Whether a line is two dashes.
+fn is_dashes(line: &[u8]) -> bool
+    ensures { λ r. ⌜ r ≡ same (now (line .entry)) dashes ⌝ }
+{
+    if line.len() != 2 {
+        return false;
+    }
+    if line[0] != b'-' {
+        return false;
+    }
+    line[1] == b'-'
+}
+
+// Writes the units of a line to the front of `out`.
+fn fill_units(line: &[u8], out: &mut [u16])
+    requires { ⌜ (length (now line) ≤ 7999) × (readable (unitsFrom (now line)) ≡ true) × (length (frameBytes (unitsFrom (now line))) ≤ length (now out)) ⌝ }
+    ensures { λ _. ⌜ now (out .exit) ≡ overlaid (frameBytes (unitsFrom (now (line .entry)))) (now (out .entry)) ⌝ }
+{
+    let n = (line.len() + 1) / Units::STEP;
+    let mut i: usize = 0;
+    while i < n {
+        out[i] = unit_at(line, Units::STEP * i);
+        i += 1;
+    }
+}
+
+// Reads a line of units, which go to the front of `out`; an unreadable line writes nothing.
+fn read_units(line: &[u8], out: &mut [u16]) -> Size
+    requires { ⌜ 1600 ≤ length (now out) ⌝ }
+    ensures { λ r. ⌜ r ≡ sizeTold (unitsOf (now (line .entry))) ⌝ }
+    ensures { λ r. ⌜ now (out .exit) ≡ overlaid (frameBytes (unitsOf (now (line .entry)))) (now (out .entry)) ⌝ }
+{
+    if line.len() == 0 {
+        return Size::Units(0);
+    }
+    if is_dashes(line) {
+        return Size::Units(0);
+    }
+    if Units::LINE < line.len() {
+        return Size::Malformed;
+    }
+    if !are_units(line) {
+        return Size::Malformed;
+    }
+    fill_units(line, out);
+    Size::Units((line.len() + 1) / Units::STEP)
+}
+
+// Prints the bytes of units.
+fn print_coded(units: &[u16], out: &mut [u8], at: usize) -> usize
+    requires { ⌜ (length (now units) ≤ 1600) × (at + room ≤ length (now out)) ⌝ }
+    ensures { λ r. ⌜ Prints (lineOf (wrote (writes (now (units .entry))))) r (now (out .entry)) at (now (out .exit)) ⌝ }
+{
+    let mut bytes = [0u8; Units::BYTES];
+    let ended = write(units, &mut bytes);
+    print(out, at, ended, &bytes)
+}
+
+// Prints the bytes that code a line of units, R9 where the line is unreadable; tells the place behind them.
+pub fn tell_alpha_write(line: &[u8], out: &mut [u8], at: usize) -> usize
+    requires { ⌜ at + room ≤ length (now out) ⌝ }
+    ensures { λ r. ⌜ Prints (alphaWriteLine (now (line .entry))) r (now (out .entry)) at (now (out .exit)) ⌝ }
+{
+    let mut units = [0u16; Units::MOST];
+    match read_units(line, &mut units) {
+        Size::Units(n) => print_coded(&units[..n], out, at),
+        Size::Malformed => print_refusal(out, at, Refusal::Unreadable),
     }
 }
