@@ -10,3 +10,4 @@ pub mod Surveys
 pub mod Layings
 pub mod Lines
 pub mod Telling
+pub mod Settled

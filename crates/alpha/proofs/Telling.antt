@@ -21,7 +21,7 @@ use Rattle.rules.specs.Command.{wrote, refused}
 use Rattle.rules.specs.Lines.{frameOf, printed}
 use Rattle.rules.proofs.Laws.{stop, skip, branch}
 use Rattle.octets.specs.Parts.{overlaid}
-use Rattle.text.specs.Frames.{frameTold, frameBytes}
+use Rattle.octets.proofs.Pastes.{length-pasted}
 use Rattle.text.specs.Prints.{countOf, outcomeOf, lineOf, Prints}
 use Rattle.text.proofs.Printing.{prints-after, prints-as}
 use Rattle.alpha.specs.Alphabet.{escape, unitOf, extensionUnit}
@@ -222,3 +222,28 @@ module _ (us before : List ℕ) (h : 1 + 2 * length us ≤ length before) (x : E
 pub coded-told : (l : List ℕ) (o : Option (List ℕ)) {r at : ℕ} {before after : List ℕ} → unitsOf l ≡ o → Prints (codedLine o) r before at after → Prints (alphaWriteLine l) r before at after
 unfolding alphaWriteLine
 coded-told l o e p = prints-as (ap codedLine (sym e)) p
+
+-- the room for the units behind the first, and for the line feed
+module _ (us : List ℕ) (n : length us ≡ 0 → ⊥) (before : List ℕ) (at : ℕ) (h : at + 5 * length us + 4 ≤ length before) (m : ℕ) (x : List ℕ) (p : Prints (unitText (getD us 0 0)) m before at x) where
+  rest-size : length (take (length us - 1) (drop 1 us)) ≡ length us - 1
+  rest-size = ap length (part-to-end us 1) ∙ length-drop 1 us
+
+  first-same : length x ≡ length before
+  first-same = let f = unit-size (getD us 0 0) in ap length (p .stands) ∙ length-pasted before at (unitText (getD us 0 0)) (omega arith)
+
+  pub further-room : m + 5 * length (take (length us - 1) (drop 1 us)) ≤ length x
+  further-room =
+      let f = unit-size (getD us 0 0) in
+      let s = first-same in
+      let r = rest-size in
+      omega (arith, p .place, n)
+
+  pub feed-room : (e : ℕ) (y : List ℕ) → Prints (furtherText (take (length us - 1) (drop 1 us))) e x m y → e < length y
+  feed-room e y q =
+      let k = further-room in
+      let g = further-size (take (length us - 1) (drop 1 us)) in
+      let f = unit-size (getD us 0 0) in
+      let s = first-same in
+      let r = rest-size in
+      let l = ap length (q .stands) ∙ length-pasted x m (furtherText (take (length us - 1) (drop 1 us))) (omega arith) in
+      omega (arith, p .place, q .place, n)

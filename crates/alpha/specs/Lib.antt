@@ -4,3 +4,4 @@ pub mod Writes
 pub mod Calls
 pub mod Printed
 pub mod Passes
+pub mod Examples
