@@ -33,12 +33,12 @@ use Rattle.alpha.proofs.Texts.{head-within, head-is, head-rest, rest-no
 use Rattle.alpha.proofs.Codings.{code-is, code-none, needs-none, coding-plain, coding-extended, coding-none, pairs-long, pair-size, based-long, there-is}
 
 -- bytes that stand in front of a coding that is there
-record Fronts (s : List ℕ) (o : Option (List ℕ)) (t : List ℕ) : Type 0 where
-  rest : List ℕ
-  there : o ≡ some rest
-  is : t ≡ s ++ rest
+pub record Fronts (s : List ℕ) (o : Option (List ℕ)) (t : List ℕ) : Type 0 where
+  pub rest : List ℕ
+  pub there : o ≡ some rest
+  pub is : t ≡ s ++ rest
 
-fronts : (s : List ℕ) (o : Option (List ℕ)) (t : List ℕ) → before s o ≡ some t → Fronts s o t
+pub fronts : (s : List ℕ) (o : Option (List ℕ)) (t : List ℕ) → before s o ≡ some t → Fronts s o t
 unfolding before frameBytes
 fronts s none t e = absurd (let z : _≡_ {A = ℕ} 0 1 = cc in omega arith)
 fronts s (some w) t e = record { rest = w; there = refl; is = ap frameBytes (sym e) }
@@ -180,7 +180,7 @@ module _ (p u : ℕ) (s : serves p (u ∷ []) ≡ true) (t : Code) (e : t ≡ co
     byte-based = sym (ap (basedByte p u) (code-none (codeOf u) t e f))
 
 -- a pointer that serves units serves each of them
-serves-parts : (p u : ℕ) (us : List ℕ) → serves p (u ∷ us) ≡ true → (serves p (u ∷ []) ≡ true) × (serves p us ≡ true)
+pub serves-parts : (p u : ℕ) (us : List ℕ) → serves p (u ∷ us) ≡ true → (serves p (u ∷ []) ≡ true) × (serves p us ≡ true)
 unfolding serves
 serves-parts p u us e = by (needs u) refl
   where

@@ -11,3 +11,5 @@ pub mod Layings
 pub mod Lines
 pub mod Telling
 pub mod Settled
+pub mod Written
+pub mod Shortest

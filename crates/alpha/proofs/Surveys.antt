@@ -93,7 +93,7 @@ module _ (us : List ℕ) (i : ℕ) (s : Survey) (w : Surveys us i s) where
   surveys-end h = sym (w .same ∙ ap (surveyFrom s) (drop-of-length-le us h))
 
 -- the lowest unit that needs the pointer
-unfoldable lowNeed : List ℕ → ℕ
+unfoldable pub lowNeed : List ℕ → ℕ
 lowNeed [] = 0xFFFF
 lowNeed (u ∷ us) = let rest = lowNeed us in needs u ⇒ min u rest else rest
 
@@ -186,7 +186,7 @@ surveyed s [] h = record { coded = sym (and-true (s .coded)); extras = λ _. ref
 surveyed s (u ∷ us) h = by-unit s u us h (λ x k. surveyed x us k)
 
 -- a pointer serves where it lies within 128 of both
-serves-bounds : (p : ℕ) (us : List ℕ) → p ≤ 0xFFFF → serves p us ≡ true → (p ≤ lowNeed us) × (highest us < p + 128)
+pub serves-bounds : (p : ℕ) (us : List ℕ) → p ≤ 0xFFFF → serves p us ≡ true → (p ≤ lowNeed us) × (highest us < p + 128)
 unfolding serves lowNeed highest
 serves-bounds p [] h e = (h, omega arith)
 serves-bounds p (u ∷ us) h e = by (needs u) refl (λ k. serves-bounds p us h k)
@@ -209,7 +209,7 @@ serves-bounds p (u ∷ us) h e = by (needs u) refl (λ k. serves-bounds p us h k
         let y : (needs u ⇒ max u (highest us) else highest us) ≡ highest us = skip _ _ _ n in
         (omega arith, omega arith)
 
-bounds-serve : (p : ℕ) (us : List ℕ) → p ≤ lowNeed us → highest us < p + 128 → serves p us ≡ true
+pub bounds-serve : (p : ℕ) (us : List ℕ) → p ≤ lowNeed us → highest us < p + 128 → serves p us ≡ true
 unfolding serves
 bounds-serve p [] h k = refl
 bounds-serve p (u ∷ us) h k = by (needs u) refl (λ a b. bounds-serve p us a b)
@@ -227,15 +227,18 @@ bounds-serve p (u ∷ us) h k = by (needs u) refl (λ a b. bounds-serve p us a b
         skip _ _ _ n ∙ rest (omega arith) (omega arith)
 
 -- units of which none needs the pointer, or the first that does
-record Needing (us : List ℕ) : Type 0 where
-  first : ℕ
-  block : blockOf us ≡ first / 128
-  low : lowNeed us ≤ first
-  high : first ≤ highest us
+pub record Needing (us : List ℕ) : Type 0 where
+  pub first : ℕ
+  pub block : blockOf us ≡ first / 128
+  pub low : lowNeed us ≤ first
+  pub high : first ≤ highest us
 
-record Plainly (us : List ℕ) : Type 0 where
-  there : readable (defaultCoding us) ≡ true
-  size : length (frameBytes (defaultCoding us)) ≡ length us
+pub record Plainly (us : List ℕ) : Type 0 where
+  pub there : readable (defaultCoding us) ≡ true
+  pub size : length (frameBytes (defaultCoding us)) ≡ length us
+  pub block : blockOf us ≡ 0
+  pub low : lowNeed us ≡ 0xFFFF
+  pub high : highest us ≡ 0
 
 at-once : (u : ℕ) (us : List ℕ) → needs u ≡ true → Needing (u ∷ us)
 unfolding blockOf
@@ -246,16 +249,21 @@ unfolding blockOf
 later u us n w = let k = low-no u us n in record { first = w .first; block = skip _ _ _ n ∙ w .block; low = omega (arith, w .low); high = omega (arith, w .high) }
 
 plainly : (u : ℕ) (us : List ℕ) (c : ℕ) → codeOf u ≡ some c → Plainly us → Plainly (u ∷ us)
+unfolding blockOf
 plainly u us c e w =
     let d = coding-plain u us c e in
+    let k = low-no u us (needs-some u c e) in
     record {
       there = ap readable d ∙ before-there (c ∷ []) (defaultCoding us) ∙ w .there;
       size = ap (λ (o : Option (List ℕ)). length (frameBytes o)) d ∙ ap length (before-bytes (c ∷ []) (defaultCoding us) (w .there)) ∙ ap suc (w .size);
+      block = skip _ _ _ (needs-some u c e) ∙ w .block;
+      low = k .0 ∙ w .low;
+      high = k .1 ∙ w .high;
     }
 
-needing : (us : List ℕ) → Plainly us ⊎ Needing us
-unfolding defaultCoding readable frameBytes
-needing [] = inl (record { there = refl; size = refl })
+pub needing : (us : List ℕ) → Plainly us ⊎ Needing us
+unfolding defaultCoding readable frameBytes blockOf lowNeed highest
+needing [] = inl (record { there = refl; size = refl; block = refl; low = refl; high = refl })
 needing (u ∷ us) = by (codeOf u) refl (needing us)
   where
     by : (o : Option ℕ) → codeOf u ≡ o → Plainly us ⊎ Needing us → Plainly (u ∷ us) ⊎ Needing (u ∷ us)
@@ -264,7 +272,7 @@ needing (u ∷ us) = by (codeOf u) refl (needing us)
     by (some c) e (inr w) = inr (later u us (needs-some u c e) w)
 
 -- every unit is one of 16 bits, so the highest is
-high-small : (us : List ℕ) → Each (λ (u : ℕ). u < 0x10000) us → highest us < 0x10000
+pub high-small : (us : List ℕ) → Each (λ (u : ℕ). u < 0x10000) us → highest us < 0x10000
 unfolding highest
 high-small [] h = omega arith
 high-small (u ∷ us) h =

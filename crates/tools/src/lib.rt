@@ -1,4 +1,6 @@
 // The line tools, the match that picks one, and the loop over a piece of its input.
+use alpha::tell_alpha_read;
+use alpha::tell_alpha_write;
 use bench::tell_bench;
 use bursts::tell_burst;
 use check;
@@ -31,7 +33,7 @@ ghost use Rattle.flow.specs.Holds.{Ready, readerIn, Says, Goes, Keeps, Fills};
 ghost use Rattle.tools.specs.Names.{toolNamed};
 ghost use Rattle.tools.specs.Tools.{memory, GoodMemory, keptIn, ends};
 
-// The tools: document 01's program, the bench, what command is at hand, bytes as they come off the line, applet commands mended, and lines of +CSIM logs in and out.
+// The tools: document 01's program, the bench, what command is at hand, bytes as they come off the line, applet commands mended, lines of +CSIM logs in and out, and alpha identifiers read and written.
 pub enum Tool {
     Lines,
     Bench,
@@ -40,6 +42,8 @@ pub enum Tool {
     Mend,
     CsimImport,
     CsimExport,
+    AlphaRead,
+    AlphaWrite,
 }
 
 // A word as the name of a tool.
@@ -73,6 +77,12 @@ pub fn tool_named(word: &[u8]) -> Named
     if check::same(word, b"csim-export") {
         return Named::One(Tool::CsimExport);
     }
+    if check::same(word, b"alpha-read") {
+        return Named::One(Tool::AlphaRead);
+    }
+    if check::same(word, b"alpha-write") {
+        return Named::One(Tool::AlphaWrite);
+    }
     Named::Unknown
 }
 
@@ -98,6 +108,8 @@ fn answer(
         Tool::Mend => tell_mended(line, out, at),
         Tool::CsimImport => tell_import(line, out, at),
         Tool::CsimExport => tell_export(line, out, at),
+        Tool::AlphaRead => tell_alpha_read(line, out, at),
+        Tool::AlphaWrite => tell_alpha_write(line, out, at),
     }
 }
 
