@@ -34,6 +34,15 @@ alphaReadName = 97 ∷ 108 ∷ 112 ∷ 104 ∷ 97 ∷ 45 ∷ 114 ∷ 101 ∷ 97 
 abbrev pub alphaWriteName : List ℕ
 alphaWriteName = 97 ∷ 108 ∷ 112 ∷ 104 ∷ 97 ∷ 45 ∷ 119 ∷ 114 ∷ 105 ∷ 116 ∷ 101 ∷ []
 
+-- the tool between our lines and those of others that a word names
+unfoldable pub exchangeNamed : List ℕ → Named
+exchangeNamed w =
+    same w importName ⇒ One CsimImport else
+    same w exportName ⇒ One CsimExport else
+    same w alphaReadName ⇒ One AlphaRead else
+    same w alphaWriteName ⇒ One AlphaWrite else
+    Unknown
+
 -- the tool that a word names
 unfoldable pub toolNamed : List ℕ → Named
 toolNamed w =
@@ -42,8 +51,4 @@ toolNamed w =
     same w detailsName ⇒ One Details else
     same w fetchName ⇒ One Fetch else
     same w mendName ⇒ One Mend else
-    same w importName ⇒ One CsimImport else
-    same w exportName ⇒ One CsimExport else
-    same w alphaReadName ⇒ One AlphaRead else
-    same w alphaWriteName ⇒ One AlphaWrite else
-    Unknown
+    exchangeNamed w

@@ -30,7 +30,7 @@ ghost use Rattle.session.specs.Picture.{ledgerOf};
 ghost use Rattle.fetch.specs.Gathers.{gatheredOf};
 ghost use Rattle.flow.specs.Flow.{keptSize, printedSize, feeds, piece, lastPiece};
 ghost use Rattle.flow.specs.Holds.{Ready, readerIn, Says, Goes, Keeps, Fills};
-ghost use Rattle.tools.specs.Names.{toolNamed};
+ghost use Rattle.tools.specs.Names.{exchangeNamed, toolNamed};
 ghost use Rattle.tools.specs.Tools.{memory, GoodMemory, keptIn, ends};
 
 // The tools: document 01's program, the bench, what command is at hand, bytes as they come off the line, applet commands mended, lines of +CSIM logs in and out, and alpha identifiers read and written.
@@ -52,6 +52,25 @@ pub enum Named {
     Unknown,
 }
 
+// The tool between our lines and those of others that a word names.
+fn exchange_named(word: &[u8]) -> Named
+    ensures { λ r. ⌜ r ≡ exchangeNamed (now (word .entry)) ⌝ }
+{
+    if check::same(word, b"csim-import") {
+        return Named::One(Tool::CsimImport);
+    }
+    if check::same(word, b"csim-export") {
+        return Named::One(Tool::CsimExport);
+    }
+    if check::same(word, b"alpha-read") {
+        return Named::One(Tool::AlphaRead);
+    }
+    if check::same(word, b"alpha-write") {
+        return Named::One(Tool::AlphaWrite);
+    }
+    Named::Unknown
+}
+
 // The tool that a word names.
 pub fn tool_named(word: &[u8]) -> Named
     ensures { λ r. ⌜ r ≡ toolNamed (now (word .entry)) ⌝ }
@@ -71,19 +90,7 @@ pub fn tool_named(word: &[u8]) -> Named
     if check::same(word, b"mend") {
         return Named::One(Tool::Mend);
     }
-    if check::same(word, b"csim-import") {
-        return Named::One(Tool::CsimImport);
-    }
-    if check::same(word, b"csim-export") {
-        return Named::One(Tool::CsimExport);
-    }
-    if check::same(word, b"alpha-read") {
-        return Named::One(Tool::AlphaRead);
-    }
-    if check::same(word, b"alpha-write") {
-        return Named::One(Tool::AlphaWrite);
-    }
-    Named::Unknown
+    exchange_named(word)
 }
 
 // Answers a line with a tool: prints what it says into `out` from `at` on, and tells the place behind it.

@@ -7,17 +7,16 @@ use Rattle.host.proofs.pack_text.Tie as tie
 
 returns : tie.Need-returns
 unfolding packedText
-returns c = let e : tie.After-count = search in rw (e .count .given .1)
+returns c = let e : tie.After-ended = search in rw (e .ended .given .1)
 
 returns-2 : tie.Need-returns-2
 unfolding packedText
-returns-2 c = let w : tie.After-why = search in rw (w .why .given .1, c .number .ensures)
+returns-2 c = let e : tie.After-ended2 = search in rw (e .ended2 .given .1, c .number .ensures)
 
 pub pack-text-spec : {M : Type 1} → statement M
 pack-text-spec =
     tie.close
     (tie.spec
-    (λ c. search needs)
     (λ c. search needs)
     (λ c. search needs)
     (λ c κs. search needs)
