@@ -13,8 +13,8 @@ import os
 import shutil
 import sys
 
-import bench
 import alpha
+import bench
 import csim
 import details
 import fetch
