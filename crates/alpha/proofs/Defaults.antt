@@ -27,14 +27,6 @@ use Rattle.alpha.specs.Passes.{isThere, unitTold, sizeOf, unitsIn, well,
 use Rattle.alpha.proofs.Texts.{below, plus, plus-none, plus-more, follow-size, well-units, Follows, follows, follows-if, head-within, head-is, head-rest, rest-none}
 
 -- a plain code, by its parts
-pub plain-not : (b : ℕ) → 128 ≤ b → false ≡ isPlain b
-unfolding isPlain
-plain-not b h = sym (ap (λ (t : Bool). t && not (eqb b escape)) (le-ltb b 128 h))
-
-pub plain-escape : (b : ℕ) → b < 128 → not (eqb b escape) ≡ isPlain b
-unfolding isPlain
-plain-escape b h = sym (ap (λ (t : Bool). t && not (eqb b escape)) (lt-ltb b 128 h))
-
 pub plain-below : (b : ℕ) → isPlain b ≡ true → b < 128
 unfolding isPlain
 plain-below b e = ltb-true b 128 (both-left (ltb b 128) (not (eqb b escape)) e)

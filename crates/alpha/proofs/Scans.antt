@@ -23,6 +23,10 @@ and-true : (p : Bool) → p && true ≡ p
 and-true true = refl
 and-true false = refl
 
+and-assoc : (a b c : Bool) → (a && b) && c ≡ a && (b && c)
+and-assoc true b c = refl
+and-assoc false b c = refl
+
 module _ (f : ℕ → Bool) (s : List ℕ) (i : ℕ) (p : Bool) (w : Scan f s i p) where
   pub scan-end : length s ≤ i → p ≡ every f s
   unfolding every
@@ -37,11 +41,15 @@ module _ (f : ℕ → Bool) (s : List ℕ) (i : ℕ) (p : Bool) (w : Scan f s i 
   pub scan-good : i < length s → f (getD s i 0) ≡ true → Scan f s (i + 1) p
   scan-good h e = record { within = omega arith; same = by-one h ∙ ap (λ (b : Bool). p && (b && every f (drop (i + 1) s))) e }
 
+  pub scan-more : (q : Bool) → i < length s → q ≡ f (getD s i 0) → Scan f s (i + 1) (p && q)
+  scan-more q h e =
+      record {
+        within = omega arith;
+        same = by-one h ∙ ap (λ (b : Bool). p && (b && every f (drop (i + 1) s))) (sym e) ∙ sym (and-assoc p q (every f (drop (i + 1) s)));
+      }
+
   bad : i < length s → f (getD s i 0) ≡ false → every f s ≡ false
   bad h e = by-one h ∙ ap (λ (b : Bool). p && (b && every f (drop (i + 1) s))) e ∙ and-false p
-
-  pub scan-bad : i < length s → f (getD s i 0) ≡ false → Scan f s (i + 1) false
-  scan-bad h e = record { within = omega arith; same = bad h e }
 
   pub scan-not : i < length s → f (getD s i 0) ≡ false → false ≡ every f s
   scan-not h e = sym (bad h e)

@@ -305,25 +305,18 @@ fn code_of(unit: u16, codes: &[u16; Coded::CODES]) -> Code
 fn is_plain_code(b: u8) -> bool
     ensures { λ r. ⌜ r ≡ isPlain b ⌝ }
 {
-    if Coded::LIMIT <= b {
-        return false;
-    }
-    b != Coded::ESCAPE
+    (b < Coded::LIMIT) & (b != Coded::ESCAPE)
 }
 
-// Whether every byte is a code of the base table.
+// Whether every byte is a code of the base table; no test in the loop leaves it, so that it goes many bytes at a time.
 fn is_plain(s: &[u8]) -> bool
     ensures { λ r. ⌜ r ≡ every isPlain (now (s .entry)) ⌝ }
 {
     let mut plain = true;
     let mut i: usize = 0;
     while i < s.len() {
-        if is_plain_code(s[i]) {
-            i += 1;
-        } else {
-            plain = false;
-            i += 1;
-        }
+        plain = plain & is_plain_code(s[i]);
+        i += 1;
     }
     plain
 }

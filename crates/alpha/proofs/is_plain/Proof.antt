@@ -1,11 +1,10 @@
 -- `alpha::is_plain` meets its contract: at every turn it is told of the bytes before here.
 -- Assumes nothing.
 use Prim.Native.Nat.{_-_}
-use mathlib.Core.Path.{sym, _∙_}
 use native.Mathlib.Omega.{arith}
 use lib.ListN.{length}
 use Rattle.alpha.specs.Passes.{isPlain}
-use Rattle.alpha.proofs.Scans.{Scan, scan-none, scan-good, scan-bad, scan-end}
+use Rattle.alpha.proofs.Scans.{Scan, scan-none, scan-more, scan-end}
 use Rattle.alpha.proofs.is_plain.Statement.{statement}
 use Rattle.alpha.proofs.is_plain.Tie as tie
 
@@ -19,13 +18,7 @@ loop-again : tie.Need-loop-again Inv-loop μ-loop
 loop-again c =
     let p : tie.After-is-plain-code Inv-loop μ-loop = search in
     let l : tie.At-loop Inv-loop μ-loop = search in
-    scan-good _ _ _ _ (l .loop .inv) (omega arith) (sym (p .is-plain-code .ensures) ∙ c .if1 .taken)
-
-loop-again-2 : tie.Need-loop-again-2 Inv-loop μ-loop
-loop-again-2 c =
-    let p : tie.After-is-plain-code Inv-loop μ-loop = search in
-    let l : tie.At-loop Inv-loop μ-loop = search in
-    scan-bad _ _ _ _ (l .loop .inv) (omega arith) (sym (p .is-plain-code .ensures) ∙ c .if1 .left)
+    scan-more _ _ _ _ (l .loop .inv) _ (omega arith) (p .is-plain-code .ensures)
 
 pub is-plain-spec : {M : Type 1} → statement M
 is-plain-spec =
@@ -39,7 +32,4 @@ is-plain-spec =
     (λ c. omega arith)
     (λ c. omega arith)
     loop-again
-    (λ c. omega arith)
-    (λ c. omega arith)
-    loop-again-2
     (λ c. search scan-end))
