@@ -9,8 +9,8 @@ use native.Mathlib.Omega.{arith}
 use native.Mathlib.Numerals.{add-one}
 use lib.ListN.{length, getD, drop, drop-of-length-le}
 use lib.Seq.{drop-cons}
-use lib.Dec.{eqb}
-use borrow.Author.Tests.{eq-eqb, ne-eqb, eqb-true, eqb-false}
+use lib.Dec.{eqb, leb}
+use borrow.Author.Tests.{eq-eqb, ne-eqb, eqb-true, eqb-false, leb-true}
 use Rattle.rules.specs.Checks.{_⇒_else_, every}
 use Rattle.rules.proofs.Laws.{stop, skip, both-left, both-right}
 use Rattle.alpha.specs.declared.Code.the-variants.{Of, Nothing}
@@ -195,3 +195,33 @@ extension-forth u c e =
     let t = found-unit pair-inverse u c extensions extension-test e in
     let a = both-left (same-code (extensionUnit c) u && same-code (extensionCodeOf u) c) (isNone (codeOf u)) t in
     same-code-is (extensionCodeOf u) c (both-right (same-code (extensionUnit c) u) (same-code (extensionCodeOf u) c) a)
+
+-- no unit of the base table is above its last
+last-test : every (λ (x : ℕ). leb x 0x3A9) table ≡ true
+unfolding every table
+last-test = refl
+
+above-none : (m u k : ℕ) (xs : List ℕ) → every (λ (x : ℕ). leb x m) xs ≡ true → m < u → codeAmong u k xs ≡ none
+unfolding every codeAmong
+above-none m u k [] e h = refl
+above-none m u k (x ∷ xs) e h =
+    let l = leb-true x m (both-left (leb x m) (every (λ (y : ℕ). leb y m) xs) e) in
+    skip _ _ _ (ne-eqb u x (λ q. omega (arith, q))) ∙ above-none m u (suc k) xs (both-right (leb x m) (every (λ (y : ℕ). leb y m) xs) e) h
+
+pub code-above : (u : ℕ) → 0x3A9 < u → Nothing ≡ codeTold (codeOf u)
+unfolding codeOf codeTold
+code-above u h = sym (ap codeTold (above-none 0x3A9 u 0 table last-test h))
+
+-- a unit that stands at its own place has that code
+escape-unit : unitOf escape ≡ 0x40
+unfolding unitOf table
+escape-unit = refl
+
+pub code-own : (u : ℕ) (codes : List ℕ) → codes ≡ table → u < 128 → getD codes u 0 ≡ u → Of u ≡ codeTold (codeOf u)
+unfolding unitOf codeTold
+code-own u codes is h e =
+    let own : unitOf u ≡ u = ap (λ (l : List ℕ). getD l u 0) (sym is) ∙ e in
+    sym (ap codeTold (ap codeOf (sym own) ∙ code-of-unit u h (λ f. other f own)))
+  where
+    other : u ≡ escape → unitOf u ≡ u → ⊥
+    other f own = let z = sym escape-unit ∙ ap unitOf (sym f) ∙ own in omega arith

@@ -35,10 +35,14 @@ ghost use Rattle.alpha.specs.Passes.{isThere, sizeOf, unitsIn, well, Fil
 pub struct Coded {}
 
 impl Coded {
-    // How many codes the base table has, and the code behind which one of the extension table stands.
+    // How many codes the base table has, as a byte and as a unit too, its highest unit, and the code behind which one of the extension table stands.
     pub const CODES: usize = 128;
 
     pub const LIMIT: u8 = 0x80;
+
+    pub const OWN: u16 = 0x80;
+
+    pub const LAST: u16 = 0x03A9;
 
     pub const ESCAPE: u8 = 0x1B;
 
@@ -286,8 +290,8 @@ fn extension_code(unit: u16) -> Code
     }
 }
 
-// The code of a unit in the base table.
-fn code_of(unit: u16, codes: &[u16; Coded::CODES]) -> Code
+// The code of a unit in the base table, code by code.
+fn look_up(unit: u16, codes: &[u16; Coded::CODES]) -> Code
     requires { ⌜ now codes ≡ table ⌝ }
     ensures { λ r. ⌜ r ≡ codeTold (codeOf unit) ⌝ }
 {
@@ -299,6 +303,23 @@ fn code_of(unit: u16, codes: &[u16; Coded::CODES]) -> Code
         i += 1;
     }
     Code::Nothing
+}
+
+// The code of a unit in the base table: none has one above the last, and most below 80 are their own.
+fn code_of(unit: u16, codes: &[u16; Coded::CODES]) -> Code
+    requires { ⌜ now codes ≡ table ⌝ }
+    ensures { λ r. ⌜ r ≡ codeTold (codeOf unit) ⌝ }
+{
+    if Coded::LAST < unit {
+        return Code::Nothing;
+    }
+    if Coded::OWN <= unit {
+        return look_up(unit, codes);
+    }
+    if codes[unit as usize] == unit {
+        return Code::Of(unit as u8);
+    }
+    look_up(unit, codes)
 }
 
 // Whether a byte is a code of the base table.
