@@ -122,6 +122,20 @@ uint32_t pomerassol_envelope(pomerassol_session *s, uint8_t *out, size_t out_siz
  * than 256. The answer is `atHand`. It needs no record. */
 uint32_t pomerassol_details(const uint8_t *bytes, size_t bytes_size);
 
+/* The text of an alpha identifier, the value of object 05, as 16-bit units: the default alphabet of TS 23.038, or the codings
+ * 80, 81 and 82 of TS 102 221 annex A. The answer is `reads`; the number is the count of units, which stand at the front of
+ * `out`, whose size is counted in units. R13 where the value is malformed, then R14 where `out` has fewer units than the
+ * text; then no unit is written. It needs no record. A value of as many bytes as `out` has units is never R14. */
+uint64_t pomerassol_alpha_read(const uint8_t *value, size_t value_size, uint16_t *out, size_t out_size);
+
+/* The alpha identifier of a text: the shortest coding, on a tie the first of default, 80, 81 and 82. The answer is `writes`;
+ * the number is the count of bytes. R14 where `out` has fewer, which is then as it was; there is no other refusal. 1 byte and
+ * 2 for each unit are always enough. */
+uint64_t pomerassol_alpha_write(const uint16_t *units, size_t units_size, uint8_t *out, size_t out_size);
+
+/* The number of these two is a count, which is below this flag, or the flag plus the refusal's number, 13 or 14. */
+#define POMERASSOL_TEXT_REFUSED UINT64_C(0x8000000000000000)
+
 /* Nothing is gathered; at a card's reset, anew. The memory may hold anything. */
 void pomerassol_fetch_start(pomerassol_gathered *gathered);
 

@@ -4,8 +4,9 @@ use Prim.Native.Nat.{ℕ, _+_, _-_, _*_, _%_, _≤_, _<_, min}
 use mathlib.Core.Path.{_≡_, refl, sym, ap, subst, _∙_}
 use mathlib.Core.List.{List}
 use native.Mathlib.Omega.{arith}
-use lib.ListN.{length-take}
-use borrow.Author.Tests.{lt-ltb, le-ltb}
+use lib.ListN.{length, length-take}
+use lib.Dec.{ltb}
+use borrow.Author.Tests.{lt-ltb, le-ltb, ltb-false}
 use Rattle.rules.specs.declared.ChannelNumber.{ChannelNumber}
 use Rattle.rules.specs.declared.Way.the-variants.{Send}
 use Rattle.rules.specs.Words.{numberOf, refusalOf}
@@ -18,7 +19,8 @@ use Rattle.rules.specs.Radio.{taking, arrives, takes, drops}
 use Rattle.rules.specs.TimerCalls.{second, envelope}
 use Rattle.rules.specs.Run.{Call, starting, commanding, step, radio, timing}
 use Rattle.rules.specs.Sound.{Sound, Within}
-use Rattle.rules.proofs.Laws.{stop, skip}
+use Rattle.rules.specs.declared.Refusal.the-variants.{ShortText}
+use Rattle.rules.proofs.Laws.{stop, skip, branch}
 use Rattle.rules.proofs.Told.{refusal-back, number-small}
 use Rattle.rules.proofs.Cases.{taking-cases}
 use Rattle.rules.proofs.Fetch.{fetch-within}
@@ -29,7 +31,9 @@ use Rattle.rules.specs.declared.Ended.the-variants.{Wrote, Refused}
 use Rattle.session.specs.Calls.{Answers}
 use Rattle.fetch.specs.declared.Fetched.{Fetched}
 use Rattle.fetch.specs.Gathers.{Fetches}
-use Rattle.host.specs.Packed.{packed, unpacked, leftCap, packedBurst, endedIn, leftIn, Fits, Packs, PacksBurst}
+use Rattle.host.specs.Packed.{packed, unpacked, leftCap, packedBurst, endedIn, leftIn, packedText, unpackedText, Texts, Fits, Packs, PacksBurst}
+use Rattle.alpha.specs.Reads.{Text, units, malformed}
+use Rattle.alpha.specs.Calls.{fitted, endedOf as textEnded}
 
 -- what was packed is read back: each count and each refusal has a number of its own
 pub unpacked-packed : (e : Ended) → Fits e → unpacked (packed e) ≡ e
@@ -38,6 +42,39 @@ unpacked-packed (Wrote count) h = stop _ _ _ (lt-ltb count 0x1000000 (omega (ari
 unpacked-packed (Refused r) h =
     let e : 0x1000000 + numberOf r - 0x1000000 ≡ numberOf r = omega arith in
     skip _ _ _ (le-ltb (0x1000000 + numberOf r) 0x1000000 (omega arith)) ∙ ap (λ (k : ℕ). Refused (refusalOf k)) e ∙ ap Refused (refusal-back r)
+
+-- the same of a text, whose count is that of a lent buffer at most, and so below the flag
+Below : Ended → Type 0
+Below (Wrote count) = count < 0x8000000000000000
+Below (Refused r) = Unit {0}
+
+text-back : (e : Ended) → Below e → unpackedText (packedText e) ≡ e
+unfolding packedText unpackedText Below
+text-back (Wrote count) h = stop _ _ _ (lt-ltb count 0x8000000000000000 h)
+text-back (Refused r) h =
+    let e : 0x8000000000000000 + numberOf r - 0x8000000000000000 ≡ numberOf r = omega arith in
+    skip _ _ _ (le-ltb (0x8000000000000000 + numberOf r) 0x8000000000000000 (omega arith)) ∙ ap (λ (k : ℕ). Refused (refusalOf k)) e ∙ ap Refused (refusal-back r)
+
+fitted-below : (s : List ℕ) (room : ℕ) → room < 0x8000000000000000 → Below (fitted s room)
+unfolding Below fitted
+fitted-below s room h =
+    branch Below (ltb room (length s)) (Refused ShortText) (Wrote (length s)) (λ _. tt) (λ e. let k = ltb-false room (length s) e in omega arith)
+
+read-below : (t : Text) (room : ℕ) → room < 0x8000000000000000 → Below (textEnded t room)
+unfolding Below textEnded
+read-below malformed room h = tt
+read-below (units us) room h = fitted-below us room h
+
+told-back : (e x : Ended) (r : ℕ) → Below e → x ≡ e → r ≡ packedText x → Texts e r
+told-back e x r b is p =
+    let q = p ∙ ap packedText is in
+    record { told = q; back = ap unpackedText q ∙ text-back e b }
+
+pub text-read : (t : Text) (room : ℕ) (x : Ended) (r : ℕ) → room < 0x8000000000000000 → x ≡ textEnded t room → r ≡ packedText x → Texts (textEnded t room) r
+text-read t room x r h is p = told-back (textEnded t room) x r (read-below t room h) is p
+
+pub text-written : (s : List ℕ) (room : ℕ) (x : Ended) (r : ℕ) → room < 0x8000000000000000 → x ≡ fitted s room → r ≡ packedText x → Texts (fitted s room) r
+text-written s room x r h is p = told-back (fitted s room) x r (fitted-below s room h) is p
 
 within-fits : (k : ℕ) (o : Outcome) → k ≤ grantCap → Within k o → Fits (endedOf o)
 unfolding Fits endedOf

@@ -12,6 +12,10 @@ use Rattle.session.proofs.Alike.{lent-alike, ledger-told, pool-told, session-al
 use Rattle.host.specs.Packed.{Hosts}
 use Rattle.host.proofs.pomerassol_details.Kinds as details-kinds
 use Rattle.host.proofs.pomerassol_details.Reads as details-reads
+use Rattle.host.proofs.pomerassol_alpha_read.Kinds as alpha-read-kinds
+use Rattle.host.proofs.pomerassol_alpha_read.Reads as alpha-read-reads
+use Rattle.host.proofs.pomerassol_alpha_write.Kinds as alpha-write-kinds
+use Rattle.host.proofs.pomerassol_alpha_write.Reads as alpha-write-reads
 use Rattle.host.proofs.pomerassol_start as start-call
 use Rattle.host.proofs.pomerassol_command as command-call
 use Rattle.host.proofs.pomerassol_arrival as arrival-call
@@ -69,6 +73,12 @@ second-settled M 𝓤 H A mem run κs a g x y v w =
 
 pub details-settled : Determined 1 details-kinds.ps details-kinds.r details-reads.Pre details-reads.Post
 details-settled κs a _ x y v w p q = (p ∙ sym q, refl)
+
+pub alpha-read-settled : Determined 2 alpha-read-kinds.ps alpha-read-kinds.r alpha-read-reads.Pre alpha-read-reads.Post
+alpha-read-settled κs a _ x y v w p q = (p .0 .told ∙ sym (q .0 .told), λ i. (tt, ((p .1 ∙ sym (q .1)) i, tt)))
+
+pub alpha-write-settled : Determined 2 alpha-write-kinds.ps alpha-write-kinds.r alpha-write-reads.Pre alpha-write-reads.Post
+alpha-write-settled κs a _ x y v w p q = (p .0 .told ∙ sym (q .0 .told), λ i. (tt, ((p .1 ∙ sym (q .1)) i, tt)))
 
 pub fetch-start-settled : Determined 1 fetch-start-kinds.ps fetch-start-kinds.r fetch-start-reads.Pre fetch-start-reads.Post
 fetch-start-settled κs a _ x y v w p q = (refl, λ i. ((p ∙ sym q) i, tt))

@@ -30,6 +30,20 @@ unfoldable pub Fits : Ended → Type 0
 Fits (Wrote count) = count ≤ grantCap
 Fits (Refused r) = Unit {0}
 
+-- the count of units or bytes of a text, or 8000000000000000 (hexadecimal) plus the refusal's number
+unfoldable pub packedText : Ended → ℕ
+packedText (Wrote count) = count
+packedText (Refused r) = 0x8000000000000000 + numberOf r
+
+-- how the call ended, read back from that number
+unfoldable pub unpackedText : ℕ → Ended
+unpackedText r = ltb r 0x8000000000000000 ⇒ Wrote r else Refused (refusalOf (r - 0x8000000000000000))
+
+-- the number tells how a reading or a writing ended, and no count is taken for a refusal
+pub record Texts (e : Ended) (r : ℕ) : Type 0 where
+  pub told : r ≡ packedText e
+  pub back : unpackedText r ≡ e
+
 -- the call is the answer x, on the two arrays that are lent, the ledger's numbers t and the pool p, and the number tells how it ended
 pub record Packs (x : Answer) (t p : List ℕ) (r : ℕ) (before after : List ℕ) : Type 0 where
   pub answers : Answers x t p (endedOf (x .outcome)) before after

@@ -1,4 +1,5 @@
 // The calls over a record that the host lends, exported to C. Each lends both arrays, moves nothing, and packs how it ended into one number.
+use alpha;
 use command::at_hand;
 use fetch::Fetched;
 use fetch::Gathered;
@@ -28,11 +29,14 @@ ghost use Rattle.rules.specs.Fetch.{fetch};
 ghost use Rattle.rules.specs.Radio.{arrival, taking, dropping};
 ghost use Rattle.rules.specs.TimerCalls.{passing, enveloping};
 ghost use Rattle.rules.specs.declared.Ended.the-variants.{Wrote};
+ghost use Rattle.alpha.specs.Reads.{reads};
+ghost use Rattle.alpha.specs.Writes.{writes};
+ghost use Rattle.alpha.specs.Calls.{fitted, laid, endedOf, leaves};
 ghost use Rattle.session.specs.Book.{ledgerSize};
 ghost use Rattle.session.specs.Calls.{Answers};
 ghost use Rattle.session.specs.Picture.{Good, GoodIn, Shows, shown, view};
 ghost use Rattle.fetch.specs.Gathers.{gatheredOf, gatheredIn, Gathers};
-ghost use Rattle.host.specs.Packed.{packed, packedBurst, Fits, Hosts, Packs, PacksBurst, HostsBurst};
+ghost use Rattle.host.specs.Packed.{packed, packedBurst, packedText, Texts, Fits, Hosts, Packs, PacksBurst, HostsBurst};
 
 // How a call ended, in one number: the count, or 1000000 (hexadecimal) plus the refusal's number.
 fn pack(ended: Ended) -> u32
@@ -62,6 +66,19 @@ fn pack_burst(fetched: Fetched) -> u64
         return UPPER * left + told;
     }
     UPPER * LEFT_CAP + told
+}
+
+// What stands before the number of a refusal where a count has 64 bits.
+const TEXT_REFUSED: u64 = 0x8000000000000000;
+
+// How a reading or a writing of a text ended, in one number: the count, or 8000000000000000 (hexadecimal) plus the refusal's number.
+fn pack_text(ended: Ended) -> u64
+    ensures { λ r. ⌜ r ≡ packedText ended ⌝ }
+{
+    match ended {
+        Ended::Wrote(count) => count as u64,
+        Ended::Refused(why) => TEXT_REFUSED + why.number() as u64,
+    }
 }
 
 // The start over the lent arrays: the pool's bytes are cleared, and the ledger is written anew.
@@ -233,6 +250,24 @@ pub extern "C" fn pomerassol_details(bytes: &[u8]) -> u32
     ensures { λ r. ⌜ r ≡ atHand (now (bytes .entry)) ⌝ }
 {
     at_hand(bytes)
+}
+
+// The text of an alpha identifier, as 16-bit units.
+#[no_mangle]
+pub extern "C" fn pomerassol_alpha_read(value: &[u8], out: &mut [u16]) -> u64
+    ensures { λ r. ⌜ Texts (endedOf (reads (now (value .entry))) (length (now (out .entry)))) r ⌝ }
+    ensures { λ r. ⌜ now (out .exit) ≡ leaves (reads (now (value .entry))) (now (out .entry)) ⌝ }
+{
+    pack_text(alpha::read(value, out))
+}
+
+// The alpha identifier of a text, in its shortest coding.
+#[no_mangle]
+pub extern "C" fn pomerassol_alpha_write(units: &[u16], out: &mut [u8]) -> u64
+    ensures { λ r. ⌜ Texts (fitted (writes (now (units .entry))) (length (now (out .entry)))) r ⌝ }
+    ensures { λ r. ⌜ now (out .exit) ≡ laid (writes (now (units .entry))) (now (out .entry)) ⌝ }
+{
+    pack_text(alpha::write(units, out))
 }
 
 // Nothing is gathered of a command, whatever the memory held.

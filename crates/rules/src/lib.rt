@@ -69,7 +69,7 @@ impl Limits {
     pub const VALUE: usize = 241;
 }
 
-// The refusals R1 to R12 and R16 to R18, by their numbers.
+// The refusals R1 to R14 and R16 to R18, by their numbers.
 pub enum Refusal {
     ShortBuffer,
     CommandSize,
@@ -83,6 +83,8 @@ pub enum Refusal {
     NoneWaits,
     NoPlace,
     Undersized,
+    Malformed,
+    ShortText,
     Unmendable,
     NoRecord,
     WrongCount,
@@ -106,6 +108,8 @@ impl Refusal {
             Refusal::NoneWaits => 10,
             Refusal::NoPlace => 11,
             Refusal::Undersized => 12,
+            Refusal::Malformed => 13,
+            Refusal::ShortText => 14,
             Refusal::Unmendable => 16,
             Refusal::NoRecord => 17,
             Refusal::WrongCount => 18,

@@ -10,6 +10,10 @@ use Rattle.text.specs.declared.Spoken.{Spoken}
 use Rattle.text.specs.declared.Spoken.the-variants.{Command, Arrival, Take, Drop, Nothing}
 use Rattle.text.specs.Calls.{callSpoken}
 use Rattle.outcomes.specs.Determined.{Determined}
+use Rattle.text.proofs.is_digit.Kinds as is-digit-kinds
+use Rattle.text.proofs.is_digit.Reads as is-digit-reads
+use Rattle.text.proofs.digit_value.Kinds as digit-value-kinds
+use Rattle.text.proofs.digit_value.Reads as digit-value-reads
 use Rattle.text.proofs.read_frame.Kinds as read-frame-kinds
 use Rattle.text.proofs.read_frame.Reads as read-frame-reads
 use Rattle.text.proofs.read_call.Kinds as read-call-kinds
@@ -44,6 +48,12 @@ spoken-back (Arrival n) s = refl
 spoken-back (Take n k) s = refl
 spoken-back (Drop n) s = refl
 spoken-back Nothing s = refl
+
+pub is-digit-settled : Determined 0 is-digit-kinds.ps is-digit-kinds.r is-digit-reads.Pre is-digit-reads.Post
+is-digit-settled κs a _ x y v w p q = (p ∙ sym q, refl)
+
+pub digit-value-settled : Determined 0 digit-value-kinds.ps digit-value-kinds.r digit-value-reads.Pre digit-value-reads.Post
+digit-value-settled κs a _ x y v w p q = (p ∙ sym q, refl)
 
 pub read-frame-settled : Determined 2 read-frame-kinds.ps read-frame-kinds.r read-frame-reads.Pre read-frame-reads.Post
 read-frame-settled κs a _ x y v w p q = (p .0 ∙ sym (q .0), λ i. (tt, ((p .1 ∙ sym (q .1)) i, tt)))

@@ -45,7 +45,7 @@ pub enum Spoken {
 }
 
 // Whether a character is a hexadecimal digit, in either case.
-fn is_digit(c: u8) -> bool
+pub fn is_digit(c: u8) -> bool
     ensures { λ r. ⌜ r ≡ isDigit c ⌝ }
 {
     match c {
@@ -57,7 +57,7 @@ fn is_digit(c: u8) -> bool
 }
 
 // What a digit stands for.
-fn digit_value(c: u8) -> u8
+pub fn digit_value(c: u8) -> u8
     requires { ⌜ isDigit c ≡ true ⌝ }
     ensures { λ r. ⌜ r ≡ digitValue c ⌝ }
 {

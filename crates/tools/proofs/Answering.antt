@@ -15,10 +15,11 @@ use Rattle.bench.specs.Printed.{benchLine}
 use Rattle.details.specs.Printed.{detailsLine}
 use Rattle.mending.specs.Printed.{mendLine}
 use Rattle.csim.specs.Printed.{importLine, exportLine}
+use Rattle.alpha.specs.Printed.{alphaReadLine, alphaWriteLine}
 use Rattle.bursts.specs.Bursts.{awaitsIn, burstEnds, Tells}
 use Rattle.flow.specs.Holds.{Says}
 use Rattle.tools.specs.declared.Tool.{Tool}
-use Rattle.tools.specs.declared.Tool.the-variants.{Lines, Calls, Bench, Details, Fetch, Mend, CsimImport, CsimExport}
+use Rattle.tools.specs.declared.Tool.the-variants.{Lines, Calls, Bench, Details, Fetch, Mend, CsimImport, CsimExport, AlphaRead, AlphaWrite}
 use Rattle.tools.specs.Tools.{memory, GoodMemory, keptIn, inSession, stays, ends}
 
 module _ (tool : Tool) (b : Bool) (t p g l : List ℕ) (y : GoodMemory (memory t p g)) (r : ℕ) (out : List ℕ) (at : ℕ) (out′ : List ℕ) where
@@ -69,6 +70,14 @@ module _ (tool : Tool) (b : Bool) (t p g l : List ℕ) (y : GoodMemory (memory t
   pub export-answer : tool ≡ CsimExport → Prints (exportLine l) r out at out′ → Says GoodMemory keptIn (ends tool (keptIn b (memory t p g)) l) (memory t p g) r out at out′
   unfolding ends
   export-answer e h = rw e (stays-answer (exportLine l) h)
+
+  pub alpha-read-answer : tool ≡ AlphaRead → Prints (alphaReadLine l) r out at out′ → Says GoodMemory keptIn (ends tool (keptIn b (memory t p g)) l) (memory t p g) r out at out′
+  unfolding ends
+  alpha-read-answer e h = rw e (stays-answer (alphaReadLine l) h)
+
+  pub alpha-write-answer : tool ≡ AlphaWrite → Prints (alphaWriteLine l) r out at out′ → Says GoodMemory keptIn (ends tool (keptIn b (memory t p g)) l) (memory t p g) r out at out′
+  unfolding ends
+  alpha-write-answer e h = rw e (stays-answer (alphaWriteLine l) h)
 
   pub fetch-answer :
       (t′ p′ g′ : List ℕ) → tool ≡ Fetch → Tells (burstEnds b (awaitsIn t p g) l) t′ p′ g′ r out at out′ →

@@ -11,11 +11,12 @@ use Rattle.bench.specs.Printed.{benchLine}
 use Rattle.details.specs.Printed.{detailsLine}
 use Rattle.mending.specs.Printed.{mendLine}
 use Rattle.csim.specs.Printed.{importLine, exportLine}
+use Rattle.alpha.specs.Printed.{alphaReadLine, alphaWriteLine}
 use Rattle.bursts.specs.Bursts.{Awaits, burstEnds}
 use Rattle.flow.specs.Flow.{Ends}
 use Rattle.flow.specs.Holds.{View}
 use Rattle.tools.specs.declared.Tool.{Tool}
-use Rattle.tools.specs.declared.Tool.the-variants.{Lines, Calls, Bench, Details, Fetch, Mend, CsimImport, CsimExport}
+use Rattle.tools.specs.declared.Tool.the-variants.{Lines, Calls, Bench, Details, Fetch, Mend, CsimImport, CsimExport, AlphaRead, AlphaWrite}
 
 -- what is kept: whether the first line was read, the session's state, and the bytes gathered of a command
 pub record Kept : Type 0 where
@@ -67,3 +68,5 @@ ends Fetch k l = inBursts (burstEnds (k .begun) (record { state = k .state; gath
 ends Mend k l = stays k (mendLine l)
 ends CsimImport k l = stays k (importLine l)
 ends CsimExport k l = stays k (exportLine l)
+ends AlphaRead k l = stays k (alphaReadLine l)
+ends AlphaWrite k l = stays k (alphaWriteLine l)

@@ -1,4 +1,6 @@
 // The line tools, the match that picks one, and the loop over a piece of its input.
+use alpha::tell_alpha_read;
+use alpha::tell_alpha_write;
 use bench::tell_bench;
 use bursts::tell_burst;
 use check;
@@ -29,10 +31,10 @@ ghost use Rattle.session.specs.Picture.{ledgerOf};
 ghost use Rattle.fetch.specs.Gathers.{gatheredOf};
 ghost use Rattle.flow.specs.Flow.{keptSize, printedSize, feeds, piece, lastPiece};
 ghost use Rattle.flow.specs.Holds.{Ready, readerIn, Says, Goes, Keeps, Fills};
-ghost use Rattle.tools.specs.Names.{toolNamed};
+ghost use Rattle.tools.specs.Names.{exchangeNamed, toolNamed};
 ghost use Rattle.tools.specs.Tools.{memory, GoodMemory, keptIn, ends};
 
-// The tools: document 01's program, the calls of timers beside its lines, the bench, what command is at hand, bytes as they come off the line, applet commands mended, and lines of +CSIM logs in and out.
+// The tools: document 01's program, the calls of timers beside its lines, the bench, what command is at hand, bytes as they come off the line, applet commands mended, lines of +CSIM logs in and out, and alpha identifiers read and written.
 pub enum Tool {
     Lines,
     Calls,
@@ -42,12 +44,33 @@ pub enum Tool {
     Mend,
     CsimImport,
     CsimExport,
+    AlphaRead,
+    AlphaWrite,
 }
 
 // A word as the name of a tool.
 pub enum Named {
     One(Tool),
     Unknown,
+}
+
+// The tool between our lines and those of others that a word names.
+fn exchange_named(word: &[u8]) -> Named
+    ensures { λ r. ⌜ r ≡ exchangeNamed (now (word .entry)) ⌝ }
+{
+    if check::same(word, b"csim-import") {
+        return Named::One(Tool::CsimImport);
+    }
+    if check::same(word, b"csim-export") {
+        return Named::One(Tool::CsimExport);
+    }
+    if check::same(word, b"alpha-read") {
+        return Named::One(Tool::AlphaRead);
+    }
+    if check::same(word, b"alpha-write") {
+        return Named::One(Tool::AlphaWrite);
+    }
+    Named::Unknown
 }
 
 // The tool that a word names.
@@ -72,13 +95,7 @@ pub fn tool_named(word: &[u8]) -> Named
     if check::same(word, b"mend") {
         return Named::One(Tool::Mend);
     }
-    if check::same(word, b"csim-import") {
-        return Named::One(Tool::CsimImport);
-    }
-    if check::same(word, b"csim-export") {
-        return Named::One(Tool::CsimExport);
-    }
-    Named::Unknown
+    exchange_named(word)
 }
 
 // Answers a line with a tool: prints what it says into `out` from `at` on, and tells the place behind it.
@@ -104,6 +121,8 @@ fn answer(
         Tool::Mend => tell_mended(line, out, at),
         Tool::CsimImport => tell_import(line, out, at),
         Tool::CsimExport => tell_export(line, out, at),
+        Tool::AlphaRead => tell_alpha_read(line, out, at),
+        Tool::AlphaWrite => tell_alpha_write(line, out, at),
     }
 }
 

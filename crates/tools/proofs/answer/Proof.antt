@@ -1,6 +1,6 @@
 -- `tools::answer` meets its contract: each arm by the law of its tool.
 -- Assumes nothing.
-use Rattle.tools.proofs.Answering.{lines-answer, calls-answer, bench-answer, details-answer, fetch-answer, mend-answer, import-answer, export-answer}
+use Rattle.tools.proofs.Answering.{lines-answer, calls-answer, bench-answer, details-answer, fetch-answer, mend-answer, import-answer, export-answer, alpha-read-answer, alpha-write-answer}
 use borrow.Author.Needs.{needs}
 use Rattle.tools.proofs.answer.Statement.{statement}
 use Rattle.tools.proofs.answer.Tie as tie
@@ -61,10 +61,28 @@ returns-8 c =
     let s : tie.Start = search in
     export-answer _ _ _ _ _ _ (s .pre .0) _ _ _ _ (t .enum-told8 .given .1) (a .tell-export .ensures)
 
+returns-9 : tie.Need-returns-9
+returns-9 c =
+    let a : tie.After-tell-alpha-read = search in
+    let t : tie.After-enum-told9 = search in
+    let s : tie.Start = search in
+    alpha-read-answer _ _ _ _ _ _ (s .pre .0) _ _ _ _ (t .enum-told9 .given .1) (a .tell-alpha-read .ensures)
+
+returns-10 : tie.Need-returns-10
+returns-10 c =
+    let a : tie.After-tell-alpha-write = search in
+    let t : tie.After-enum-told10 = search in
+    let s : tie.Start = search in
+    alpha-write-answer _ _ _ _ _ _ (s .pre .0) _ _ _ _ (t .enum-told10 .given .1) (a .tell-alpha-write .ensures)
+
 pub answer-spec : {M : Type 1} → statement M
 answer-spec =
     tie.close
     (tie.spec
+    (λ c. search needs)
+    (λ c κs. search needs)
+    (λ c. search needs)
+    (λ c κs. search needs)
     (λ c. search needs)
     (λ c κs. search needs)
     (λ c. search needs)
@@ -96,4 +114,8 @@ answer-spec =
     (λ c. search needs)
     returns-7
     (λ c. search needs)
-    returns-8)
+    returns-8
+    (λ c. search needs)
+    returns-9
+    (λ c. search needs)
+    returns-10)

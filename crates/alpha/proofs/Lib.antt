@@ -1,0 +1,15 @@
+pub mod Tables
+pub mod Texts
+pub mod Scans
+pub mod Defaults
+pub mod Pairings
+pub mod Bases
+pub mod Marks
+pub mod Codings
+pub mod Surveys
+pub mod Layings
+pub mod Lines
+pub mod Telling
+pub mod Settled
+pub mod Written
+pub mod Shortest
