@@ -11,16 +11,15 @@ use lib.ListN.{length, getD, take, drop, set}
 use lib.Seq.{length-take-le}
 use lib.Dec.{ltb, leb, eqb}
 use borrow.Rule.Slice.PartAt.{part-to-end}
-use borrow.Author.Tests.{lt-ltb, le-ltb, le-leb, lt-leb, eq-eqb, ne-eqb, leb-true, leb-false, ltb-false, not-true, not-false}
+use borrow.Author.Tests.{lt-ltb, le-ltb, eq-eqb, ne-eqb, leb-true, leb-false, ltb-false, not-true, not-false}
 use Rattle.rules.specs.Checks.{_⇒_else_, every}
-use Rattle.rules.proofs.Laws.{stop, skip, branch, both-left, both-right}
+use Rattle.rules.proofs.Laws.{stop, skip, both-left, both-right}
 use Rattle.octets.specs.Parts.{overlaid}
 use Rattle.octets.proofs.Pastes.{front-over}
 use Rattle.octets.proofs.Copies.{Copied, copied-none, copied-more, copied-all}
-use Rattle.alpha.specs.declared.Size.{Size}
 use Rattle.alpha.specs.declared.Size.the-variants.{Units, Malformed}
 use Rattle.alpha.specs.Alphabet.{escape, unitOf}
-use Rattle.alpha.specs.Reads.{Text, units, malformed, follow, followIf, padding, basedUnit, basedFrom, based}
+use Rattle.alpha.specs.Reads.{Text, malformed, follow, followIf, padding, basedUnit, basedFrom, based}
 use Rattle.alpha.specs.Passes.{isThere, sizeOf, unitsIn, well, Fills}
 use Rattle.alpha.proofs.Texts.{follow-well, follow-units, well-size, ill-size}
 

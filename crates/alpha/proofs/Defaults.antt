@@ -2,7 +2,7 @@
 -- Assumes nothing.
 use Prim.Native.Nat.{ℕ, zero, suc, _+_, _-_, _≤_, _<_}
 use mathlib.Core.Path.{_≡_, refl, sym, ap, subst, _∙_}
-use mathlib.Core.Bool.{Bool, true, false, not, _&&_, false≢true}
+use mathlib.Core.Bool.{Bool, true, false, not, false≢true}
 use mathlib.Core.List.{List, [], _∷_, map}
 use mathlib.Core.Option.{Option, none, some}
 use native.Mathlib.Omega.{arith}
@@ -13,18 +13,17 @@ use lib.Seq.{drop-cons}
 use lib.Dec.{ltb, eqb}
 use borrow.Author.Tests.{lt-ltb, le-ltb, eq-eqb, ne-eqb, ltb-true, eqb-false, not-true}
 use Rattle.rules.specs.Checks.{_⇒_else_, every}
-use Rattle.rules.proofs.Laws.{stop, skip, both, both-left, both-right, and-false}
+use Rattle.rules.proofs.Laws.{stop, skip, both-left, both-right}
 use Rattle.octets.specs.Parts.{overlaid}
 use Rattle.octets.proofs.Pastes.{front-over}
 use Rattle.octets.proofs.Copies.{Copied, copied-none, copied-more, copied-all}
-use Rattle.alpha.specs.declared.Size.{Size}
 use Rattle.alpha.specs.declared.Size.the-variants.{Units, Malformed}
 use Rattle.alpha.specs.declared.Unit.{Unit as UnitTold}
 use Rattle.alpha.specs.declared.Unit.the-variants.{Of, Nothing}
-use Rattle.alpha.specs.Alphabet.{escape, table, unitOf, extensionUnit}
+use Rattle.alpha.specs.Alphabet.{escape, unitOf, extensionUnit}
 use Rattle.alpha.specs.Reads.{Text, units, malformed, follow, followIf, padding, defaultFrom}
-use Rattle.alpha.specs.Passes.{isThere, unitTold, sizeOf, unitsIn, well, Fills, isPlain}
-use Rattle.alpha.proofs.Texts.{below, plus, plus-none, plus-more, follow-size, well-units, Follows, follows, follows-if, head-within, head-is, head-rest, rest-none}
+use Rattle.alpha.specs.Passes.{isThere, unitTold, sizeOf, unitsIn, Fills, isPlain}
+use Rattle.alpha.proofs.Texts.{below, plus, plus-none, plus-more, follow-size, well-units, follows, follows-if, head-within, head-is, head-rest, rest-none}
 
 -- a plain code, by its parts
 pub plain-below : (b : ℕ) → isPlain b ≡ true → b < 128

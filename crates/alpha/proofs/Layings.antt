@@ -2,7 +2,7 @@
 -- Assumes nothing.
 use Prim.Native.Nat.{ℕ, zero, suc, _+_, _-_, _*_, _/_, _%_, _≤_, _<_}
 use mathlib.Core.Path.{_≡_, refl, sym, ap, subst, _∙_}
-use mathlib.Core.Bool.{Bool, true, false, _&&_, false≢true}
+use mathlib.Core.Bool.{Bool, true, false, _&&_}
 use mathlib.Core.List.{List, [], _∷_, _++_}
 use mathlib.Core.Option.{Option, none, some}
 use native.Mathlib.Omega.{arith}
@@ -26,7 +26,7 @@ use Rattle.text.specs.Frames.{readable, frameBytes}
 use Rattle.alpha.specs.declared.Code.{Code}
 use Rattle.alpha.specs.declared.Code.the-variants.{Of, Nothing}
 use Rattle.alpha.specs.Alphabet.{escape, codeOf, extensionCodeOf}
-use Rattle.alpha.specs.Writes.{before, needs, defaultCoding, pairBytes, pairCoding, serves, basedByte, basedBytes, countCap, blockWith, blockServes, baseWith, baseServes}
+use Rattle.alpha.specs.Writes.{before, needs, defaultCoding, pairBytes, pairCoding, serves, basedByte, basedBytes, blockWith, blockServes, baseWith, baseServes}
 use Rattle.alpha.specs.Calls.{fitted, laid}
 use Rattle.alpha.specs.Passes.{codeTold, CodedBy, Ends}
 use Rattle.alpha.proofs.Texts.{head-within, head-is, head-rest, rest-none}

@@ -10,12 +10,12 @@ use native.Mathlib.Nat.{zero-add}
 use native.Mathlib.Numerals.{add-one}
 use lib.ListN.{length, getD, take, drop, set, length-append, length-drop, drop-of-length-le}
 use lib.Seq.{drop-cons, take-suc, take-all, length-take-le, take-append-seam}
-use lib.Dec.{eqb, ltb}
+use lib.Dec.{eqb}
 use borrow.Author.Tests.{lt-ltb, le-ltb, eq-eqb, ne-eqb, not-true, not-false}
-use Rattle.rules.specs.Checks.{_⇒_else_, same}
-use Rattle.rules.specs.Lines.{isDigit, digitValue, hex}
+use Rattle.rules.specs.Checks.{same}
+use Rattle.rules.specs.Lines.{isDigit}
 use Rattle.rules.proofs.Laws.{stop, skip, both-left, both-right, and-false}
-use Rattle.octets.specs.Parts.{pasted, overlaid}
+use Rattle.octets.specs.Parts.{overlaid}
 use Rattle.octets.proofs.Pastes.{front-over, length-pasted}
 use Rattle.octets.proofs.Stores.{paste-none}
 use Rattle.octets.proofs.Copies.{Copied, copied-none, copied-more, copied-all}
@@ -24,7 +24,7 @@ use Rattle.text.specs.Prints.{Prints}
 use Rattle.text.proofs.Printing.{hex-size, prints-after, prints-as}
 use Rattle.alpha.specs.declared.Size.{Size}
 use Rattle.alpha.specs.declared.Size.the-variants.{Units, Malformed}
-use Rattle.alpha.specs.Printed.{dashes, unitText, furtherText, unitsText, withUnit, fourDigits, areDigits, unitsFrom, unitsCap, unitsOf}
+use Rattle.alpha.specs.Printed.{dashes, unitText, furtherText, withUnit, fourDigits, areDigits, unitsFrom, unitsOf}
 use Rattle.alpha.specs.Passes.{digitsAt, unitAt, sizeTold}
 
 and-true : (p : Bool) → p && true ≡ p

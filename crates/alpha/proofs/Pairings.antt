@@ -3,19 +3,17 @@
 use Prim.Native.Nat.{ℕ, zero, suc, _+_, _-_, _*_, _/_, _%_, _≤_, _<_}
 use mathlib.Core.Path.{_≡_, refl, sym, ap, subst, _∙_}
 use mathlib.Core.Logic.{_⊎_, inl, inr}
-use mathlib.Core.Bool.{true, false, false≢true}
+use mathlib.Core.Bool.{true}
 use mathlib.Core.List.{List, [], _∷_}
 use native.Mathlib.Omega.{arith}
 use native.Mathlib.Nat.{zero-add}
 use lib.ListN.{length, getD, set}
 use lib.Dec.{eqb}
 use borrow.Author.Tests.{eq-eqb, ne-eqb}
-use Rattle.rules.specs.Checks.{_⇒_else_}
 use Rattle.rules.proofs.Laws.{stop, skip, branch}
 use Rattle.octets.specs.Parts.{overlaid}
 use Rattle.octets.proofs.Pastes.{front-over}
 use Rattle.octets.proofs.Copies.{Copied, copied-none, copied-more, copied-all}
-use Rattle.alpha.specs.declared.Size.{Size}
 use Rattle.alpha.specs.declared.Size.the-variants.{Units, Malformed}
 use Rattle.alpha.specs.Reads.{Text, units, malformed, follow, padding, pairs}
 use Rattle.alpha.specs.Passes.{sizeOf, unitsIn, well, Fills}

@@ -4,11 +4,11 @@ use Prim.Native.Nat.{ℕ, suc, _+_, _-_, _*_, _/_, _≤_, _<_, min, max}
 use mathlib.Core.Path.{_≡_, refl, sym, ap, subst, _∙_}
 use mathlib.Core.Logic.{_⊎_, inl, inr, ⊎-elim}
 use mathlib.Core.Bool.{Bool, true, false, _&&_, false≢true}
-use mathlib.Core.List.{List, [], _∷_, _++_}
+use mathlib.Core.List.{List, [], _∷_}
 use mathlib.Core.Option.{Option, none, some}
 use native.Mathlib.Omega.{arith}
 use native.Mathlib.Numerals.{add-one}
-use lib.ListN.{length, getD, drop, length-append, drop-of-length-le}
+use lib.ListN.{length, getD, drop, drop-of-length-le}
 use lib.Seq.{drop-cons}
 use lib.Dec.{ltb, leb, eqb}
 use borrow.Author.Tests.{lt-ltb, le-ltb, le-leb, lt-leb, eq-eqb, leb-true, leb-false, ltb-true, ltb-false, eqb-true}
@@ -22,10 +22,10 @@ use Rattle.alpha.specs.declared.Coding.{Coding}
 use Rattle.alpha.specs.declared.Coding.the-variants.{Default, Pairs, Block, Base}
 use Rattle.alpha.specs.declared.Survey.{Survey}
 use Rattle.alpha.specs.Alphabet.{escape, codeOf, extensionCodeOf}
-use Rattle.alpha.specs.Writes.{before, needs, isNone, defaultCoding, pairCoding, serves, countCap, blockWith, blockServes, blockOf, blockCoding, baseWith, baseServes, highest, baseOf, baseCoding, shorter, firstOr, writes}
+use Rattle.alpha.specs.Writes.{before, needs, defaultCoding, pairCoding, serves, blockWith, blockServes, blockOf, blockCoding, baseWith, baseServes, highest, baseOf, baseCoding, shorter, firstOr, writes}
 use Rattle.rules.specs.declared.Ended.{Ended}
 use Rattle.alpha.specs.Calls.{fitted, laid}
-use Rattle.alpha.specs.Passes.{codeTold, surveyNone, surveyNeeding, surveyStep, surveyFrom, firstForm, excessOf, blockFits, chosen, bytesOf, CodedBy, Serves, Ends}
+use Rattle.alpha.specs.Passes.{codeTold, surveyNone, surveyNeeding, surveyStep, surveyFrom, firstForm, excessOf, blockFits, chosen, bytesOf, Serves, Ends}
 use Rattle.alpha.proofs.Codings.{code-is, code-none, needs-none, needs-some, before-there, before-bytes, coding-plain, coding-extended, coding-none, pair-size, block-size, base-size, shorter-kept, shorter-taken, first-there, first-none}
 
 -- a unit that has no code of the base table

@@ -1,26 +1,24 @@
 -- What the tools print, by what their passes found.
 -- Assumes nothing.
-use Prim.Native.Nat.{ℕ, zero, suc, _+_, _-_, _*_, _/_, _%_, _≤_, _<_}
+use Prim.Native.Nat.{ℕ, suc, _+_, _-_, _*_, _≤_, _<_}
 use mathlib.Core.Path.{_≡_, refl, sym, ap, subst, _∙_}
 use mathlib.Core.Bool.{Bool, true, false, not}
-use mathlib.Core.List.{List, [], _∷_, _++_, append-assoc}
+use mathlib.Core.List.{List, [], _∷_, _++_}
 use mathlib.Core.Option.{Option, none, some}
 use native.Mathlib.Omega.{arith}
 use lib.ListN.{length, getD, take, drop, length-append, length-take, length-drop}
-use lib.Seq.{drop-cons, take-append-seam, length-take-le}
+use lib.Seq.{take-append-seam, length-take-le}
 use lib.Dec.{ltb, eqb}
 use borrow.Rule.Slice.PartAt.{part-to-end}
 use borrow.Author.Tests.{le-ltb, ltb-true, ltb-false}
-use Rattle.rules.specs.Checks.{_⇒_else_, isEmpty, every}
+use Rattle.rules.specs.Checks.{isEmpty, every}
 use Rattle.rules.specs.declared.Ended.{Ended}
 use Rattle.rules.specs.declared.Ended.the-variants.{Wrote, Refused}
 use Rattle.rules.specs.declared.Refusal.{Refusal}
-use Rattle.rules.specs.declared.Refusal.the-variants.{Unreadable}
 use Rattle.rules.specs.declared.Refusal.the-variants.{Malformed as MalformedText}
 use Rattle.rules.specs.Command.{wrote, refused}
 use Rattle.rules.specs.Lines.{frameOf, printed}
-use Rattle.rules.proofs.Laws.{stop, skip, branch}
-use Rattle.octets.specs.Parts.{overlaid}
+use Rattle.rules.proofs.Laws.{skip, branch}
 use Rattle.octets.proofs.Pastes.{length-pasted}
 use Rattle.text.specs.Prints.{countOf, outcomeOf, lineOf, Prints}
 use Rattle.text.proofs.Printing.{prints-after, prints-as}
@@ -29,7 +27,7 @@ use Rattle.alpha.specs.Reads.{Text, units, malformed, follow, followIf, 
 use Rattle.alpha.specs.Writes.{defaultCoding, pairCoding, blockCoding, baseCoding, shorter, firstOr, writes}
 use Rattle.alpha.specs.Calls.{fitted, laid, endedOf, leaves}
 use Rattle.alpha.specs.Printed.{unitText, furtherText, unitsText, textLine, valueLine, alphaReadLine, unitsOf, codedLine, alphaWriteLine}
-use Rattle.alpha.specs.Passes.{room, unitsIn}
+use Rattle.alpha.specs.Passes.{unitsIn}
 use Rattle.alpha.proofs.Codings.{pair-size}
 use Rattle.alpha.proofs.Lines.{unit-size, further-size}
 

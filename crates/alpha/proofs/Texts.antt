@@ -7,7 +7,7 @@ use mathlib.Core.List.{List, [], _∷_}
 use mathlib.Core.Option.{Option, none, some}
 use native.Mathlib.Omega.{arith}
 use native.Mathlib.Numerals.{add-one}
-use lib.ListN.{length, getD, drop, length-drop, drop-of-length-le}
+use lib.ListN.{length, getD, drop, length-drop}
 use lib.Seq.{drop-cons}
 use lib.Dec.{ltb}
 use borrow.Author.Tests.{ltb-true, ltb-false}
@@ -69,10 +69,6 @@ pub ill-size : (t : Text) → well t ≡ false → sizeOf t ≡ Malformed
 unfolding well sizeOf
 ill-size malformed e = refl
 ill-size (units us) e = absurd (false≢true (sym e))
-
-pub units-well : (t : Text) (us : List ℕ) → t ≡ units us → well t ≡ true
-unfolding well
-units-well t us e = ap well e
 
 pub size-well : (t : Text) (k : ℕ) → sizeOf t ≡ Units k → (well t ≡ true) × (length (unitsIn t) ≡ k)
 unfolding well unitsIn sizeOf

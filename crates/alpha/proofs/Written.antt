@@ -2,8 +2,8 @@
 -- Assumes nothing.
 use Prim.Native.Nat.{ℕ, suc, _+_, _-_, _*_, _/_, _%_, _≤_, _<_}
 use mathlib.Core.Path.{_≡_, refl, sym, ap, _∙_}
-use mathlib.Core.Bool.{Bool, true, false, not, _&&_}
-use mathlib.Core.List.{List, [], _∷_, _++_}
+use mathlib.Core.Bool.{true, false, not, _&&_}
+use mathlib.Core.List.{List, [], _∷_}
 use mathlib.Core.Option.{Option, none, some}
 use native.Mathlib.Omega.{arith}
 use lib.ListN.{length, getD, take, drop}
@@ -13,19 +13,19 @@ use borrow.Author.Tests.{le-ltb, ltb-true, leb-true, ne-eqb}
 use Rattle.rules.specs.Checks.{_⇒_else_, isEmpty, every}
 use Rattle.rules.specs.Sound.{Each}
 use Rattle.rules.proofs.Laws.{stop, skip, both-left, both-right}
-use Rattle.text.specs.Frames.{readable, frameBytes}
+use Rattle.text.specs.Frames.{frameBytes}
 use Rattle.alpha.specs.declared.Coding.{Coding}
 use Rattle.alpha.specs.declared.Coding.the-variants.{Default, Pairs, Block, Base}
-use Rattle.alpha.specs.Alphabet.{escape, unitOf, extensionUnit, codeOf, extensionCodeOf}
-use Rattle.alpha.specs.Reads.{Text, units, malformed, follow, followIf, padding, defaultFrom, pairs, basedUnit, basedFrom, based, blockPointer, basePointer, reads}
+use Rattle.alpha.specs.Alphabet.{escape, codeOf, extensionCodeOf}
+use Rattle.alpha.specs.Reads.{units, follow, followIf, padding, defaultFrom, pairs, basedUnit, basedFrom, based, blockPointer, basePointer, reads}
 use Rattle.alpha.specs.Writes.{needs, defaultCoding, pairBytes, pairCoding, serves, basedByte, basedBytes, blockWith, blockServes, baseWith, baseServes, writes, Form, byDefault, byPairs, byBlock, byBase, Codes}
-use Rattle.alpha.specs.Passes.{surveyNone, surveyFrom, chosen, bytesOf, CodedBy, Serves}
+use Rattle.alpha.specs.Passes.{surveyNone, surveyFrom, chosen, bytesOf, Serves}
 use Rattle.alpha.proofs.Tables.{unit-of-code, escape-none, extension-back}
 use Rattle.alpha.proofs.Defaults.{default-code, default-escape, default-extended}
 use Rattle.alpha.proofs.Bases.{based-code}
 use Rattle.alpha.proofs.Codings.{needs-none, coding-plain, coding-extended, coding-none, based-long, there-is}
-use Rattle.alpha.proofs.Layings.{Fronts, fronts, serves-parts, block-few, base-few}
-use Rattle.alpha.proofs.Surveys.{Chosen, chosen-of}
+use Rattle.alpha.proofs.Layings.{fronts, serves-parts, block-few, base-few}
+use Rattle.alpha.proofs.Surveys.{chosen-of}
 
 -- a first byte below 80 is no mark
 low-reads : (s : List ℕ) → getD s 0 0 < 128 → reads s ≡ defaultFrom false s

@@ -1,14 +1,13 @@
 -- What the two calls hand back: how they ended, and each lent unit and byte.
 use Prim.Native.Nat.{ℕ}
-use mathlib.Core.List.{List, [], _++_}
+use mathlib.Core.List.{List, _++_}
 use lib.ListN.{length, drop}
 use lib.Dec.{ltb}
 use Rattle.rules.specs.Checks.{_⇒_else_}
 use Rattle.rules.specs.declared.Ended.{Ended}
 use Rattle.rules.specs.declared.Ended.the-variants.{Wrote, Refused}
 use Rattle.rules.specs.declared.Refusal.the-variants.{Malformed, ShortText}
-use Rattle.alpha.specs.Reads.{Text, units, malformed, reads}
-use Rattle.alpha.specs.Writes.{writes}
+use Rattle.alpha.specs.Reads.{Text, units, malformed}
 
 -- so many are told where they fit the lent buffer, else R14
 unfoldable pub fitted : List ℕ → ℕ → Ended

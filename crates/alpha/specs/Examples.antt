@@ -1,6 +1,5 @@
 -- The worked examples, from bytes to units and from units to bytes, through the definitions and through both tools.
 use mathlib.Core.Path.{_≡_, refl}
-use mathlib.Core.Bool.{_&&_, _||_, not}
 use mathlib.Core.List.{List, [], _∷_, _++_, map}
 use Prim.Native.Nat.{ℕ}
 use Prim.Native.String.{String}

@@ -1,5 +1,5 @@
 -- What the passes of the code tell: the size of a text, whether it is well formed, and what the choice of a coding looks at.
-use Prim.Native.Nat.{ℕ, zero, suc, _+_, _-_, _/_, _≤_, min, max}
+use Prim.Native.Nat.{ℕ, _+_, _-_, _/_, _≤_, min, max}
 use mathlib.Core.Path.{_≡_}
 use mathlib.Core.Bool.{Bool, true, false, not, _&&_}
 use mathlib.Core.List.{List, [], _∷_}

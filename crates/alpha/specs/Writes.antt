@@ -1,11 +1,11 @@
 -- Writing an alpha identifier: each of the four codings where it serves, and the shortest of them.
 use Prim.Native.Nat.{ℕ, _+_, _-_, _*_, _/_, _%_, max}
 use mathlib.Core.Path.{_≡_}
-use mathlib.Core.Bool.{Bool, true, false, not, _&&_}
+use mathlib.Core.Bool.{Bool, true, false, _&&_}
 use mathlib.Core.List.{List, [], _∷_, _++_}
 use mathlib.Core.Option.{Option, none, some}
 use lib.ListN.{length}
-use lib.Dec.{ltb, leb, eqb}
+use lib.Dec.{ltb, leb}
 use Rattle.rules.specs.Checks.{_⇒_else_}
 use Rattle.alpha.specs.Alphabet.{escape, codeOf, extensionCodeOf}
 use Rattle.alpha.specs.Reads.{pairsMark, blockMark, baseMark}

@@ -1,13 +1,11 @@
 -- `alpha::based_unit` meets its contract: a code by the table, another byte by the pointer.
 -- Assumes nothing.
 use mathlib.Core.Path.{sym, ap, _∙_}
-use mathlib.Core.List.{List}
 use mathlib.Core.Option.{some}
-use Prim.Native.Nat.{ℕ}
 use borrow.Author.Needs.{needs}
 use native.Mathlib.Omega.{arith}
 use lib.ListN.{getD}
-use Rattle.alpha.specs.Alphabet.{table, unitOf}
+use Rattle.alpha.specs.Alphabet.{unitOf}
 use Rattle.alpha.proofs.Bases.{based-low, based-over, there-small}
 use Rattle.alpha.proofs.based_unit.Statement.{statement}
 use Rattle.alpha.proofs.based_unit.Tie as tie

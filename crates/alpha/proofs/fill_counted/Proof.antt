@@ -1,7 +1,6 @@
 -- `alpha::fill_counted` meets its contract: the bytes of the count.
 -- Assumes nothing.
 use borrow.Author.Needs.{needs}
-use native.Mathlib.Omega.{arith}
 use mathlib.Core.Path.{sym}
 use lib.Seq.{length-take-le}
 use Rattle.alpha.proofs.Bases.{counted-fills}

@@ -1,7 +1,6 @@
 -- `alpha::fill_default` meets its contract: plain codes by their own loop, others by the walk.
 -- Assumes nothing.
 use borrow.Author.Needs.{needs}
-use native.Mathlib.Omega.{arith}
 use mathlib.Core.Path.{refl, sym, _∙_}
 use Rattle.alpha.specs.Alphabet.{table}
 use Rattle.alpha.proofs.Defaults.{plain-fits, plain-laid}

@@ -1,8 +1,7 @@
 -- `alpha::fill_pairs` meets its contract: the loop writes a unit for each pair.
 -- Assumes nothing.
-use Prim.Native.Nat.{_-_, _/_}
+use Prim.Native.Nat.{_-_}
 use native.Mathlib.Omega.{arith}
-use lib.ListN.{length}
 use Rattle.alpha.proofs.Pairings.{Paired, paired-none, paired-room, paired-same, paired-more, paired-all}
 use Rattle.alpha.proofs.fill_pairs.Statement.{statement}
 use Rattle.alpha.proofs.fill_pairs.Tie as tie

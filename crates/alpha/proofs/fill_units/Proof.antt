@@ -2,7 +2,6 @@
 -- Assumes nothing.
 use Prim.Native.Nat.{_-_}
 use native.Mathlib.Omega.{arith}
-use lib.ListN.{length}
 use Rattle.alpha.proofs.Lines.{United, united-none, united-same, united-place, united-digits, united-room, united-more, united-all}
 use Rattle.alpha.proofs.fill_units.Statement.{statement}
 use Rattle.alpha.proofs.fill_units.Tie as tie

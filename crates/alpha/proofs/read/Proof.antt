@@ -1,7 +1,6 @@
 -- `alpha::read` meets its contract: by the size of the text.
 -- Assumes nothing.
 use borrow.Author.Needs.{needs}
-use native.Mathlib.Omega.{arith}
 use Rattle.alpha.proofs.Marks.{ended-malformed, ended-short, ended-fills, ended-units}
 use Rattle.alpha.proofs.read.Statement.{statement}
 use Rattle.alpha.proofs.read.Tie as tie

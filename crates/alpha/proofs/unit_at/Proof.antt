@@ -1,7 +1,6 @@
 -- `alpha::unit_at` meets its contract: four digits.
 -- Assumes nothing.
 use borrow.Author.Needs.{needs}
-use native.Mathlib.Omega.{arith}
 use Prim.Native.Nat.{_+_, _*_}
 use Rattle.alpha.specs.Printed.{fourDigits}
 use Rattle.alpha.specs.Passes.{unitAt}
