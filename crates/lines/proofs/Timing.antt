@@ -1,35 +1,32 @@
 -- The calls of timers among the lines: seconds, the envelope, and the frames that are the line program's.
 -- Assumes nothing.
-use Prim.Native.Nat.{ℕ, zero, suc, _+_, _-_, _*_, _≤_, _<_}
+use Prim.Native.Nat.{ℕ, zero, suc, _+_, _*_}
 use mathlib.Core.Path.{_≡_, refl, sym, ap, subst, _∙_}
-use mathlib.Core.Bool.{Bool}
 use mathlib.Core.List.{List, [], _∷_, _++_}
 use mathlib.Core.Option.{Option, none, some}
 use native.Mathlib.Omega.{arith}
-use lib.ListN.{length, getD, take, drop, length-append}
-use lib.Seq.{take-append-le}
+use lib.ListN.{length, getD, drop}
 use borrow.Author.Tests.{eq-eqb, ne-eqb}
 use Rattle.rules.specs.declared.Ended.{Ended}
 use Rattle.rules.specs.declared.Ended.the-variants.{Wrote, Refused}
 use Rattle.rules.specs.declared.Refusal.the-variants.{Unreadable}
 use Rattle.rules.specs.State.{State}
-use Rattle.rules.specs.Command.{Answer, answered, refusal, wrote}
+use Rattle.rules.specs.Command.{Answer, answered, refusal}
 use Rattle.rules.specs.TimerCalls.{second, envelope, passing}
-use Rattle.rules.specs.Run.{Call, timing, step}
+use Rattle.rules.specs.Run.{timing, step}
 use Rattle.rules.specs.Reading.{pairIn}
-use Rattle.rules.specs.Lines.{frameOf, callOf, printed}
-use Rattle.rules.specs.Input.{Said, lineBytes, begins}
+use Rattle.rules.specs.Lines.{frameOf, callOf}
 use Rattle.rules.specs.Sound.{Sound}
 use Rattle.rules.proofs.Laws.{stop, skip}
 use Rattle.rules.proofs.Soundness.{step-sound}
 use Rattle.session.specs.Picture.{Shows, GoodIn, shown}
 use Rattle.session.specs.Calls.{Answers}
-use Rattle.session.proofs.Views.{shows-back, shows-good}
+use Rattle.session.proofs.Views.{shows-back}
 use Rattle.text.specs.Prints.{countOf, outcomeOf, lineOf, Prints}
 use Rattle.text.proofs.Printing.{prints-as}
 use Rattle.lines.specs.Says.{answerTo, Replies, Says}
-use Rattle.lines.specs.Asks.{later, secondsFor, envelopeFor, frameFor, answerFor, goesOn, callsEnds}
-use Rattle.lines.proofs.Telling.{call-replies, unread-replies}
+use Rattle.lines.specs.Asks.{later, secondsFor, envelopeFor, frameFor, answerFor, goesOn}
+use Rattle.lines.proofs.Telling.{call-replies}
 
 -- one second more behind so many
 later-next : (n : ℕ) (a : State) → later (n + 1) a ≡ passing (later n a) .state

@@ -21,7 +21,7 @@ use Rattle.rules.specs.State.{State, Chan, chan, withChan, timer, withTi
 use Rattle.rules.specs.Pool.{unpromised, grantFor}
 use Rattle.rules.specs.Reading.{Bearer, reading}
 use Rattle.rules.specs.Own.{Reply, reply, error, problem, done, nothing, opened, received, sent, bit1, plain, capped, openBefore, served, carriedBy, listing, listed, opening, closing, receiving, sending, telling, Result, reports, statuses, statusesFrom, started, leaves, startingTimer, tellsLeft, managingTimer}
-use Rattle.rules.specs.Timers.{Timer, idle, running, waiting, timerCount, actionOf, isTimer, isDigits, timeIn, ofDay, isZero, isTime, startedOf, beforeWaiting}
+use Rattle.rules.specs.Timers.{Timer, idle, running, waiting, timerCount, actionOf, isTimer, isDigits, timeIn, ofDay, isTime, startedOf, beforeWaiting}
 use Rattle.rules.specs.TimerCalls.{enveloping}
 use Rattle.rules.specs.Written.{responseBytes, envelopeBytes}
 use Rattle.rules.specs.Command.{Answer, answered, refusal, command, meantBy, Terms}

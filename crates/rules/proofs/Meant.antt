@@ -7,7 +7,7 @@ use mathlib.Core.List.{List, [], _∷_}
 use native.Mathlib.Omega.{arith}
 use lib.ListN.{length, take, length-take}
 use lib.Dec.{ltb, leb, eqb}
-use borrow.Author.Tests.{lt-ltb, le-leb, eq-eqb, eqb-true, eqb-false}
+use borrow.Author.Tests.{lt-ltb, le-leb, eq-eqb, eqb-false}
 use Rattle.rules.specs.declared.ChannelNumber.{ChannelNumber}
 use Rattle.rules.specs.declared.Details.{Details}
 use Rattle.rules.specs.declared.Link.{Link}
@@ -26,7 +26,7 @@ use Rattle.rules.specs.Written.{bearerBytes}
 use Rattle.rules.specs.Command.{meantBy}
 use Rattle.rules.specs.Bench.{bearerProper, errorProper, successProper, furtherProper, resultProper, rising, proper, reportProper, asksLeft}
 use Rattle.rules.specs.Sound.{Sound, SoundTimer}
-use Rattle.rules.proofs.Laws.{branch, both, or-right, each-member, both-right, each-get}
+use Rattle.rules.proofs.Laws.{branch, both, or-right, each-member, each-get}
 use Rattle.rules.proofs.Cases.{listing-cases, opening-cases, closing-cases, receiving-cases, sending-cases, starting-timer-cases, managing-timer-cases}
 use Rattle.rules.proofs.Readings.{detailsRead, counted, reading-cases, body-cases, starts}
 use Rattle.rules.proofs.Sizes.{BearerMeasured, bearer-read, bearer-lengths}

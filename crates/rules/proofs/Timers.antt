@@ -1,17 +1,15 @@
 -- Times and timers: digits there and back, a second less, and what a second leaves sound.
 -- Assumes nothing.
-use Prim.Native.Nat.{ℕ, _+_, _-_, _*_, _/_, _%_, _≤_, _<_}
-use mathlib.Core.Path.{_≡_, refl, sym, ap, _∙_}
-use mathlib.Core.Bool.{Bool, true, false, not, _&&_}
-use mathlib.Core.List.{List, [], _∷_}
+use Prim.Native.Nat.{ℕ, _≤_, _<_}
+use mathlib.Core.Path.{_≡_, ap}
+use mathlib.Core.Bool.{true, not, _&&_}
 use native.Mathlib.Omega.{arith}
-use lib.Dec.{ltb, leb, eqb}
-use borrow.Author.Tests.{leb-true, leb-false, le-leb, lt-leb, lt-ltb, eqb-true, eqb-false, eq-eqb, ne-eqb, not-true}
+use lib.Dec.{leb}
+use borrow.Author.Tests.{leb-true, le-leb}
 use Rattle.rules.specs.declared.Time.{Time}
-use Rattle.rules.specs.Checks.{_⇒_else_, every}
-use Rattle.rules.specs.Timers.{Timer, idle, running, waiting, swapped, unswapped, isDigits, timeIn, timeBytes, ofDay, isZero, isTime, lessSecond, runsOn, ticked}
+use Rattle.rules.specs.Timers.{Timer, idle, running, waiting, swapped, unswapped, timeIn, timeBytes, ofDay, isZero, isTime, lessSecond, runsOn, ticked}
 use Rattle.rules.specs.Sound.{SoundTimer}
-use Rattle.rules.proofs.Laws.{branch, both, both-left, both-right, not-not}
+use Rattle.rules.proofs.Laws.{branch, both, both-left, both-right}
 
 -- hours up to 23, minutes and seconds up to 59
 pub record OfDay (t : Time) : Type 0 where

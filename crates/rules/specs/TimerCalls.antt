@@ -1,7 +1,6 @@
 -- M-102, the calls of timers: a second passes, and the envelope of the lowest timer that waits; with R1 and R10.
 use Prim.Native.Nat.{ℕ, _+_}
 use mathlib.Core.List.{[], map}
-use lib.ListN.{length}
 use lib.Dec.{ltb, eqb}
 use Rattle.rules.specs.declared.Refusal.the-variants.{ShortBuffer, NoneWaits}
 use Rattle.rules.specs.Checks.{_⇒_else_}

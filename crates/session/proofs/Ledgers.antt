@@ -6,8 +6,8 @@ use mathlib.Core.Bool.{Bool, true, false}
 use mathlib.Core.List.{List, [], _∷_, _++_, append-assoc}
 use native.Mathlib.Omega.{arith}
 use native.Mathlib.Nat.{le-of-suc-le-suc, not-suc-le-zero, zero-add}
-use lib.ListN.{length, take, drop, getD, set, replicate, length-append, getD-replicate, take-append-drop, List·getD-append}
-use lib.Seq.{take-at, drop-at, getD-append-add, take-append-add, drop-append-add, length-take-le, sets-eq}
+use lib.ListN.{length, take, drop, getD, set, replicate, length-append, take-append-drop}
+use lib.Seq.{take-at, drop-at, getD-append-add, length-take-le, sets-eq}
 use Rattle.rules.specs.declared.Events.{Events}
 use Rattle.rules.specs.declared.ChannelNumber.{ChannelNumber}
 use Rattle.rules.specs.Profile.{profileSize}

@@ -18,7 +18,7 @@ use Rattle.octets.specs.Parts.{part, pasted, pad}
 use Rattle.octets.proofs.Copies.{length-part}
 use Rattle.session.specs.Book.{freeAt, ledgerSize, places}
 use Rattle.session.proofs.Ledgers.{set-behind}
-use Rattle.session.specs.Picture.{space, region, regions, poolOf, entry, chanNumbers, entriesOf, headsOf, ledgerOf, blocks, timerNumbers}
+use Rattle.session.specs.Picture.{space, region, regions, poolOf, entry, chanNumbers, headsOf, ledgerOf, blocks, timerNumbers}
 use Rattle.rules.specs.Timers.{leftOf, startedOf}
 
 zeros-drop : (a n : ℕ) → a ≤ n → drop a (replicate {A = ℕ} n 0) ≡ replicate (n - a) 0

@@ -1,21 +1,20 @@
 -- The timers among the ledger's numbers: read, and with another one in one place.
 -- Assumes nothing.
-use Prim.Native.Nat.{ℕ, suc, _+_, _-_, _*_, _≤_, _<_}
-use mathlib.Core.Path.{_≡_, refl, sym, ap, subst, _∙_}
+use Prim.Native.Nat.{ℕ, _+_, _-_, _*_, _≤_, _<_}
+use mathlib.Core.Path.{_≡_, refl, sym, ap, _∙_}
 use mathlib.Core.List.{List, [], _∷_, _++_, append-assoc}
 use native.Mathlib.Omega.{arith}
 use lib.ListN.{length, take, drop, getD, set, length-append, take-append-drop, List·getD-append}
 use lib.Seq.{getD-append-add, length-take-le}
 use Rattle.rules.specs.declared.Time.{Time}
-use Rattle.rules.specs.Profile.{profileSize}
 use Rattle.rules.specs.Pool.{unpromised, promised}
 use Rattle.rules.specs.Timers.{timerCount, Timer, idle, leftOf, startedOf}
 use Rattle.rules.specs.State.{State, timer, withTimer}
 use Rattle.rules.specs.Sound.{Sound}
 use Rattle.octets.specs.Parts.{pasted}
 use Rattle.octets.proofs.Pastes.{paste-parts}
-use Rattle.session.specs.Book.{timersAt, timerSize, timerAt, listedNumber, ledgerSize}
-use Rattle.session.specs.Picture.{blocks, entriesOf, timeNumbers, timerNumbers, timersOf, headsOf, ledgerOf, timeAt, shown, Shows, GoodIn}
+use Rattle.session.specs.Book.{timersAt, timerSize, timerAt, listedNumber}
+use Rattle.session.specs.Picture.{entriesOf, timeNumbers, timerNumbers, timersOf, headsOf, ledgerOf, timeAt}
 use Rattle.session.proofs.Blocks.{blocks-size, block-number, block-parts, block-set}
 use Rattle.session.proofs.Ledgers.{timer-size, idle-zeros}
 

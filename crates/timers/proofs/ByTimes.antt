@@ -1,9 +1,8 @@
 -- What a timer is, by its two times: whether it runs and whether it waits, and what a second leaves of them.
 -- Assumes nothing.
 use Prim.Native.Nat.{ℕ}
-use mathlib.Core.Path.{_≡_, refl, sym, ap, subst, _∙_}
+use mathlib.Core.Path.{_≡_, refl, sym, ap, _∙_}
 use mathlib.Core.Bool.{Bool, true, false, not, _&&_, true≢false}
-use mathlib.Core.List.{List}
 use lib.Dec.{eqb}
 use borrow.Author.Tests.{eqb-true, not-true}
 use Rattle.rules.specs.declared.Time.{Time}
@@ -12,7 +11,7 @@ use Rattle.rules.specs.Timers.{Timer, idle, running, waiting, actionOf, ofDay, 
 use Rattle.rules.specs.State.{State, withTimer}
 use Rattle.rules.specs.Own.{reply, error, done, leaves, plain, tellsLeft}
 use Rattle.rules.specs.Sound.{SoundTimer}
-use Rattle.rules.proofs.Laws.{branch, stop, skip, both-left, both-right}
+use Rattle.rules.proofs.Laws.{branch, both-left, both-right}
 
 -- a time from one second on is not zero
 time-some : (t : Time) → isTime t ≡ true → isZero t ≡ false

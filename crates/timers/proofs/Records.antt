@@ -1,11 +1,11 @@
 -- The timers of a good session: read from the ledger, changed there, and what the calls hand back.
 -- Assumes nothing.
-use Prim.Native.Nat.{ℕ, zero, suc, _+_, _-_, _≤_, _<_}
-use mathlib.Core.Path.{_≡_, refl, sym, ap, subst, _∙_}
+use Prim.Native.Nat.{ℕ, _+_, _-_, _≤_, _<_}
+use mathlib.Core.Path.{_≡_, sym, ap, subst, _∙_}
 use mathlib.Core.Bool.{Bool, true, false, not, _&&_}
-use mathlib.Core.List.{List, [], _∷_, _++_, map}
+use mathlib.Core.List.{List, _++_}
 use native.Mathlib.Omega.{arith}
-use lib.ListN.{length, getD, set, drop, length-set}
+use lib.ListN.{length}
 use lib.Dec.{leb, eqb}
 use borrow.Author.Tests.{leb-true, le-leb, eq-eqb, ne-eqb, le-ltb, lt-ltb, lt-leb}
 use Rattle.rules.specs.declared.Details.{Details}
@@ -14,32 +14,28 @@ use Rattle.rules.specs.declared.Ended.{Ended}
 use Rattle.rules.specs.declared.Ended.the-variants.{Wrote, Refused}
 use Rattle.rules.specs.declared.Refusal.the-variants.{ShortBuffer, NoneWaits}
 use Rattle.rules.specs.Checks.{_⇒_else_, every}
-use Rattle.rules.specs.Pool.{promised}
-use Rattle.rules.specs.Timers.{timerCount, Timer, idle, running, actionOf, isTimer, isDigits, timeIn, ofDay, isZero, isTime, noTime, lessSecond, ticked, leftOf, startedOf, isWaiting, beforeWaiting}
-use Rattle.rules.specs.State.{State, timer, withTimers, withTimer}
-use Rattle.rules.specs.Own.{Reply, reply, error, done, started, leaves, plain, startingTimer, tellsLeft, managingTimer}
+use Rattle.rules.specs.Timers.{timerCount, Timer, idle, running, actionOf, isTimer, isDigits, timeIn, ofDay, isZero, isTime, noTime, leftOf, startedOf, beforeWaiting}
+use Rattle.rules.specs.State.{State, timer, withTimer}
+use Rattle.rules.specs.Own.{reply, error, done, started, leaves, plain, startingTimer, tellsLeft, managingTimer}
 use Rattle.rules.specs.Written.{envelopeBytes}
-use Rattle.rules.specs.Command.{Answer, answered}
+use Rattle.rules.specs.Command.{answered}
 use Rattle.rules.specs.TimerCalls.{envelope, enveloping}
 use Rattle.rules.specs.Run.{timing, step}
 use Rattle.rules.proofs.Sizes.{envelope-told}
 use Rattle.rules.proofs.TimerHistories.{before-waiting}
-use Rattle.rules.specs.Sound.{Each, SoundTimer, Sound}
-use Rattle.rules.proofs.Laws.{branch, stop, skip, both, both-left, both-right, each-get, each-set}
-use Rattle.rules.proofs.Soundness.{timers-sound, with-timer-sound, step-sound}
-use Rattle.rules.proofs.Timers.{ticked-sound}
+use Rattle.rules.specs.Sound.{SoundTimer, Sound}
+use Rattle.rules.proofs.Laws.{stop, skip, both, both-left, both-right, each-get}
+use Rattle.rules.proofs.Soundness.{with-timer-sound, step-sound}
 use Rattle.octets.specs.Parts.{pasted, overlaid}
 use Rattle.session.specs.Book.{timerAt, ledgerSize}
-use Rattle.session.specs.Picture.{timeAt, timeNumbers, timerNumbers, ledgerOf, poolOf, shown, Shows, GoodIn}
+use Rattle.session.specs.Picture.{timeAt, timeNumbers, timerNumbers, poolOf, shown, Shows, GoodIn}
 use Rattle.session.specs.Calls.{Answers}
-use Rattle.session.proofs.Timers.{left-read, started-read, timer-written, left-written}
-use Rattle.session.proofs.Facts.{good-table}
-use Rattle.session.proofs.Answers.{refuse-answers, wrote-answers, quiet-answers}
+use Rattle.session.proofs.Timers.{left-read, started-read, timer-written}
+use Rattle.session.proofs.Answers.{refuse-answers, wrote-answers}
 use Rattle.responses.specs.Filled.{response, Filled}
 use Rattle.own.specs.Replies.{told}
 use Rattle.own.proofs.Replies.{told-answers, left-answers}
-use Rattle.timers.specs.Ticks.{tickedAt, waitsAt}
-use Rattle.timers.proofs.ByTimes.{told-none, told-left, ticked-none, ticked-left, waits-by, left-day, started-day}
+use Rattle.timers.proofs.ByTimes.{told-none, told-left, left-day, started-day}
 
 -- the number of a timer
 pub timer-low : (n : ℕ) → isTimer n ≡ true → 1 ≤ n

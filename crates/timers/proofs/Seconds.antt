@@ -3,15 +3,14 @@
 use Prim.Native.Nat.{ℕ, zero, suc, _+_, _-_, _≤_, _<_}
 use mathlib.Core.Path.{_≡_, refl, sym, ap, subst, _∙_}
 use mathlib.Core.Bool.{Bool, true, false, not, _&&_}
-use mathlib.Core.List.{List, [], _∷_, _++_, map}
+use mathlib.Core.List.{List, [], _∷_, map}
 use native.Mathlib.Omega.{arith}
 use native.Mathlib.Numerals.{add-one}
 use lib.ListN.{length, getD, set, drop}
 use lib.Seq.{drop-cons, drop-length}
 use borrow.Author.Tests.{not-true, not-false}
 use Rattle.rules.specs.declared.Ended.the-variants.{Wrote}
-use Rattle.rules.specs.Checks.{_⇒_else_}
-use Rattle.rules.specs.Timers.{timerCount, Timer, idle, isZero, ticked, leftOf, startedOf, isWaiting, beforeWaiting, lessSecond}
+use Rattle.rules.specs.Timers.{timerCount, Timer, idle, isZero, ticked, isWaiting, beforeWaiting, lessSecond}
 use Rattle.rules.specs.State.{State, timer, withTimers, withTimer}
 use Rattle.rules.specs.TimerCalls.{passing}
 use Rattle.rules.specs.Sound.{Each, SoundTimer, Sound}

@@ -1,6 +1,6 @@
 -- `lines::envelope` meets its contract: by the number of bytes, over the front of the reply.
 -- Assumes nothing.
-use mathlib.Core.Path.{sym, _∙_}
+use mathlib.Core.Path.{sym}
 use native.Mathlib.Omega.{arith}
 use denote.Ref.{now}
 use borrow.Author.Needs.{needs}

@@ -1,6 +1,5 @@
 -- `octets::move_up` meets its contract: the loop copies the part from its end, and reads each byte before it is written over.
 -- Assumes nothing.
-use Prim.Native.Nat.{_-_}
 use native.Mathlib.Omega.{arith}
 use Rattle.octets.specs.Parts.{part}
 use Rattle.octets.proofs.Copies.{CopiedBack, up-none, up-more, up-all}

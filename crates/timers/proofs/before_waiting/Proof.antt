@@ -1,10 +1,9 @@
 -- `timers::before_waiting` meets its contract: each turn looks at one timer more.
 -- Assumes nothing.
 use Prim.Native.Nat.{_+_, _-_, _≤_}
-use mathlib.Core.Path.{_≡_, refl, sym, ap, _∙_}
+use mathlib.Core.Path.{_≡_, sym, ap, _∙_}
 use native.Mathlib.Omega.{arith}
 use lib.ListN.{getD, drop}
-use borrow.Author.Needs.{needs}
 use denote.Ref.{now}
 use Rattle.rules.specs.Timers.{timerCount, idle, isWaiting, beforeWaiting}
 use Rattle.session.specs.Picture.{GoodIn, shown}

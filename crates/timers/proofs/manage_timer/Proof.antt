@@ -8,7 +8,7 @@ use native.Mathlib.Omega.{arith}
 use denote.Ref.{now}
 use borrow.Author.Needs.{needs}
 use borrow.Author.Tests.{not-true, not-false}
-use Rattle.rules.specs.Timers.{actionOf, isTimer, ofDay, isZero}
+use Rattle.rules.specs.Timers.{actionOf, isTimer, ofDay}
 use Rattle.session.specs.Picture.{timeAt}
 use Rattle.session.proofs.Facts.{good-table}
 use Rattle.timers.proofs.Records.{timer-low, timer-high, place-within, start-put, manage-none, manage-number, manage-idle, left-fits, manage-stop, manage-ask}

@@ -3,7 +3,6 @@
 use Prim.Native.Nat.{_-_, _≤_}
 use mathlib.Core.Path.{_≡_, ap, _∙_}
 use native.Mathlib.Omega.{arith}
-use denote.Ref.{now}
 use Rattle.rules.specs.Timers.{timerCount}
 use Rattle.session.specs.Picture.{GoodIn, shown, ledgerOf}
 use Rattle.timers.specs.Ticks.{tickedAt}

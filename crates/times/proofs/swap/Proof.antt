@@ -1,6 +1,5 @@
 -- `times::swap` meets its contract: the digits are those of the rule.
 -- Assumes nothing.
-use native.Mathlib.Omega.{arith}
 use borrow.Author.Needs.{needs}
 use Rattle.rules.specs.Timers.{swapped}
 use Rattle.times.proofs.swap.Statement.{statement}

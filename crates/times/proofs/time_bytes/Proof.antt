@@ -1,6 +1,5 @@
 -- `times::time_bytes` meets its contract: each byte in its place.
 -- Assumes nothing.
-use mathlib.Core.List.{[], _∷_}
 use native.Mathlib.Omega.{arith}
 use borrow.Author.Needs.{needs}
 use Rattle.rules.specs.Timers.{timeBytes}

@@ -1,7 +1,6 @@
 -- `times::time_in` meets its contract: each byte in its place.
 -- Assumes nothing.
 use borrow.Author.Needs.{needs}
-use Rattle.rules.specs.declared.Time.{Time}
 use Rattle.rules.specs.Timers.{timeIn}
 use Rattle.times.proofs.time_in.Statement.{statement}
 use Rattle.times.proofs.time_in.Tie as tie
