@@ -125,7 +125,7 @@ uint32_t pomerassol_details(const uint8_t *bytes, size_t bytes_size);
 /* The text of an alpha identifier, the value of object 05, as 16-bit units: the default alphabet of TS 23.038, or the codings
  * 80, 81 and 82 of TS 102 221 annex A. The answer is `reads`; the number is the count of units, which stand at the front of
  * `out`, whose size is counted in units. R13 where the value is malformed, then R14 where `out` has fewer units than the
- * text; then no unit is written. It needs no record. A value of as many bytes as `out` has units is never R14. */
+ * text; then no unit is written. It needs no record. With as many units in `out` as the value has bytes it is never R14. */
 uint64_t pomerassol_alpha_read(const uint8_t *value, size_t value_size, uint16_t *out, size_t out_size);
 
 /* The alpha identifier of a text: the shortest coding, on a tie the first of default, 80, 81 and 82. The answer is `writes`;
