@@ -95,28 +95,28 @@ const TABLE: [u16; Coded::CODES] = [
 ];
 
 // How many units a text has, or that it is malformed.
-#[derive(Drop)]
+#[derive(Clone, Copy)]
 pub enum Size {
     Units(usize),
     Malformed,
 }
 
 // The unit of a code, if it has one.
-#[derive(Drop)]
+#[derive(Clone, Copy)]
 pub enum Unit {
     Of(u16),
     Nothing,
 }
 
 // The code of a unit, if it has one.
-#[derive(Drop)]
+#[derive(Clone, Copy)]
 pub enum Code {
     Of(u8),
     Nothing,
 }
 
 // A coding of units: the default alphabet with so many extension characters, pairs, a block, or a base.
-#[derive(Drop)]
+#[derive(Clone, Copy)]
 pub enum Coding {
     Default(usize),
     Pairs,
@@ -125,7 +125,7 @@ pub enum Coding {
 }
 
 // What the choice of a coding looks at: whether every unit has a code, how many of them are extension characters, and the lowest and the highest that have no code of the base table.
-#[derive(Drop)]
+#[derive(Clone, Copy)]
 pub struct Survey {
     pub coded: bool,
     pub extras: usize,

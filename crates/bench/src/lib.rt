@@ -31,7 +31,7 @@ const VALUES: usize = 6;
 const PARAMETERS: usize = 8;
 
 // What a record asks, with the places from which and up to which its bytes stand; or values that its type has not.
-#[derive(Drop)]
+#[derive(Clone, Copy)]
 enum Values {
     Of(Asking, usize, usize),
     Unfit,

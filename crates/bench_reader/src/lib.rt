@@ -28,7 +28,7 @@ const NONE: u8 = 3;
 const TIMERS: u8 = 8;
 
 // What follows the result of a response. A bearer and data stand in the bytes that were read, from a place on and so long; statuses from a place on, four bytes each.
-#[derive(Drop)]
+#[derive(Clone, Copy)]
 pub enum Further {
     Plain,
     Opened(ChannelNumber, Link, usize, usize, u16),
@@ -40,7 +40,7 @@ pub enum Further {
 }
 
 // The result of a response: an error, a problem with its cause, or done, with what follows.
-#[derive(Drop)]
+#[derive(Clone, Copy)]
 pub enum Verdict {
     Error(u8),
     Problem(u8),
@@ -48,35 +48,35 @@ pub enum Verdict {
 }
 
 // What the bench heard: a response, or bytes that are no response.
-#[derive(Drop)]
+#[derive(Clone, Copy)]
 pub enum Heard {
     Response(Details, Verdict),
     Silence,
 }
 
 // An object that was looked for: where its value starts, how long it is and the cursor behind it.
-#[derive(Drop)]
+#[derive(Clone, Copy)]
 enum Value {
     At(usize, usize, Cursor),
     Not,
 }
 
 // An object of one byte that was looked for: the byte and the cursor behind it.
-#[derive(Drop)]
+#[derive(Clone, Copy)]
 enum One {
     Byte(u8, Cursor),
     Not,
 }
 
 // An object of two bytes that was looked for: the bytes and the cursor behind them.
-#[derive(Drop)]
+#[derive(Clone, Copy)]
 enum Two {
     Bytes(u8, u8, Cursor),
     Not,
 }
 
 // A status that was looked for: a channel with its link, and the cursor behind it.
-#[derive(Drop)]
+#[derive(Clone, Copy)]
 enum Shown {
     At(ChannelNumber, Link, Cursor),
     Not,

@@ -18,14 +18,14 @@ use octets;
 use rules::{DeviceIdentity, Ended, Limits, Refusal, is_addressed, lists};
 
 // The transport level of an OPEN CHANNEL, object 3C, where it has one: its protocol and its port.
-#[derive(Drop)]
+#[derive(Clone, Copy)]
 pub enum Level {
     Without,
     With(u8, u16),
 }
 
 // What a record asks, with the values that its type has; one without values by its type. The event list, the bearer's parameters or the data are lent beside it.
-#[derive(Drop)]
+#[derive(Clone, Copy)]
 pub enum Asking {
     Bare(u8),
     EventList,
@@ -36,7 +36,7 @@ pub enum Asking {
 }
 
 // A record: the command's number, its qualifier, from where it comes and where it goes, and what it asks.
-#[derive(Drop)]
+#[derive(Clone, Copy)]
 pub struct Record {
     pub number: u8,
     pub qualifier: u8,

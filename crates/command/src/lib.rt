@@ -53,7 +53,7 @@ const NETWORK: u16 = 0x47;
 const SLOTS: u16 = 72;
 
 // What is done for a type; those that change nothing share one.
-#[derive(Drop)]
+#[derive(Clone, Copy)]
 pub enum Handler {
     Bare,
     EventList,
@@ -66,7 +66,7 @@ pub enum Handler {
 }
 
 // The objects of a type: the two that it requires besides 01 and 02, which is 02 again where there is none, whether 05 and 1E may stand, and whether those of OPEN CHANNEL may.
-#[derive(Drop)]
+#[derive(Clone, Copy)]
 struct Row {
     own: u16,
     further: u16,
@@ -83,7 +83,7 @@ const BARE: Row = Row {
 };
 
 // A type's handler, its place in the profile, and its objects.
-#[derive(Drop)]
+#[derive(Clone, Copy)]
 struct Plan {
     handler: Handler,
     place: Place,
@@ -91,7 +91,7 @@ struct Plan {
 }
 
 // The plan of a type, or none where it is not one of the table.
-#[derive(Drop)]
+#[derive(Clone, Copy)]
 enum Planned {
     Of(Plan),
     Unknown,
@@ -331,7 +331,7 @@ fn fits(number: u16, s: &[u8], start: usize, len: usize) -> bool
 }
 
 // What a survey of the objects found: a flagged unexpected one, any unexpected one, one that counts and has a wrong length.
-#[derive(Drop)]
+#[derive(Clone, Copy)]
 struct Survey {
     flagged: bool,
     ignored: bool,
@@ -369,7 +369,7 @@ fn first_of(seen: u8, there: u16, now: u16) -> u16
 }
 
 // What a walk over a command's objects found: what their survey did, whether it came to the end, and where the values of 02, of the type's own object, of its further one and of 3C start, 0 where none stands.
-#[derive(Drop)]
+#[derive(Clone, Copy)]
 struct Sorted {
     flagged: bool,
     ignored: bool,
@@ -435,7 +435,7 @@ fn go_through(s: &[u8], row: Row, first: usize) -> Sorted
 }
 
 // Where a command's objects start, or that its outer frame is wrong.
-#[derive(Drop)]
+#[derive(Clone, Copy)]
 pub enum Framed {
     At(usize),
     Not,
@@ -462,7 +462,7 @@ pub fn frame_start(s: &[u8]) -> Framed
 }
 
 // What is asked: the details, the handler, where it goes, whether an object was ignored, where the type's own value stands, and where those of its further object and of 3C start, 0 where no 3C stands.
-#[derive(Drop)]
+#[derive(Clone, Copy)]
 pub struct Request {
     pub details: Details,
     pub handler: Handler,
@@ -475,7 +475,7 @@ pub struct Request {
 }
 
 // The reading of a command's objects: an error with its details, or what is asked.
-#[derive(Drop)]
+#[derive(Clone, Copy)]
 pub enum Read {
     Wrong(Details, u8),
     Asked(Request),
@@ -595,7 +595,7 @@ fn details_at(s: &[u8], at: usize) -> Details
 }
 
 // The first of a command's objects: the details and where their value starts, or the result that tells that there are none.
-#[derive(Drop)]
+#[derive(Clone, Copy)]
 enum First {
     Told(Details, usize),
     Absent(u8),

@@ -16,7 +16,7 @@ use rules::Refusal;
 use text::{Frame, Line, print_bytes, print_char, print_decimal, print_refusal, read_frame};
 
 // The command strings of a log that are read.
-#[derive(Drop)]
+#[derive(Clone, Copy)]
 pub enum Kind {
     Profile,
     Response,
@@ -46,7 +46,7 @@ impl Log {
 }
 
 // The shape of a line without blanks: a count of so many digits, and characters between quotes; or another one.
-#[derive(Drop)]
+#[derive(Clone, Copy)]
 pub enum Shape {
     Counted(usize),
     Other,

@@ -30,7 +30,7 @@ impl Gathered {
 }
 
 // How a burst ended, and how many of its bytes are left.
-#[derive(Drop)]
+#[derive(Clone, Copy)]
 pub struct Fetched {
     pub ended: Ended,
     pub left: usize,

@@ -18,14 +18,14 @@ impl Size {
 }
 
 // What is kept between two pieces of the input, beside a tool's memory and the line: whether the first line was read, and how many bytes of a line are kept.
-#[derive(Drop)]
+#[derive(Clone, Copy)]
 pub struct Running {
     pub begun: bool,
     pub len: usize,
 }
 
 // How far a piece of the input was read, and where the output goes on.
-#[derive(Drop)]
+#[derive(Clone, Copy)]
 pub struct Progress {
     pub running: Running,
     pub next: usize,
@@ -33,7 +33,7 @@ pub struct Progress {
 }
 
 // A line so far: how many of its bytes are kept, the place in the chunk behind what was read, and whether the line is whole.
-#[derive(Drop)]
+#[derive(Clone, Copy)]
 pub struct LineRead {
     pub len: usize,
     pub next: usize,

@@ -16,14 +16,14 @@ use rules::Refusal;
 use text::{Frame, Line, print_bytes, print_char, print_decimal, print_refusal, read_frame};
 
 // A length at a place in either form: what it says, where its shortest form begins, and the place behind it.
-#[derive(Drop)]
+#[derive(Clone, Copy)]
 enum Sized {
     By(usize, usize, usize),
     Not,
 }
 
 // What stands at a place: an object, as the place of its length, from where on it is kept behind its tag, and the place behind it; or a fault.
-#[derive(Drop)]
+#[derive(Clone, Copy)]
 enum Found {
     Object(usize, usize, usize),
     Fault,

@@ -10,34 +10,34 @@ use octets;
 use rules::Ending;
 
 // A tag at a place: its number, its flag, and where its length stands.
-#[derive(Drop)]
+#[derive(Clone, Copy)]
 pub enum Tagged {
     As(u16, bool, usize),
     Not,
 }
 
 // A length at a place: how many bytes it says, and where they start.
-#[derive(Drop)]
+#[derive(Clone, Copy)]
 pub enum Sized {
     By(usize, usize),
     Not,
 }
 
 // A place between two objects.
-#[derive(Drop)]
+#[derive(Clone, Copy)]
 pub struct Cursor {
     pub at: usize,
 }
 
 // What stands at a cursor: an object, as its number, its flag, where its value starts, how long it is and the cursor behind it; or a fault.
-#[derive(Drop)]
+#[derive(Clone, Copy)]
 pub enum Found {
     Object(u16, bool, usize, usize, Cursor),
     Fault(Ending),
 }
 
 // Where a walk stopped, and how.
-#[derive(Drop)]
+#[derive(Clone, Copy)]
 pub struct Stop {
     pub ending: Ending,
     pub at: usize,

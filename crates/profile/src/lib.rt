@@ -5,7 +5,7 @@ ghost use Rattle.std.specs.Prelude.{◌≡◌, ◌-◌, ◌^◌, ◌≤◌, leng
 ghost use Rattle.rules.specs.Profile.{profile_size, bit, allows_event, allows_bearer, channels};
 
 // A bit of the profile; bytes and bits are numbered from 1.
-#[derive(Drop)]
+#[derive(Clone, Copy)]
 pub struct Place {
     pub byte: usize,
     pub bit: u8,

@@ -22,7 +22,7 @@ use session::{
 const DROP_SIZE: usize = 13;
 
 // The entry of a channel that may be used by the radio, or R3, R4 or R5.
-#[derive(Drop)]
+#[derive(Clone, Copy)]
 enum Permit {
     Pass(Channel),
     Refuse(Refusal),

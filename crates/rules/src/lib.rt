@@ -8,7 +8,7 @@ ghost use Rattle.rules.specs.Table.{known};
 ghost use Rattle.rules.specs.Reading.{to_modem, addressed};
 
 // Object 01 of a command: its number, its type and its qualifier. Every response echoes them.
-#[derive(Drop)]
+#[derive(Clone, Copy)]
 pub struct Details {
     pub number: u8,
     pub kind: u8,
@@ -76,7 +76,7 @@ impl Limits {
 }
 
 // The refusals R1 to R14 and R16 to R18, by their numbers.
-#[derive(Drop)]
+#[derive(Clone, Copy)]
 pub enum Refusal {
     ShortBuffer,
     CommandSize,
@@ -125,14 +125,14 @@ impl Refusal {
 }
 
 // How a call ended: with so many bytes written, or refused.
-#[derive(Drop)]
+#[derive(Clone, Copy)]
 pub enum Ended {
     Wrote(usize),
     Refused(Refusal),
 }
 
 // The link of an open channel.
-#[derive(Drop)]
+#[derive(Clone, Copy)]
 pub enum Link {
     NotYet,
     Established,
@@ -140,14 +140,14 @@ pub enum Link {
 }
 
 // What a channel carries: a stream of bytes, or datagrams that stay whole.
-#[derive(Drop)]
+#[derive(Clone, Copy)]
 pub enum Carries {
     Stream,
     Datagrams,
 }
 
 // The two ways of a channel: bytes from the radio for the card, and bytes from the card for the radio.
-#[derive(Drop)]
+#[derive(Clone, Copy)]
 pub enum Way {
     Receive,
     Send,
@@ -155,14 +155,14 @@ pub enum Way {
 
 // The event list: whether 09, data available, and 0A, channel status, are listed.
 #[repr(C)]
-#[derive(Drop)]
+#[derive(Clone, Copy)]
 pub struct Events {
     pub available: bool,
     pub status: bool,
 }
 
 // A time of a timer: hours, minutes and seconds.
-#[derive(Drop)]
+#[derive(Clone, Copy)]
 pub struct Time {
     pub hours: u16,
     pub minutes: u16,
@@ -170,7 +170,7 @@ pub struct Time {
 }
 
 // How a walk over objects ends: at the end, or at the first fault.
-#[derive(Drop)]
+#[derive(Clone, Copy)]
 pub enum Ending {
     End,
     BadTag,
@@ -179,7 +179,7 @@ pub enum Ending {
 }
 
 // What bytes from the front of a command are: so many are lacking at least; too long a command; or what they are can be told, a whole frame or what can never be one.
-#[derive(Drop)]
+#[derive(Clone, Copy)]
 pub enum Stage {
     Lacks(usize),
     Overlong,
@@ -187,11 +187,11 @@ pub enum Stage {
 }
 
 // A channel, 1 to 7, as the radio and the statuses count it.
-#[derive(Drop)]
+#[derive(Clone, Copy)]
 pub struct ChannelNumber(pub u8);
 
 // A device, as object 02 names it: 21 to 27 are the channels.
-#[derive(Drop)]
+#[derive(Clone, Copy)]
 pub struct DeviceIdentity(pub u8);
 
 impl ChannelNumber {

@@ -60,7 +60,7 @@ impl Ledger {
 }
 
 // A channel: its grant (0 where it is not open), its link by number, how many bytes are held each way, how many of those to send are ready, and what it carries by number.
-#[derive(Drop)]
+#[derive(Clone, Copy)]
 pub struct Channel {
     pub grant: u16,
     pub link: u16,

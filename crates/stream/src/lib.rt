@@ -18,7 +18,7 @@ use session::Ledger;
 use tools::{Tool, before, fill, finish};
 
 // What a piece of the input left behind, and whether more is to come.
-#[derive(Drop)]
+#[derive(Clone, Copy)]
 struct Turn {
     running: Running,
     more: bool,

@@ -28,14 +28,14 @@ impl Line {
 }
 
 // A line as a frame: so many bytes, or unreadable.
-#[derive(Drop)]
+#[derive(Clone, Copy)]
 pub enum Frame {
     Bytes(usize),
     Unreadable,
 }
 
 // The call that a frame asks for.
-#[derive(Drop)]
+#[derive(Clone, Copy)]
 pub enum Spoken {
     Command,
     Arrival(ChannelNumber),

@@ -26,7 +26,7 @@ use pool::Pool;
 use session::{Ledger, start_ledger};
 
 // The tools: document 01's program, the calls of timers beside its lines, the bench, what command is at hand, bytes as they come off the line, applet commands mended, lines of +CSIM logs in and out, and alpha identifiers read and written.
-#[derive(Drop)]
+#[derive(Clone, Copy)]
 pub enum Tool {
     Lines,
     Calls,
@@ -41,7 +41,7 @@ pub enum Tool {
 }
 
 // A word as the name of a tool.
-#[derive(Drop)]
+#[derive(Clone, Copy)]
 pub enum Named {
     One(Tool),
     Unknown,
