@@ -159,9 +159,9 @@ module _ (count p : ℕ) (s : List ℕ) where
     pads : (b : Bool) → b ≡ every (eqb padding) (take (length s - count) (drop count s)) → not (every (eqb padding) (drop count s)) ≡ not b
     pads b e = ap not (sym (e ∙ ap (every (eqb padding)) (part_to_end s count)))
 
-    pub counted-behind : (b : Bool) → b ≡ every (eqb padding) (take (length s - count) (drop count s)) → not b ≡ true → Malformed ≡ size_of (based count p s)
+    pub counted_behind : (b : Bool) → b ≡ every (eqb padding) (take (length s - count) (drop count s)) → not b ≡ true → Malformed ≡ size_of (based count p s)
     unfolding based size_of
-    counted-behind b e n = sym (ap size_of (skip _ _ _ (le-ltb (length s) count h) ∙ stop _ _ _ (pads b e ∙ n)))
+    counted_behind b e n = sym (ap size_of (skip _ _ _ (le-ltb (length s) count h) ∙ stop _ _ _ (pads b e ∙ n)))
 
     module _ (b : Bool) (e : b ≡ every (eqb padding) (take (length s - count) (drop count s))) (n : not b ≡ false) where
       pub counted_is : based count p s ≡ based_from p (take count s)
@@ -169,11 +169,11 @@ module _ (count p : ℕ) (s : List ℕ) where
       counted_is = skip _ _ _ (le-ltb (length s) count h) ∙ skip _ _ _ (pads b e ∙ n)
 
       module _ (d : Bool) (f : d ≡ well (based_from p (take count s))) where
-        pub counted-ill : not d ≡ true → Malformed ≡ size_of (based count p s)
-        counted-ill g = sym (ap size_of counted_is ∙ ill_size _ (sym f ∙ not-true d g))
+        pub counted_ill : not d ≡ true → Malformed ≡ size_of (based count p s)
+        counted_ill g = sym (ap size_of counted_is ∙ ill_size _ (sym f ∙ not-true d g))
 
-        pub counted-all : not d ≡ false → Units count ≡ size_of (based count p s)
-        counted-all g =
+        pub counted_all : not d ≡ false → Units count ≡ size_of (based count p s)
+        counted_all g =
             let w = sym f ∙ not-false d g in
             sym (ap size_of counted_is ∙ well_size _ w ∙ ap Units (based_few p (take count s) (sym (based_well p (take count s)) ∙ w) ∙ length-take-le count s h))
 

@@ -117,23 +117,23 @@ module _ (s : List ℕ) (n i : ℕ) (m : Measures s n i) where
     here : drop i s ≡ get_or s i 0 ∷ drop (i + 1) s
     here = drop-cons s i 0 h ∙ ap (λ (k : ℕ). get_or s i 0 ∷ drop k s) (sym (add-one i))
 
-    pub measures-padding : get_or s i 0 ≡ 255 → Units n ≡ size_of (default_from false s)
+    pub measures_padding : get_or s i 0 ≡ 255 → Units n ≡ size_of (default_from false s)
     unfolding size_of
-    measures-padding e = units_end (ap size_of (ap (default_from false) here ∙ default_padding _ _ e))
+    measures_padding e = units_end (ap size_of (ap (default_from false) here ∙ default_padding _ _ e))
 
-    pub measures-other : (get_or s i 0 ≡ 255 → ⊥) → 128 ≤ get_or s i 0 → Malformed ≡ size_of (default_from false s)
-    measures-other ne k = ill_end (ap (default_from false) here ∙ default_other _ _ ne k)
+    pub measures_other : (get_or s i 0 ≡ 255 → ⊥) → 128 ≤ get_or s i 0 → Malformed ≡ size_of (default_from false s)
+    measures_other ne k = ill_end (ap (default_from false) here ∙ default_other _ _ ne k)
 
-    pub measures-code : get_or s i 0 < 128 → (get_or s i 0 ≡ 27 → ⊥) → Measures s (n + 1) (i + 1)
-    measures-code k ne = more (i + 1) (unit_of (get_or s i 0)) (omega arith) (omega arith) (ap (default_from false) here ∙ default_code _ _ k ne)
+    pub measures_code : get_or s i 0 < 128 → (get_or s i 0 ≡ 27 → ⊥) → Measures s (n + 1) (i + 1)
+    measures_code k ne = more (i + 1) (unit_of (get_or s i 0)) (omega arith) (omega arith) (ap (default_from false) here ∙ default_code _ _ k ne)
 
     module _ (e : get_or s i 0 ≡ 27) where
       escaped : default_from false (drop i s) ≡ default_from true (drop (i + 1) s)
       escaped = ap (default_from false) here ∙ default_escape _ _ e
 
-      pub measures-dangling : length s - i < 2 → Malformed ≡ size_of (default_from false s)
+      pub measures_dangling : length s - i < 2 → Malformed ≡ size_of (default_from false s)
       unfolding default_from ◌⇒◌else◌
-      measures-dangling k =
+      measures_dangling k =
           let l : length s ≤ i + 1 = omega arith in
           ill_end (escaped ∙ ap (default_from true) (drop_of_length-le s l))
 
@@ -144,13 +144,13 @@ module _ (s : List ℕ) (n i : ℕ) (m : Measures s n i) where
             escaped ∙ ap (default_from true) (drop-cons s (i + 1) 0 (omega arith)) ∙ default_extended_lem _ _
             ∙ ap (λ (j : ℕ). follow_if (extension_unit (get_or s (i + 1) 0)) (default_from false (drop j s))) two
 
-        pub measures-unassigned : t ≡ Nothing → Malformed ≡ size_of (default_from false s)
+        pub measures_unassigned : t ≡ Nothing → Malformed ≡ size_of (default_from false s)
         unfolding follow_if
-        measures-unassigned f = ill_end (behind ∙ ap (λ (o : Option ℕ). follow_if o (default_from false (drop (i + 2) s))) (told_nothing _ t is f))
+        measures_unassigned f = ill_end (behind ∙ ap (λ (o : Option ℕ). follow_if o (default_from false (drop (i + 2) s))) (told_nothing _ t is f))
 
-        pub measures-extended : (u : ℕ) → t ≡ Of u → Measures s (n + 1) (i + 2)
+        pub measures_extended : (u : ℕ) → t ≡ Of u → Measures s (n + 1) (i + 2)
         unfolding follow_if
-        measures-extended u f =
+        measures_extended u f =
             more (i + 2) u (omega arith) (omega arith)
             (behind ∙ ap (λ (o : Option ℕ). follow_if o (default_from false (drop (i + 2) s))) (told_of _ t u is f))
 
@@ -205,49 +205,49 @@ module _ (s before : List ℕ) (n i : ℕ) (after : List ℕ) (f : Filling s bef
     at_place : drop i s ≡ get_or s i 0 ∷ drop (i + 1) s
     at_place = drop-cons s i 0 h ∙ ap (λ (k : ℕ). get_or s i 0 ∷ drop k s) (sym (add-one i))
 
-    pub filling-padding : get_or s i 0 ≡ 255 → after ≡ overlaid (units_in (default_from false s)) before
-    filling-padding e = none_left (ap (default_from false) at_place ∙ default_padding _ _ e)
+    pub filling_padding : get_or s i 0 ≡ 255 → after ≡ overlaid (units_in (default_from false s)) before
+    filling_padding e = none_left (ap (default_from false) at_place ∙ default_padding _ _ e)
 
-    pub filling-low : (get_or s i 0 ≡ 255 → ⊥) → get_or s i 0 < 128
-    filling-low ne = below _ _ other
+    pub filling_low : (get_or s i 0 ≡ 255 → ⊥) → get_or s i 0 < 128
+    filling_low ne = below _ _ other
       where
         other : 128 ≤ get_or s i 0 → ⊥
         other g = let z : malformed ≡ units _ = sym (ap (default_from false) at_place ∙ default_other _ _ ne g) ∙ f.left in let o : ◌≡◌ {A = ℕ} 0 1 = cc in omega arith
 
     module _ (ne : get_or s i 0 ≡ 255 → ⊥) (no : get_or s i 0 ≡ 27 → ⊥) where
-      pub filling-code : (v : ℕ) → v ≡ unit_of (get_or s i 0) → (n < length after) × Filling s before (n + 1) (i + 1) (set after n v)
-      filling-code v is =
-          one_more_lem _ (i + 1) v (ap (default_from false) at_place ∙ default_code _ _ (filling-low ne) no) (omega arith) (omega arith) is
+      pub filling_code : (v : ℕ) → v ≡ unit_of (get_or s i 0) → (n < length after) × Filling s before (n + 1) (i + 1) (set after n v)
+      filling_code v is =
+          one_more_lem _ (i + 1) v (ap (default_from false) at_place ∙ default_code _ _ (filling_low ne) no) (omega arith) (omega arith) is
 
     module _ (e : get_or s i 0 ≡ 27) where
-      behind-escape : default_from false (drop i s) ≡ default_from true (drop (i + 1) s)
-      behind-escape = ap (default_from false) at_place ∙ default_escape _ _ e
+      behind_escape : default_from false (drop i s) ≡ default_from true (drop (i + 1) s)
+      behind_escape = ap (default_from false) at_place ∙ default_escape _ _ e
 
-      pub filling-behind : i + 1 < length s
+      pub filling_behind : i + 1 < length s
       unfolding default_from ◌⇒◌else◌
-      filling-behind = below _ _ dangling
+      filling_behind = below _ _ dangling
         where
           dangling : length s ≤ i + 1 → ⊥
-          dangling g = let z : malformed ≡ units _ = sym (behind-escape ∙ ap (default_from true) (drop_of_length-le s g)) ∙ f.left in let o : ◌≡◌ {A = ℕ} 0 1 = cc in omega arith
+          dangling g = let z : malformed ≡ units _ = sym (behind_escape ∙ ap (default_from true) (drop_of_length-le s g)) ∙ f.left in let o : ◌≡◌ {A = ℕ} 0 1 = cc in omega arith
 
       both_behind : default_from false (drop i s) ≡ follow_if (extension_unit (get_or s (i + 1) 0)) (default_from false (drop (i + 2) s))
       both_behind =
           let two : suc (i + 1) ≡ i + 2 = omega arith in
-          behind-escape ∙ ap (default_from true) (drop-cons s (i + 1) 0 filling-behind) ∙ default_extended_lem _ _
+          behind_escape ∙ ap (default_from true) (drop-cons s (i + 1) 0 filling_behind) ∙ default_extended_lem _ _
           ∙ ap (λ (j : ℕ). follow_if (extension_unit (get_or s (i + 1) 0)) (default_from false (drop j s))) two
 
       module _ (t : UnitTold) (is : t ≡ unit_told (extension_unit (get_or s (i + 1) 0))) where
-        pub filling-assigned : t ≡ Nothing → ⊥
+        pub filling_assigned : t ≡ Nothing → ⊥
         unfolding is_there
-        filling-assigned g =
+        filling_assigned g =
             let z = follows_if _ _ _ (sym both_behind ∙ f.left) in
             let y : is_there (extension_unit (get_or s (i + 1) 0)) ≡ false = ap is_there (told_nothing _ t is g) in
             false≢true (sym y ∙ z)
 
-        pub filling-extended : (u : ℕ) → t ≡ Of u → (n < length after) × Filling s before (n + 1) (i + 2) (set after n u)
+        pub filling_extended : (u : ℕ) → t ≡ Of u → (n < length after) × Filling s before (n + 1) (i + 2) (set after n u)
         unfolding follow_if
-        filling-extended u g =
-            let b = filling-behind in
+        filling_extended u g =
+            let b = filling_behind in
             one_more_lem u (i + 2) u
             (both_behind ∙ ap (λ (o : Option ℕ). follow_if o (default_from false (drop (i + 2) s))) (told_of _ t u is g)) (omega arith) (omega arith) refl
 

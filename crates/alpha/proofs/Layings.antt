@@ -71,8 +71,8 @@ module _ (us before : List ℕ) (n i : ℕ) (after : List ℕ) (w : Laying us be
     here : drop i us ≡ get_or us i 0 ∷ drop (i + 1) us
     here = drop-cons us i 0 h ∙ ap (λ (k : ℕ). get_or us i 0 ∷ drop k us) (sym (add-one i))
 
-    pub laying-code : (c : ℕ) → t ≡ Of c → (n < length after) × Laying us before (n + 1) (i + 1) (set after n c)
-    laying-code c f =
+    pub laying_code : (c : ℕ) → t ≡ Of c → (n < length after) × Laying us before (n + 1) (i + 1) (set after n c)
+    laying_code c f =
         let s = frame_bytes (default_coding us) in
         let d = sym (ap default_coding here ∙ coding_plain (get_or us i 0) (drop (i + 1) us) c (code_is _ t c e f)) ∙ w.left in
         let r = fronts (c ∷ []) _ _ d in
@@ -88,14 +88,14 @@ module _ (us before : List ℕ) (n i : ℕ) (after : List ℕ) (w : Laying us be
         )
 
     module _ (f : t ≡ Nothing) (x : Code) (g : x ≡ code_told (extension_code_of (get_or us i 0))) where
-      pub laying-coded : x ≡ Nothing → ⊥
-      laying-coded y =
+      pub laying_coded : x ≡ Nothing → ⊥
+      laying_coded y =
           let d = sym (ap default_coding here ∙ coding_none (get_or us i 0) (drop (i + 1) us) (code_none _ t e f) (code_none _ x g y)) ∙ w.left in
           let z : ◌≡◌ {A = ℕ} 0 1 = cc in
           omega arith
 
-      pub laying-extended : (c : ℕ) → x ≡ Of c → (n + 1 < length after) × Laying us before (n + 2) (i + 1) (set (set after n escape) (n + 1) c)
-      laying-extended c y =
+      pub laying_extended : (c : ℕ) → x ≡ Of c → (n + 1 < length after) × Laying us before (n + 2) (i + 1) (set (set after n escape) (n + 1) c)
+      laying_extended c y =
           let s = frame_bytes (default_coding us) in
           let d = sym (ap default_coding here ∙ coding_extended (get_or us i 0) (drop (i + 1) us) c (code_none _ t e f) (code_is _ x c g y)) ∙ w.left in
           let r = fronts (escape ∷ c ∷ []) _ _ d in
@@ -165,19 +165,19 @@ module _ (p u : ℕ) (s : serves p (u ∷ []) ≡ true) (t : Code) (e : t ≡ co
   byte_code c f = sym (ap (based_byte p u) (code_is (code_of u) t c e f))
 
   module _ (f : t ≡ Nothing) where
-    within-reach : leb p u && ltb u (p + 128) ≡ true
+    within_reach : leb p u && ltb u (p + 128) ≡ true
     unfolding serves
-    within-reach = both_left (leb p u && ltb u (p + 128)) true (sym (stop _ _ _ (needs_none u (code_none (code_of u) t e f))) ∙ s)
+    within_reach = both_left (leb p u && ltb u (p + 128)) true (sym (stop _ _ _ (needs_none u (code_none (code_of u) t e f))) ∙ s)
 
     pub byte_low : p ≤ u
-    byte_low = leb-true p u (both_left (leb p u) (ltb u (p + 128)) within-reach)
+    byte_low = leb-true p u (both_left (leb p u) (ltb u (p + 128)) within_reach)
 
     pub byte_high : u < p + 128
-    byte_high = ltb-true u (p + 128) (both_right (leb p u) (ltb u (p + 128)) within-reach)
+    byte_high = ltb-true u (p + 128) (both_right (leb p u) (ltb u (p + 128)) within_reach)
 
-    pub byte-based : 128 + (u - p) ≡ based_byte p u (code_of u)
+    pub byte_based : 128 + (u - p) ≡ based_byte p u (code_of u)
     unfolding based_byte
-    byte-based = sym (ap (based_byte p u) (code_none (code_of u) t e f))
+    byte_based = sym (ap (based_byte p u) (code_none (code_of u) t e f))
 
 -- a pointer that serves units serves each of them
 pub serves_parts : (p u : ℕ) (us : List ℕ) → serves p (u ∷ us) ≡ true → (serves p (u ∷ []) ≡ true) × (serves p us ≡ true)

@@ -113,9 +113,9 @@ module _ (l : List ℕ) (i : ℕ) (w : Uniting l i) where
       ∙ with_readable (digits_at l i) (unit_at l i) (some []) ∙ and_true (digits_at l i))
 
   module _ (h : 5 ≤ length l - i) where
-    by-five : readable (units_from l) ≡ (digits_at l i && eqb (get_or l (i + 4) 0) 32) && readable (units_from (drop (i + 5) l))
+    by_five : readable (units_from l) ≡ (digits_at l i && eqb (get_or l (i + 4) 0) 32) && readable (units_from (drop (i + 5) l))
     unfolding units_from digits_at unit_at
-    by-five =
+    by_five =
         let f : suc (i + 4) ≡ i + 5 = omega arith in
         w.same
         ∙ ap (λ (r : List ℕ). readable (units_from r))
@@ -124,18 +124,18 @@ module _ (l : List ℕ) (i : ℕ) (w : Uniting l i) where
         ∙ with_readable (digits_at l i && eqb (get_or l (i + 4) 0) 32) (unit_at l i) (units_from (drop (i + 5) l))
 
     module _ (d : Bool) (e : d ≡ digits_at l i) where
-      pub uniting-not : not d ≡ true → false ≡ readable (units_from l)
-      uniting-not n = sym (by-five ∙ ap (λ (t : Bool). (t && eqb (get_or l (i + 4) 0) 32) && readable (units_from (drop (i + 5) l))) (sym e ∙ not-true d n))
+      pub uniting_not : not d ≡ true → false ≡ readable (units_from l)
+      uniting_not n = sym (by_five ∙ ap (λ (t : Bool). (t && eqb (get_or l (i + 4) 0) 32) && readable (units_from (drop (i + 5) l))) (sym e ∙ not-true d n))
 
       module _ (n : not d ≡ false) where
         behind : readable (units_from l) ≡ eqb (get_or l (i + 4) 0) 32 && readable (units_from (drop (i + 5) l))
-        behind = by-five ∙ ap (λ (t : Bool). (t && eqb (get_or l (i + 4) 0) 32) && readable (units_from (drop (i + 5) l))) (sym e ∙ not-false d n)
+        behind = by_five ∙ ap (λ (t : Bool). (t && eqb (get_or l (i + 4) 0) 32) && readable (units_from (drop (i + 5) l))) (sym e ∙ not-false d n)
 
-        pub uniting-joined : (get_or l (i + 4) 0 ≡ 32 → ⊥) → false ≡ readable (units_from l)
-        uniting-joined b = sym (behind ∙ ap (λ (t : Bool). t && readable (units_from (drop (i + 5) l))) (ne_eqb (get_or l (i + 4) 0) 32 b))
+        pub uniting_joined : (get_or l (i + 4) 0 ≡ 32 → ⊥) → false ≡ readable (units_from l)
+        uniting_joined b = sym (behind ∙ ap (λ (t : Bool). t && readable (units_from (drop (i + 5) l))) (ne_eqb (get_or l (i + 4) 0) 32 b))
 
-        pub uniting-more : get_or l (i + 4) 0 ≡ 32 → Uniting l (i + 5)
-        uniting-more b = record { within = omega arith; same = behind ∙ ap (λ (t : Bool). t && readable (units_from (drop (i + 5) l))) (eq-eqb (get_or l (i + 4) 0) 32 b) }
+        pub uniting_more : get_or l (i + 4) 0 ≡ 32 → Uniting l (i + 5)
+        uniting_more b = record { within = omega arith; same = behind ∙ ap (λ (t : Bool). t && readable (units_from (drop (i + 5) l))) (eq-eqb (get_or l (i + 4) 0) 32 b) }
 
 -- the parts of a unit that was read
 with_parts :
@@ -209,17 +209,17 @@ module _ (l before : List ℕ) (i : ℕ) (after : List ℕ) (w : United l before
     within : i < length (frame_bytes (units_from l))
     within = let n = units_size l w.read in omega arith
 
-    pub united-place : 5 * i + 4 ≤ length l
-    united-place = let n = units_size l w.read in let k = within in omega arith
+    pub united_place : 5 * i + 4 ≤ length l
+    united_place = let n = units_size l w.read in let k = within in omega arith
 
-    pub united-digits : digits_at l (5 * i) ≡ true
-    united-digits = (units_at l i w.read within).0
+    pub united_digits : digits_at l (5 * i) ≡ true
+    united_digits = (units_at l i w.read within).0
 
-    pub united-room : i < length after
-    united-room = let k = within in omega (arith, w.copied.fits, w.copied.same)
+    pub united_room : i < length after
+    united_room = let k = within in omega (arith, w.copied.fits, w.copied.same)
 
-    pub united-more : (v : ℕ) → v ≡ unit_at l (5 * i) → United l before (i + 1) (set after i v)
-    united-more v e =
+    pub united_more : (v : ℕ) → v ≡ unit_at l (5 * i) → United l before (i + 1) (set after i v)
+    united_more v e =
         record {
           read = w.read;
           copied =
@@ -253,9 +253,9 @@ module _ (l before : List ℕ) where
   told_blank e = as_told _ _ (some []) before before (stop _ _ _ (eq-eqb (length l) 0 e)) (refl, refl)
 
   module _ (n : length l ≡ 0 → ⊥) (b : Bool) (e : b ≡ same l dashes) where
-    pub told-dashes : b ≡ true → ToldUnits (Units 0) (units_of l) before before
+    pub told_dashes : b ≡ true → ToldUnits (Units 0) (units_of l) before before
     unfolding units_of size_told frame_bytes overlaid
-    told-dashes f = as_told _ _ (some []) before before (skip _ _ _ (ne_eqb (length l) 0 n) ∙ stop _ _ _ (sym e ∙ f)) (refl, refl)
+    told_dashes f = as_told _ _ (some []) before before (skip _ _ _ (ne_eqb (length l) 0 n) ∙ stop _ _ _ (sym e ∙ f)) (refl, refl)
 
     module _ (f : b ≡ false) where
       pub told_long : 7999 < length l → ToldUnits Malformed (units_of l) before before
@@ -263,23 +263,23 @@ module _ (l before : List ℕ) where
       told_long h = as_told _ _ none before before (skip _ _ _ (ne_eqb (length l) 0 n) ∙ skip _ _ _ (sym e ∙ f) ∙ stop _ _ _ (lt-ltb 7999 (length l) h)) (refl, refl)
 
       module _ (h : length l ≤ 7999) (d : Bool) (g : d ≡ readable (units_from l)) where
-        is-from : units_of l ≡ units_from l
+        is_from : units_of l ≡ units_from l
         unfolding units_of
-        is-from = skip _ _ _ (ne_eqb (length l) 0 n) ∙ skip _ _ _ (sym e ∙ f) ∙ skip _ _ _ (le-ltb 7999 (length l) h)
+        is_from = skip _ _ _ (ne_eqb (length l) 0 n) ∙ skip _ _ _ (sym e ∙ f) ∙ skip _ _ _ (le-ltb 7999 (length l) h)
 
         pub told_unread : not d ≡ true → ToldUnits Malformed (units_of l) before before
-        told_unread k = as_told _ _ _ before before is-from (missing (units_from l) before (sym g ∙ not-true d k))
+        told_unread k = as_told _ _ _ before before is_from (missing (units_from l) before (sym g ∙ not-true d k))
 
         module _ (k : not d ≡ false) where
-          pub told-fits : 1600 ≤ length before → (readable (units_from l) ≡ true) × (length (frame_bytes (units_from l)) ≤ length before)
-          told-fits r = let y = sym g ∙ not-false d k in (y, let s = units_size l y in omega arith)
+          pub told_fits : 1600 ≤ length before → (readable (units_from l) ≡ true) × (length (frame_bytes (units_from l)) ≤ length before)
+          told_fits r = let y = sym g ∙ not-false d k in (y, let s = units_size l y in omega arith)
 
-          pub told-units : (after : List ℕ) → after ≡ overlaid (frame_bytes (units_from l)) before → ToldUnits (Units ((length l + 1) / 5)) (units_of l) before after
-          told-units after w =
+          pub told_units : (after : List ℕ) → after ≡ overlaid (frame_bytes (units_from l)) before → ToldUnits (Units ((length l + 1) / 5)) (units_of l) before after
+          told_units after w =
               let y = sym g ∙ not-false d k in
               let s = units_size l y in
               let z : (length l + 1) / 5 ≡ length (frame_bytes (units_from l)) = omega arith in
-              as_told _ _ _ before after is-from (ap Units z ∙ present (units_from l) y, w)
+              as_told _ _ _ before after is_from (ap Units z ∙ present (units_from l) y, w)
 
 -- a line that was read: its units stand at the front of the buffer
 pub record ReadUnits (o : Option (List ℕ)) (n : ℕ) (buffer : List ℕ) : Type 0 where

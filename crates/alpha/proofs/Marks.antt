@@ -40,12 +40,12 @@ module _ (s : List ℕ) (n : length s ≡ 0 → ⊥) where
     unfolding reads
     at_block = skip _ _ _ some_bytes ∙ skip _ _ _ (ne_eqb (get_or s 0 0) 128 (λ f. omega (arith, e, f))) ∙ stop _ _ _ (eq-eqb (get_or s 0 0) 129 e)
 
-    pub reads-block-short : length s < 3 → malformed ≡ reads s
-    reads-block-short h = sym (at_block ∙ stop _ _ _ (lt-ltb (length s) 3 h))
+    pub reads_block_short : length s < 3 → malformed ≡ reads s
+    reads_block_short h = sym (at_block ∙ stop _ _ _ (lt-ltb (length s) 3 h))
 
-    pub reads-block : (count p : ℕ) → 3 ≤ length s → count ≡ get_or s 1 0 → p ≡ 128 * get_or s 2 0 → based count p (take (length s - 3) (drop 3 s)) ≡ reads s
+    pub reads_block : (count p : ℕ) → 3 ≤ length s → count ≡ get_or s 1 0 → p ≡ 128 * get_or s 2 0 → based count p (take (length s - 3) (drop 3 s)) ≡ reads s
     unfolding block_pointer
-    reads-block count p h c q = (λ i. based (c i) (q i) (part_to_end s 3 i)) ∙ sym (at_block ∙ skip _ _ _ (le-ltb (length s) 3 h))
+    reads_block count p h c q = (λ i. based (c i) (q i) (part_to_end s 3 i)) ∙ sym (at_block ∙ skip _ _ _ (le-ltb (length s) 3 h))
 
   module _ (e : get_or s 0 0 ≡ 130) where
     at_base : reads s ≡ (ltb (length s) 4 ⇒ malformed else based (get_or s 1 0) (base_pointer s) (drop 4 s))
@@ -54,13 +54,13 @@ module _ (s : List ℕ) (n : length s ≡ 0 → ⊥) where
         skip _ _ _ some_bytes ∙ skip _ _ _ (ne_eqb (get_or s 0 0) 128 (λ f. omega (arith, e, f)))
         ∙ skip _ _ _ (ne_eqb (get_or s 0 0) 129 (λ f. omega (arith, e, f))) ∙ stop _ _ _ (eq-eqb (get_or s 0 0) 130 e)
 
-    pub reads-base-short : length s < 4 → malformed ≡ reads s
-    reads-base-short h = sym (at_base ∙ stop _ _ _ (lt-ltb (length s) 4 h))
+    pub reads_base_short : length s < 4 → malformed ≡ reads s
+    reads_base_short h = sym (at_base ∙ stop _ _ _ (lt-ltb (length s) 4 h))
 
-    pub reads-base :
+    pub reads_base :
         (count p : ℕ) → 4 ≤ length s → count ≡ get_or s 1 0 → p ≡ 256 * get_or s 2 0 + get_or s 3 0 → based count p (take (length s - 4) (drop 4 s)) ≡ reads s
     unfolding base_pointer
-    reads-base count p h c q = (λ i. based (c i) (q i) (part_to_end s 4 i)) ∙ sym (at_base ∙ skip _ _ _ (le-ltb (length s) 4 h))
+    reads_base count p h c q = (λ i. based (c i) (q i) (part_to_end s 4 i)) ∙ sym (at_base ∙ skip _ _ _ (le-ltb (length s) 4 h))
 
   pub reads_default : (get_or s 0 0 ≡ 128 → ⊥) → (get_or s 0 0 ≡ 129 → ⊥) → (get_or s 0 0 ≡ 130 → ⊥) → default_from false s ≡ reads s
   unfolding reads
@@ -73,10 +73,10 @@ unfolding well
 not_malformed t out f e = false≢true (ap well e ∙ f.formed)
 
 pub block_long : (s out : List ℕ) → Fills (reads s) out → (length s ≡ 0 → ⊥) → get_or s 0 0 ≡ 129 → 3 ≤ length s
-block_long s out f n e = let z = below 2 (length s) (λ h. not_malformed (reads s) out f (reads-block-short s n e (omega arith))) in omega arith
+block_long s out f n e = let z = below 2 (length s) (λ h. not_malformed (reads s) out f (reads_block_short s n e (omega arith))) in omega arith
 
 pub base_long : (s out : List ℕ) → Fills (reads s) out → (length s ≡ 0 → ⊥) → get_or s 0 0 ≡ 130 → 4 ≤ length s
-base_long s out f n e = let z = below 3 (length s) (λ h. not_malformed (reads s) out f (reads-base-short s n e (omega arith))) in omega arith
+base_long s out f n e = let z = below 3 (length s) (λ h. not_malformed (reads s) out f (reads_base_short s n e (omega arith))) in omega arith
 
 -- a text by another name
 pub fills_as : {t u : Text} {out : List ℕ} → t ≡ u → Fills u out → Fills t out
@@ -103,22 +103,22 @@ module _ (t : Text) (z : Size) (e : z ≡ size_of t) (out : List ℕ) where
     formed : (well t ≡ true) × (length (units_in t) ≡ k)
     formed = size_well t k (sym e ∙ f)
 
-    is-units : t ≡ units (units_in t)
-    is-units = well_units t formed.0
+    is_units : t ≡ units (units_in t)
+    is_units = well_units t formed.0
 
-    pub ended-short : length out < k → (Refused ShortText ≡ ended_of t (length out)) × (out ≡ leaves t out)
+    pub ended_short : length out < k → (Refused ShortText ≡ ended_of t (length out)) × (out ≡ leaves t out)
     unfolding ended_of leaves fitted laid
-    ended-short h =
+    ended_short h =
         let l = formed.1 in
         let s = lt-ltb (length out) (length (units_in t)) (omega arith) in
-        (sym (ap (λ (u : Text). ended_of u (length out)) is-units ∙ stop _ _ _ s), sym (ap (λ (u : Text). leaves u out) is-units ∙ stop _ _ _ s))
+        (sym (ap (λ (u : Text). ended_of u (length out)) is_units ∙ stop _ _ _ s), sym (ap (λ (u : Text). leaves u out) is_units ∙ stop _ _ _ s))
 
-    pub ended-fills : k ≤ length out → Fills t out
-    ended-fills h = record { formed = formed.0; fits = let l = formed.1 in omega arith }
+    pub ended_fills : k ≤ length out → Fills t out
+    ended_fills h = record { formed = formed.0; fits = let l = formed.1 in omega arith }
 
-    pub ended-units : (after : List ℕ) → k ≤ length out → after ≡ overlaid (units_in t) out → (Wrote k ≡ ended_of t (length out)) × (after ≡ leaves t out)
+    pub ended_units : (after : List ℕ) → k ≤ length out → after ≡ overlaid (units_in t) out → (Wrote k ≡ ended_of t (length out)) × (after ≡ leaves t out)
     unfolding ended_of leaves fitted laid overlaid
-    ended-units after h w =
+    ended_units after h w =
         let l = formed.1 in
         let s = le-ltb (length out) (length (units_in t)) (omega arith) in
-        (sym (ap (λ (u : Text). ended_of u (length out)) is-units ∙ skip _ _ _ s ∙ ap Wrote l), w ∙ sym (ap (λ (u : Text). leaves u out) is-units ∙ skip _ _ _ s))
+        (sym (ap (λ (u : Text). ended_of u (length out)) is_units ∙ skip _ _ _ s ∙ ap Wrote l), w ∙ sym (ap (λ (u : Text). leaves u out) is_units ∙ skip _ _ _ s))

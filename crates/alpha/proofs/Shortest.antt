@@ -33,13 +33,13 @@ block_made b us h k l m =
 
 -- where a block serves, the writer's does, and no lower one
 pub lowest_block : (b : ℕ) (us : List ℕ) → block_serves b us ≡ true → (block_serves (block_of us) us ≡ true) × (block_of us ≤ b)
-lowest_block b us e = let w = block_parts b us e in ⊎_elim (plain w) (some-need w) (needing us)
+lowest_block b us e = let w = block_parts b us e in ⊎_elim (plain w) (some_need w) (needing us)
   where
     plain : (length us ≤ 255) × (b < 256) × (128 * b ≤ low_need us) × (highest us < 128 * b + 128) → Plainly us → (block_serves (block_of us) us ≡ true) × (block_of us ≤ b)
     plain w p = (block_made (block_of us) us w.0 (omega (arith, p.block)) (omega (arith, p.block, p.low)) (omega (arith, p.block, p.high)), omega (arith, p.block))
 
-    some-need : (length us ≤ 255) × (b < 256) × (128 * b ≤ low_need us) × (highest us < 128 * b + 128) → Needing us → (block_serves (block_of us) us ≡ true) × (block_of us ≤ b)
-    some-need w n =
+    some_need : (length us ≤ 255) × (b < 256) × (128 * b ≤ low_need us) × (highest us < 128 * b + 128) → Needing us → (block_serves (block_of us) us ≡ true) × (block_of us ≤ b)
+    some_need w n =
         let z : block_of us ≡ b = omega (arith, n.block, n.low, n.high) in
         (ap (λ (x : ℕ). block_serves x us) z ∙ e, omega arith)
 
@@ -222,12 +222,12 @@ module _ (us : List ℕ) where
               p : writes us ≡ t
               p = is ∙ stop _ _ _ g
 
-              shorter-one : (f : Form) (s : List ℕ) → Codes f us s → length s ≡ length (writes us) → order f ≤ 1 → ⊥
-              shorter-one f s c l h = let k = one_short us f s c h in let m = ltb-true (length t) (length (one us)) g in let a = ap length p in omega arith
+              shorter_one : (f : Form) (s : List ℕ) → Codes f us s → length s ≡ length (writes us) → order f ≤ 1 → ⊥
+              shorter_one f s c l h = let k = one_short us f s c h in let m = ltb-true (length t) (length (one us)) g in let a = ap length p in omega arith
 
               later : (f : Form) (s : List ℕ) → Codes f us s → length s ≡ length (writes us) → 2 ≤ order f
-              later by_default s c l = absurd (shorter-one by_default s c l (omega arith))
-              later by_pairs s c l = absurd (shorter-one by_pairs s c l (omega arith))
+              later by_default s c l = absurd (shorter_one by_default s c l (omega arith))
+              later by_pairs s c l = absurd (shorter_one by_pairs s c l (omega arith))
               later (by_block b) s c l = omega arith
               later (by_base b) s c l = omega arith
 
@@ -250,11 +250,11 @@ module _ (us : List ℕ) where
               p : writes us ≡ t
               p = is ∙ stop _ _ _ g
 
-              shorter-two : (f : Form) (s : List ℕ) → Codes f us s → length s ≡ length (writes us) → order f ≤ 2 → ⊥
-              shorter-two f s c l h = let k = two_short us f s c h in let m = ltb-true (length t) (length (two us)) g in let a = ap length p in omega arith
+              shorter_two : (f : Form) (s : List ℕ) → Codes f us s → length s ≡ length (writes us) → order f ≤ 2 → ⊥
+              shorter_two f s c l h = let k = two_short us f s c h in let m = ltb-true (length t) (length (two us)) g in let a = ap length p in omega arith
 
               later : (f : Form) (s : List ℕ) → Codes f us s → length s ≡ length (writes us) → 3 ≤ order f
-              later by_default s c l = absurd (shorter-two by_default s c l (omega arith))
-              later by_pairs s c l = absurd (shorter-two by_pairs s c l (omega arith))
-              later (by_block b) s c l = absurd (shorter-two (by_block b) s c l (omega arith))
+              later by_default s c l = absurd (shorter_two by_default s c l (omega arith))
+              later by_pairs s c l = absurd (shorter_two by_pairs s c l (omega arith))
+              later (by_block b) s c l = absurd (shorter_two (by_block b) s c l (omega arith))
               later (by_base b) s c l = omega arith

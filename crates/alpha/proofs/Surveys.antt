@@ -369,32 +369,32 @@ module _ (us : List ℕ) (small : Each (λ (u : ℕ). u < 0x10000) us) (r : Surv
       branch (λ (o : Option (List ℕ)). shorter s o ≡ s) (base_serves (base_of us) us) (some (base_with (base_of us) us)) none (λ _. shorter_kept s (base_with (base_of us) us) (omega arith)) (λ _. refl)
 
   module _ (few : length us ≤ 255) where
-    block-bounds : block_serves (block_of us) us ≡ true → (block_of us < 256) × (128 * block_of us ≤ low_need us) × (highest us < 128 * block_of us + 128)
+    block_bounds : block_serves (block_of us) us ≡ true → (block_of us < 256) × (128 * block_of us ≤ low_need us) × (highest us < 128 * block_of us + 128)
     unfolding block_serves
-    block-bounds e =
+    block_bounds e =
         let a = both_left (leb (length us) 255 && ltb (block_of us) 256) (serves (128 * block_of us) us) e in
         let b = ltb-true (block_of us) 256 (both_right (leb (length us) 255) (ltb (block_of us) 256) a) in
         let w = serves_bounds (128 * block_of us) us (omega arith) (both_right (leb (length us) 255 && ltb (block_of us) 256) (serves (128 * block_of us) us) e) in
         (b, w.0, w.1)
 
-    bounds-block : (b : ℕ) → b < 256 → 128 * b ≤ low_need us → highest us < 128 * b + 128 → block_serves b us ≡ true
+    bounds_block : (b : ℕ) → b < 256 → 128 * b ≤ low_need us → highest us < 128 * b + 128 → block_serves b us ≡ true
     unfolding block_serves
-    bounds-block b h k l =
+    bounds_block b h k l =
         both (leb (length us) 255 && ltb b 256) (serves (128 * b) us) (both (leb (length us) 255) (ltb b 256) (le-leb (length us) 255 few) (lt-ltb b 256 h))
         (bounds_serve (128 * b) us k l)
 
     module _ (over : 3 < excess_of r (length us)) where
       -- the survey tells whether a block serves, and which
-      block-yes : block_fits r ≡ true → (block_serves (r.lowest / 128) us ≡ true) × (block_coding us ≡ some (block_with (r.lowest / 128) us))
+      block_yes : block_fits r ≡ true → (block_serves (r.lowest / 128) us ≡ true) × (block_coding us ≡ some (block_with (r.lowest / 128) us))
       unfolding block_fits block_coding
-      block-yes e =
+      block_yes e =
           let w = over_needing over in
           let x = eqb-true (r.highest / 128) (r.lowest / 128) (both_left (eqb (r.highest / 128) (r.lowest / 128)) (ltb (r.lowest / 128) 256) e) in
           let y = ltb-true (r.lowest / 128) 256 (both_right (eqb (r.highest / 128) (r.lowest / 128)) (ltb (r.lowest / 128) 256) e) in
           let l = low_is in
           let h = high_is in
           let same : block_of us ≡ r.lowest / 128 = omega (arith, w.block, w.low, w.high) in
-          let s = bounds-block (r.lowest / 128) y (omega arith) (omega arith) in
+          let s = bounds_block (r.lowest / 128) y (omega arith) (omega arith) in
           (s, stop _ _ _ (ap (λ (b : ℕ). block_serves b us) same ∙ s) ∙ ap (λ (b : ℕ). some (block_with b us)) same)
 
       block_no : block_fits r ≡ false → block_coding us ≡ none
@@ -404,7 +404,7 @@ module _ (us : List ℕ) (small : Each (λ (u : ℕ). u < 0x10000) us) (r : Surv
           not_so : (t : Bool) → block_serves (block_of us) us ≡ t → block_serves (block_of us) us ≡ false
           not_so true f =
               let w = over_needing over in
-              let b = block-bounds f in
+              let b = block_bounds f in
               let l = low_is in
               let h = high_is in
               absurd
@@ -414,9 +414,9 @@ module _ (us : List ℕ) (small : Each (λ (u : ℕ). u < 0x10000) us) (r : Surv
               (lt-ltb (r.lowest / 128) 256 (omega (arith, w.low, w.high)))))
           not_so false f = f
 
-    base-yes : leb (r.highest - 127) r.lowest ≡ true → (base_serves (r.highest - 127) us ≡ true) × (base_coding us ≡ some (base_with (r.highest - 127) us))
+    base_yes : leb (r.highest - 127) r.lowest ≡ true → (base_serves (r.highest - 127) us ≡ true) × (base_coding us ≡ some (base_with (r.highest - 127) us))
     unfolding base_coding base_serves base_of
-    base-yes e =
+    base_yes e =
         let k = leb-true (r.highest - 127) r.lowest e in
         let l = low_is in
         let h = high_is in
@@ -428,9 +428,9 @@ module _ (us : List ℕ) (small : Each (λ (u : ℕ). u < 0x10000) us) (r : Surv
         (bounds_serve (r.highest - 127) us (omega arith) (omega arith)) in
         (s, stop _ _ _ (ap (λ (b : ℕ). base_serves b us) same ∙ s) ∙ ap (λ (b : ℕ). some (base_with b us)) same)
 
-    base-no : leb (r.highest - 127) r.lowest ≡ false → base_coding us ≡ none
+    base_no : leb (r.highest - 127) r.lowest ≡ false → base_coding us ≡ none
     unfolding base_coding base_serves base_of
-    base-no e = skip _ _ _ (not_so (base_serves (highest us - 127) us) refl)
+    base_no e = skip _ _ _ (not_so (base_serves (highest us - 127) us) refl)
       where
         not_so : (t : Bool) → base_serves (highest us - 127) us ≡ t → base_serves (highest us - 127) us ≡ false
         not_so true f =
@@ -454,9 +454,9 @@ module _ (us : List ℕ) (small : Each (λ (u : ℕ). u < 0x10000) us) (r : Surv
       (λ few. let h = ltb-false 255 (length us) few in
       branch P _ _ _ (λ low. let l = leb-true (excess_of r (length us)) 3 low in first_chosen (ap (λ (s : List ℕ). shorter s (base_coding us)) (keep_block first (omega (arith, f.size))) ∙ keep_base first (omega (arith, f.size))))
       (λ over. let o = leb-false (excess_of r (length us)) 3 over in
-      branch P _ _ _ (by-block h o)
+      branch P _ _ _ (by_block_lem h o)
       (λ not. branch P _ _ _ (λ low. let l = leb-true (excess_of r (length us)) 4 low in first_chosen (ap (λ (b : Option (List ℕ)). shorter (shorter first b) (base_coding us)) (block_no h o not) ∙ keep_base first (omega (arith, f.size))))
-      (λ more. branch P _ _ _ (by-base h o not (leb-false (excess_of r (length us)) 4 more)) (λ none. first_chosen (λ i. shorter (shorter first (block_no h o not i)) (base-no h none i)))))))
+      (λ more. branch P _ _ _ (by_base_lem h o not (leb-false (excess_of r (length us)) 4 more)) (λ none. first_chosen (λ i. shorter (shorter first (block_no h o not i)) (base_no h none i)))))))
     where
       P : Coding → Type 0
       P c = Chosen c us
@@ -464,9 +464,9 @@ module _ (us : List ℕ) (small : Each (λ (u : ℕ). u < 0x10000) us) (r : Surv
       first : List ℕ
       first = first_or (default_coding us) (pair_coding us)
 
-      by-block : (h : length us ≤ 255) (o : 3 < excess_of r (length us)) → block_fits r ≡ true → Chosen (Block (r.lowest / 128)) us
-      by-block h o e =
-          let b = block-yes h o e in
+      by_block_lem : (h : length us ≤ 255) (o : 3 < excess_of r (length us)) → block_fits r ≡ true → Chosen (Block (r.lowest / 128)) us
+      by_block_lem h o e =
+          let b = block_yes h o e in
           let k = block_size (r.lowest / 128) us in
           let f = first_is in
           record {
@@ -477,11 +477,11 @@ module _ (us : List ℕ) (small : Each (λ (u : ℕ). u < 0x10000) us) (r : Surv
             serves = b.0;
           }
 
-      by-base :
+      by_base_lem :
           (h : length us ≤ 255) (o : 3 < excess_of r (length us)) → block_fits r ≡ false → 4 < excess_of r (length us) →
           leb (r.highest - 127) r.lowest ≡ true → Chosen (Base (r.highest - 127)) us
-      by-base h o n m e =
-          let b = base-yes h e in
+      by_base_lem h o n m e =
+          let b = base_yes h e in
           let k = base_size (r.highest - 127) us in
           let f = first_is in
           record {
@@ -502,17 +502,17 @@ module _ (s : Survey) (n : ℕ) (f : Coding) (is : f ≡ first_form s) where
   choose_many h = is ∙ sym (stop _ _ _ (lt-ltb 255 n h))
 
   module _ (few : n ≤ 255) (k : ℕ) (e : k ≡ excess_of s n) where
-    not-many : chosen s n ≡
+    not_many : chosen s n ≡
         (leb (excess_of s n) 3 ⇒ first_form s else
         block_fits s ⇒ Block (s.lowest / 128) else
         leb (excess_of s n) 4 ⇒ first_form s else
         leb (s.highest - 127) s.lowest ⇒ Base (s.highest - 127) else
         first_form s)
     unfolding chosen
-    not-many = skip _ _ _ (le-ltb 255 n few)
+    not_many = skip _ _ _ (le-ltb 255 n few)
 
-    pub choose-low : k ≤ 3 → f ≡ chosen s n
-    choose-low h = is ∙ sym (not-many ∙ stop _ _ _ (le-leb (excess_of s n) 3 (omega arith)))
+    pub choose_low : k ≤ 3 → f ≡ chosen s n
+    choose_low h = is ∙ sym (not_many ∙ stop _ _ _ (le-leb (excess_of s n) 3 (omega arith)))
 
     module _ (over : 3 < k) (b : Bool) (g : b ≡ block_fits s) where
       not_low : chosen s n ≡
@@ -520,34 +520,34 @@ module _ (s : Survey) (n : ℕ) (f : Coding) (is : f ≡ first_form s) where
           leb (excess_of s n) 4 ⇒ first_form s else
           leb (s.highest - 127) s.lowest ⇒ Base (s.highest - 127) else
           first_form s)
-      not_low = not-many ∙ skip _ _ _ (lt-leb (excess_of s n) 3 (omega arith))
+      not_low = not_many ∙ skip _ _ _ (lt-leb (excess_of s n) 3 (omega arith))
 
-      pub choose-block : b ≡ true → Block (s.lowest / 128) ≡ chosen s n
-      choose-block h = sym (not_low ∙ stop _ _ _ (sym g ∙ h))
+      pub choose_block : b ≡ true → Block (s.lowest / 128) ≡ chosen s n
+      choose_block h = sym (not_low ∙ stop _ _ _ (sym g ∙ h))
 
-      pub choose-named : b ≡ true → s.lowest / 128 < 256
+      pub choose_named : b ≡ true → s.lowest / 128 < 256
       unfolding block_fits
-      choose-named h = ltb-true (s.lowest / 128) 256 (both_right (eqb (s.highest / 128) (s.lowest / 128)) (ltb (s.lowest / 128) 256) (sym g ∙ h))
+      choose_named h = ltb-true (s.lowest / 128) 256 (both_right (eqb (s.highest / 128) (s.lowest / 128)) (ltb (s.lowest / 128) 256) (sym g ∙ h))
 
       module _ (no : b ≡ false) where
-        no-fit : chosen s n ≡
+        no_fit : chosen s n ≡
             (leb (excess_of s n) 4 ⇒ first_form s else
             leb (s.highest - 127) s.lowest ⇒ Base (s.highest - 127) else
             first_form s)
-        no-fit = not_low ∙ skip _ _ _ (sym g ∙ no)
+        no_fit = not_low ∙ skip _ _ _ (sym g ∙ no)
 
-        pub choose-even : k ≤ 4 → f ≡ chosen s n
-        choose-even h = is ∙ sym (no-fit ∙ stop _ _ _ (le-leb (excess_of s n) 4 (omega arith)))
+        pub choose_even : k ≤ 4 → f ≡ chosen s n
+        choose_even h = is ∙ sym (no_fit ∙ stop _ _ _ (le-leb (excess_of s n) 4 (omega arith)))
 
         module _ (more : 4 < k) (x : ℕ) (h : x ≡ s.highest - 127) where
-          not-even : chosen s n ≡ (leb (s.highest - 127) s.lowest ⇒ Base (s.highest - 127) else first_form s)
-          not-even = no-fit ∙ skip _ _ _ (lt-leb (excess_of s n) 4 (omega arith))
+          not_even : chosen s n ≡ (leb (s.highest - 127) s.lowest ⇒ Base (s.highest - 127) else first_form s)
+          not_even = no_fit ∙ skip _ _ _ (lt-leb (excess_of s n) 4 (omega arith))
 
-          pub choose-base : x ≤ s.lowest → Base x ≡ chosen s n
-          choose-base l = ap Base h ∙ sym (not-even ∙ stop _ _ _ (le-leb (s.highest - 127) s.lowest (omega arith)))
+          pub choose_base : x ≤ s.lowest → Base x ≡ chosen s n
+          choose_base l = ap Base h ∙ sym (not_even ∙ stop _ _ _ (le-leb (s.highest - 127) s.lowest (omega arith)))
 
-          pub choose-last : s.lowest < x → f ≡ chosen s n
-          choose-last l = is ∙ sym (not-even ∙ skip _ _ _ (lt-leb (s.highest - 127) s.lowest (omega arith)))
+          pub choose_last : s.lowest < x → f ≡ chosen s n
+          choose_last l = is ∙ sym (not_even ∙ skip _ _ _ (lt-leb (s.highest - 127) s.lowest (omega arith)))
 
 -- the coding that the code found, and the end of the call in it
 pub chosen_found :

@@ -46,13 +46,13 @@ module _ (u i : ℕ) (l : Looks u i) where
         drop-cons table i 0 (omega arith)
         ∙ (λ j. get_or (sym is j) i 0 ∷ drop (sym (add-one i) j) table)
 
-    pub looks-found : get_or codes i 0 ≡ u → Of i ≡ code_told (code_of u)
+    pub looks_found : get_or codes i 0 ≡ u → Of i ≡ code_told (code_of u)
     unfolding code_among code_told
-    looks-found e = sym (ap code_told (l.same ∙ ap (code_among u i) here ∙ stop _ _ _ (eq-eqb u (get_or codes i 0) (sym e))))
+    looks_found e = sym (ap code_told (l.same ∙ ap (code_among u i) here ∙ stop _ _ _ (eq-eqb u (get_or codes i 0) (sym e))))
 
-    pub looks-more : (get_or codes i 0 ≡ u → ⊥) → Looks u (i + 1)
+    pub looks_more : (get_or codes i 0 ≡ u → ⊥) → Looks u (i + 1)
     unfolding code_among
-    looks-more n =
+    looks_more n =
         record {
           within = omega arith;
           same =

@@ -94,18 +94,18 @@ reads_few : (s : List ℕ) → few (reads s) (length s)
 unfolding reads
 reads_few s =
     branch P (is_empty s) _ _ (λ _. none_few (length s))
-    (λ _. branch P (eqb (get_or s 0 0) pairs_mark) _ _ (λ _. more_few (pairs (drop 1 s)) _ _ (shorter-drop 1) (pair_few (drop 1 s)))
+    (λ _. branch P (eqb (get_or s 0 0) pairs_mark) _ _ (λ _. more_few (pairs (drop 1 s)) _ _ (shorter_drop 1) (pair_few (drop 1 s)))
     (λ _. branch P (eqb (get_or s 0 0) block_mark) _ _
-    (λ _. branch P (ltb (length s) 3) _ _ (λ _. ill_few (length s)) (λ _. more_few (based (get_or s 1 0) (block_pointer s) (drop 3 s)) _ _ (shorter-drop 3) (based_few (get_or s 1 0) (block_pointer s) (drop 3 s))))
+    (λ _. branch P (ltb (length s) 3) _ _ (λ _. ill_few (length s)) (λ _. more_few (based (get_or s 1 0) (block_pointer s) (drop 3 s)) _ _ (shorter_drop 3) (based_few (get_or s 1 0) (block_pointer s) (drop 3 s))))
     (λ _. branch P (eqb (get_or s 0 0) base_mark) _ _
-    (λ _. branch P (ltb (length s) 4) _ _ (λ _. ill_few (length s)) (λ _. more_few (based (get_or s 1 0) (base_pointer s) (drop 4 s)) _ _ (shorter-drop 4) (based_few (get_or s 1 0) (base_pointer s) (drop 4 s))))
+    (λ _. branch P (ltb (length s) 4) _ _ (λ _. ill_few (length s)) (λ _. more_few (based (get_or s 1 0) (base_pointer s) (drop 4 s)) _ _ (shorter_drop 4) (based_few (get_or s 1 0) (base_pointer s) (drop 4 s))))
     (λ _. default_few false s))))
   where
     P : Text → Type 0
     P t = few t (length s)
 
-    shorter-drop : (k : ℕ) → length (drop k s) ≤ length s
-    shorter-drop k = let l = length-drop k s in omega arith
+    shorter_drop : (k : ℕ) → length (drop k s) ≤ length s
+    shorter_drop k = let l = length-drop k s in omega arith
 
 -- what a reading that had room left: the units of the text, or R13
 pub record ReadText (t : Text) (n : ℕ) (buffer : List ℕ) : Type 0 where

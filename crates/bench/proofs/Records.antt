@@ -82,9 +82,9 @@ module _ (s : List ℕ) (end : ℕ) (is : end ≡ 8 + get_or s 7 0) where
       opening_is ∙ skip _ _ _ (ne_eqb (length (drop end s)) 2 (λ e. n (omega arith))) ∙ skip _ _ _ (ne_eqb (length (drop end s)) 5 (λ e. m (omega arith)))
 
   module _ (size : ℕ) (big : size ≡ 256 * get_or s end 0 + get_or s (end + 1) 0) where
-    pub opening-without : length s ≡ end + 2 → Asked (Open (get_or s 6 0) size Without) 8 end s (opening_in (drop 6 s))
+    pub opening_without : length s ≡ end + 2 → Asked (Open (get_or s 6 0) size Without) 8 end s (opening_in (drop 6 s))
     unfolding body_of level_of bearer
-    opening-without e =
+    opening_without e =
         let l = length-drop end s in
         record {
           order = omega arith;
@@ -94,11 +94,11 @@ module _ (s : List ℕ) (end : ℕ) (is : end ≡ 8 + get_or s 7 0) where
               ∙ ap (λ (k : ℕ). some (open_channel (bearer) k none)) (pair_at s end ∙ sym big);
         }
 
-    pub opening-with :
+    pub opening_with :
         (port : ℕ) → port ≡ 256 * get_or s (end + 3) 0 + get_or s (end + 4) 0 → length s ≡ end + 5 →
         Asked (Open (get_or s 6 0) size (With (get_or s (end + 2) 0) port)) 8 end s (opening_in (drop 6 s))
     unfolding body_of level_of bearer
-    opening-with port p e =
+    opening_with port p e =
         let l = length-drop end s in
         record {
           order = omega arith;
@@ -147,22 +147,22 @@ module _ (s : List ℕ) (t : ℕ) (h : 6 ≤ length s) where
       }
 
   module _ (n1 : t ≡ 0x05 → ⊥) (n2 : t ≡ 0x40 → ⊥) (n3 : t ≡ 0x42 → ⊥) (n4 : t ≡ 0x43 → ⊥) where
-    bare-is : body_for t (drop 6 s) ≡ (eqb (length (drop 6 s)) 0 ⇒ some (bare_body t) else none)
+    bare_is : body_for t (drop 6 s) ≡ (eqb (length (drop 6 s)) 0 ⇒ some (bare_body t) else none)
     unfolding body_for
-    bare-is =
+    bare_is =
         skip _ _ _ (ne_eqb t 0x05 n1) ∙ skip _ _ _ (ne_eqb t 0x40 n2) ∙ skip _ _ _ (ne_eqb t 0x42 n3) ∙ skip _ _ _ (ne_eqb t 0x43 n4)
         ∙ ap (λ (b : Bool). b ⇒ some (bare_body t) else none) (sym (empty_length (drop 6 s)))
 
-    pub bare-unfit : (length s ≡ 6 → ⊥) → body_for t (drop 6 s) ≡ none
-    bare-unfit n = let l = length-drop 6 s in bare-is ∙ skip _ _ _ (ne_eqb (length (drop 6 s)) 0 (λ k. n (omega arith)))
+    pub bare_unfit : (length s ≡ 6 → ⊥) → body_for t (drop 6 s) ≡ none
+    bare_unfit n = let l = length-drop 6 s in bare_is ∙ skip _ _ _ (ne_eqb (length (drop 6 s)) 0 (λ k. n (omega arith)))
 
-    pub bare-asked : (a : Asking) → length s ≡ 6 → ((w : List ℕ) → body_of a w ≡ bare_body t) → Asked a 6 6 s (body_for t (drop 6 s))
-    bare-asked a k w =
+    pub bare_asked : (a : Asking) → length s ≡ 6 → ((w : List ℕ) → body_of a w ≡ bare_body t) → Asked a 6 6 s (body_for t (drop 6 s))
+    bare_asked a k w =
         let l = length-drop 6 s in
         record {
           order = omega arith;
           within = h;
-          is = bare-is ∙ stop _ _ _ (eq-eqb (length (drop 6 s)) 0 (omega arith)) ∙ ap some (sym (w (part 6 6 s)));
+          is = bare_is ∙ stop _ _ _ (eq-eqb (length (drop 6 s)) 0 (omega arith)) ∙ ap some (sym (w (part 6 6 s)));
         }
 
 -- what the code told of the values
@@ -203,15 +203,15 @@ module _ (s before : List ℕ) (at r : ℕ) (after : List ℕ) where
   heard_reply e w = prints_as (sym (stop _ _ _ (eq-eqb (get_or s 0 0) 0x81 e))) w
 
   module _ (n : get_or s 0 0 ≡ 0x81 → ⊥) where
-    pub record-reply : get_or s 0 0 ≡ 0xB0 → Prints (record_line (record_in s)) r before at after → Prints (reply_line (some s)) r before at after
+    pub record_reply : get_or s 0 0 ≡ 0xB0 → Prints (record_line (record_in s)) r before at after → Prints (reply_line (some s)) r before at after
     unfolding reply_line
-    record-reply e w = prints_as (sym (skip _ _ _ (ne_eqb (get_or s 0 0) 0x81 n) ∙ stop _ _ _ (eq-eqb (get_or s 0 0) 0xB0 e))) w
+    record_reply e w = prints_as (sym (skip _ _ _ (ne_eqb (get_or s 0 0) 0x81 n) ∙ stop _ _ _ (eq-eqb (get_or s 0 0) 0xB0 e))) w
 
-    pub other-reply : (get_or s 0 0 ≡ 0xB0 → ⊥) → Prints (line_of (refused Unreadable)) r before at after → Prints (reply_line (some s)) r before at after
+    pub other_reply : (get_or s 0 0 ≡ 0xB0 → ⊥) → Prints (line_of (refused Unreadable)) r before at after → Prints (reply_line (some s)) r before at after
     unfolding reply_line
-    other-reply m w = prints_as (sym (skip _ _ _ (ne_eqb (get_or s 0 0) 0x81 n) ∙ skip _ _ _ (ne_eqb (get_or s 0 0) 0xB0 m))) w
+    other_reply m w = prints_as (sym (skip _ _ _ (ne_eqb (get_or s 0 0) 0x81 n) ∙ skip _ _ _ (ne_eqb (get_or s 0 0) 0xB0 m))) w
 
 pub empty_reply :
     (s before : List ℕ) (at r : ℕ) (after : List ℕ) → length s ≡ 0 → Prints (line_of (refused Unreadable)) r before at after → Prints (reply_line (some s)) r before at after
-empty_reply [] before at r after e w = other-reply [] before at r after (λ k. absurd (omega arith)) (λ k. absurd (omega arith)) w
+empty_reply [] before at r after e w = other_reply [] before at r after (λ k. absurd (omega arith)) (λ k. absurd (omega arith)) w
 empty_reply (b ∷ s) before at r after e w = absurd (let z : length (b ∷ s) ≡ 0 = e in omega arith)

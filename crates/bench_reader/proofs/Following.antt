@@ -42,7 +42,7 @@ use Rattle.bench_reader.specs.declared.Heard.{Heard}
 use Rattle.bench_reader.specs.declared.Heard.TheVariants.{Silence}
 use Rattle.bench_reader.specs.Heard.{further_of, result_of}
 use Rattle.bench_reader.specs.Tails.{Holder, Single, Double, ShownAt, sized, checked, followed, borne, Hears}
-use Rattle.bench_reader.proofs.Standing.{named, object_there, object_absent, byte_there, byte_missed, pair_there, pair_missed, value-long, behind_one, behind_two, silent, hears_as, step_on}
+use Rattle.bench_reader.proofs.Standing.{named, object_there, object_absent, byte_there, byte_missed, pair_there, pair_missed, value_long, behind_one, behind_two, silent, hears_as, step_on}
 use Rattle.bench_reader.proofs.Rising.{status_shown, status_hidden, rising_first}
 
 -- two bytes as a number
@@ -75,62 +75,62 @@ module _ (d : Details) (x : ℕ) (st : Status) (s : List ℕ) (at : ℕ) {r : Va
     abbrev v : List ℕ
     v = part start (start + k) s
 
-    bearer-on :
+    bearer_on :
         let g = pair_in (value_at (walk (drop next.at s)).objects 0) in
         borne d x st (drop at s) ≡
         checked (bearer_proper (bearer_in v) && leb 1 g && leb g grant_cap) (unflagged 0x35 (bearer_bytes (bearer_in v)) ∷ unflagged 0x39 (pair_bytes g) ∷ []) (drop at s) (record { details = d; result = done x (opened st (bearer_in v) g) })
     unfolding borne value_at
-    bearer-on = rw (object_there e m).holds.walked
+    bearer_on = rw (object_there e m).holds.walked
 
-    bearer-unfit : bearer_proper (bearer_in v) ≡ false → Hears (borne d x st (drop at s)) s Silence
-    bearer-unfit f = hears_as bearer-on (silent _ _ _ _ (λ t _. true≢false (sym (both_left _ _ (both_left _ _ t)) ∙ f)))
+    bearer_unfit : bearer_proper (bearer_in v) ≡ false → Hears (borne d x st (drop at s)) s Silence
+    bearer_unfit f = hears_as bearer_on (silent _ _ _ _ (λ t _. true≢false (sym (both_left _ _ (both_left _ _ t)) ∙ f)))
 
-    pub bearer-empty : k < 1 → Hears (borne d x st (drop at s)) s Silence
+    pub bearer_empty : k < 1 → Hears (borne d x st (drop at s)) s Silence
     unfolding bearer_proper bearer_in
-    bearer-empty h = bearer-unfit (rw (no_bytes v (omega (arith, value-long s at 0x35 false m e))))
+    bearer_empty h = bearer_unfit (rw (no_bytes v (omega (arith, value_long s at 0x35 false m e))))
 
     module _ (h : 1 ≤ k) {b : Bool} (f : b ≡ sized (get_or s start 0) k) where
-      proper-sized : bearer_proper (bearer_in v) ≡ b
-      proper-sized =
-          let long = value-long s at 0x35 false m e in
+      proper_sized : bearer_proper (bearer_in v) ≡ b
+      proper_sized =
+          let long = value_long s at 0x35 false m e in
           (sized_proper v (omega (arith, long))).0 ∙ (λ i. sized (part_get start (start + k) 0 s (omega arith) i) (long i))
           ∙ ap (λ (j : ℕ). sized (get_or s j 0) k) (add-zero start) ∙ sym f
 
       pub bearer_other : not b ≡ true → Hears (borne d x st (drop at s)) s Silence
-      bearer_other q = bearer-unfit (proper-sized ∙ not-true b q)
+      bearer_other q = bearer_unfit (proper_sized ∙ not-true b q)
 
       bearer_fits_lem :
           let g = pair_in (value_at (walk (drop next.at s)).objects 0) in
           not b ≡ false → borne d x st (drop at s) ≡
           checked (leb 1 g && leb g grant_cap) (unflagged 0x39 (pair_bytes g) ∷ []) (drop next.at s) (record { details = d; result = done x (opened st (bearer_in v) g) })
       bearer_fits_lem fits =
-          bearer-on ∙ step_on (object_there e m).holds (named (omega arith)) _ _ _ (sized_proper v (omega (arith, value-long s at 0x35 false m e))).1
-          ∙ rw (proper-sized ∙ not-false b fits)
+          bearer_on ∙ step_on (object_there e m).holds (named (omega arith)) _ _ _ (sized_proper v (omega (arith, value_long s at 0x35 false m e))).1
+          ∙ rw (proper_sized ∙ not-false b fits)
 
       module _ (fits : not b ≡ false) {q : Two} (w : Double q s next.at 0x39 false) where
-        pub grant-missed : q ≡ two.Not → Hears (borne d x st (drop at s)) s Silence
+        pub grant_missed : q ≡ two.Not → Hears (borne d x st (drop at s)) s Silence
         unfolding pair_bytes
-        grant-missed c = hears_as (bearer_fits_lem fits) (silent _ _ _ _ (λ _ o. (pair_missed c w).never _ _ refl o))
+        grant_missed c = hears_as (bearer_fits_lem fits) (silent _ _ _ _ (λ _ o. (pair_missed c w).never _ _ refl o))
 
         module _ {a b₂ : ℕ} {end : Cursor} (c : q ≡ two.Bytes a b₂ end) {g : ℕ} (p : (g ≡ pair_in (a ∷ b₂ ∷ [])) × (pair_bytes g ≡ a ∷ b₂ ∷ [])) where
-          grant-on : borne d x st (drop at s) ≡ checked (leb 1 g && leb g grant_cap) [] (drop end.at s) (record { details = d; result = done x (opened st (bearer_in v) g) })
+          grant_on : borne d x st (drop at s) ≡ checked (leb 1 g && leb g grant_cap) [] (drop end.at s) (record { details = d; result = done x (opened st (bearer_in v) g) })
           unfolding value_at
-          grant-on = let h₂ = pair_there c w in bearer_fits_lem fits ∙ rw h₂.walked (rw (← p.0) (step_on h₂ (named (omega arith)) _ _ _ p.1))
+          grant_on = let h₂ = pair_there c w in bearer_fits_lem fits ∙ rw h₂.walked (rw (← p.0) (step_on h₂ (named (omega arith)) _ _ _ p.1))
 
-          pub grant-low : g < 1 → Hears (borne d x st (drop at s)) s Silence
-          grant-low o = hears_as grant-on (silent _ _ _ _ (λ t _. omega (arith, leb-true 1 g (both_left _ _ t))))
+          pub grant_low : g < 1 → Hears (borne d x st (drop at s)) s Silence
+          grant_low o = hears_as grant_on (silent _ _ _ _ (λ t _. omega (arith, leb-true 1 g (both_left _ _ t))))
 
-          pub grant-high : grant_cap < g → Hears (borne d x st (drop at s)) s Silence
-          grant-high o = hears_as grant-on (silent _ _ _ _ (λ t _. omega (arith, leb-true g grant_cap (both_right (leb 1 g) _ t))))
+          pub grant_high : grant_cap < g → Hears (borne d x st (drop at s)) s Silence
+          grant_high o = hears_as grant_on (silent _ _ _ _ (λ t _. omega (arith, leb-true g grant_cap (both_right (leb 1 g) _ t))))
 
-          pub grant-fits :
+          pub grant_fits :
               {y : Heard} → 1 ≤ g → g ≤ grant_cap →
               Hears (checked true [] (drop end.at s) (record { details = d; result = result_of (Done x (Opened st.number st.link start k g)) s })) s y → Hears (borne d x st (drop at s)) s y
           unfolding result_of further_of
-          grant-fits o u = hears_as (grant-on ∙ rw (le-leb 1 g o, le-leb g grant_cap u))
+          grant_fits o u = hears_as (grant_on ∙ rw (le-leb 1 g o, le-leb g grant_cap u))
 
-        pub grant-place : {a b₂ : ℕ} {end : Cursor} → q ≡ two.Bytes a b₂ end → length s ≤ end.at → start + k + 4 ≡ length s
-        grant-place c o = let h₂ = pair_there c w in omega (arith, (object_there e m).ends, behind_two h₂, h₂.within)
+        pub grant_place : {a b₂ : ℕ} {end : Cursor} → q ≡ two.Bytes a b₂ end → length s ≤ end.at → start + k + 4 ≡ length s
+        grant_place c o = let h₂ = pair_there c w in omega (arith, (object_there e m).ends, behind_two h₂, h₂.within)
 
 -- the status of a channel that was opened
 module _ (d : Details) (x : ℕ) (s : List ℕ) (at : ℕ) {r : Shown} (m : ShownAt r s at) where
@@ -142,7 +142,7 @@ module _ (d : Details) (x : ℕ) (s : List ℕ) (at : ℕ) {r : Shown} (m : Show
     abbrev st : Status
     st = record { number = n; link = l }
 
-    opened-on :
+    opened_on :
         let os = (walk (drop next.at s)).objects in
         let b = bearer_in (value_at os 0) in
         let g = pair_in (value_at os 1) in
@@ -150,17 +150,17 @@ module _ (d : Details) (x : ℕ) (s : List ℕ) (at : ℕ) {r : Shown} (m : Show
         checked (rising 0 (st ∷ []) && not (is_dropped l) && bearer_proper b && leb 1 g && leb g grant_cap) (status_object n l ∷ unflagged 0x35 (bearer_bytes b) ∷ unflagged 0x39 (pair_bytes g) ∷ []) (drop at s)
         (record { details = d; result = done x (opened st b g) })
     unfolding followed further_in further_proper further_objects ◌⇒◌else◌ value_at status_object
-    opened-on = let h = status_shown e m in rw h.holds.walked (rw (status_back n l (rising_first 0 st [] h.numbered).1))
+    opened_on = let h = status_shown e m in rw h.holds.walked (rw (status_back n l (rising_first 0 st [] h.numbered).1))
 
-    pub opened-dropped : l ≡ Dropped → Hears (followed d 0x40 x (drop at s)) s Silence
+    pub opened_dropped : l ≡ Dropped → Hears (followed d 0x40 x (drop at s)) s Silence
     unfolding is_dropped
-    opened-dropped q =
-        hears_as opened-on (silent _ _ _ _ (λ t _.
+    opened_dropped q =
+        hears_as opened_on (silent _ _ _ _ (λ t _.
         false≢true (sym (ap (λ (k : Link). not (is_dropped k)) q) ∙ both_right (rising 0 (st ∷ [])) _ (both_left _ _ (both_left _ _ (both_left _ _ t))))))
 
-    pub opened-fits : {y : Heard} → is_dropped l ≡ false → Hears (borne d x st (drop next.at s)) s y → Hears (followed d 0x40 x (drop at s)) s y
+    pub opened_fits : {y : Heard} → is_dropped l ≡ false → Hears (borne d x st (drop next.at s)) s y → Hears (followed d 0x40 x (drop at s)) s y
     unfolding borne status_object
-    opened-fits q = let h = status_shown e m in hears_as (opened-on ∙ step_on h.holds (named (omega arith)) _ _ _ refl ∙ rw (h.numbered, q))
+    opened_fits q = let h = status_shown e m in hears_as (opened_on ∙ step_on h.holds (named (omega arith)) _ _ _ refl ∙ rw (h.numbered, q))
 
 pub link_not_yet : {l : Link} → l ≡ NotYet → is_dropped l ≡ false
 unfolding is_dropped
@@ -177,30 +177,30 @@ module _ (d : Details) (x : ℕ) (s : List ℕ) (at : ℕ) {r : Value} (m : Hold
   data_missed e = silent _ _ _ _ (λ _ q. (object_absent e m).never _ _ q)
 
   module _ {start k : ℕ} {next : Cursor} (e : r ≡ value.At start k next) where
-    data-on :
+    data_on :
         let v = part start (start + k) s in
         let n = get_or (value_at (walk (drop next.at s)).objects 0) 0 0 in
         followed d 0x42 x (drop at s) ≡ checked (leb k data_cap && leb n 255) (unflagged 0x37 (n ∷ []) ∷ []) (drop next.at s) (record { details = d; result = done x (received v n) })
     unfolding followed further_in further_proper further_objects ◌⇒◌else◌ value_at
-    data-on =
+    data_on =
         let h = (object_there e m).holds in
-        rw h.walked (step_on h (named (omega arith)) _ _ _ refl ∙ rw (value-long s at 0x36 false m e))
+        rw h.walked (step_on h (named (omega arith)) _ _ _ refl ∙ rw (value_long s at 0x36 false m e))
 
-    pub data-long : data_cap < k → Hears (followed d 0x42 x (drop at s)) s Silence
-    data-long h = hears_as data-on (silent _ _ _ _ (λ t _. omega (arith, leb-true k data_cap (both_left _ _ t))))
+    pub data_long : data_cap < k → Hears (followed d 0x42 x (drop at s)) s Silence
+    data_long h = hears_as data_on (silent _ _ _ _ (λ t _. omega (arith, leb-true k data_cap (both_left _ _ t))))
 
     module _ (h : k ≤ data_cap) {q : One} (w : Single q s next.at 0x37 false) where
-      pub count-missed : q ≡ one.Not → Hears (followed d 0x42 x (drop at s)) s Silence
-      count-missed c = hears_as data-on (silent _ _ _ _ (λ _ o. (byte_missed c w).never _ _ refl o))
+      pub count_missed : q ≡ one.Not → Hears (followed d 0x42 x (drop at s)) s Silence
+      count_missed c = hears_as data_on (silent _ _ _ _ (λ _ o. (byte_missed c w).never _ _ refl o))
 
       module _ {y : ℕ} {end : Cursor} (c : q ≡ one.Byte y end) where
-        pub count-place : length s ≤ end.at → start + k + 3 ≡ length s
-        count-place o = let f = byte_there c w in omega (arith, (object_there e m).ends, behind_one f, f.within)
+        pub count_place : length s ≤ end.at → start + k + 3 ≡ length s
+        count_place o = let f = byte_there c w in omega (arith, (object_there e m).ends, behind_one f, f.within)
 
         pub count_fits :
             {z : Heard} → y ≤ 255 → Hears (checked true [] (drop end.at s) (record { details = d; result = result_of (Done x (Received start k y)) s })) s z → Hears (followed d 0x42 x (drop at s)) s z
         unfolding value_at result_of further_of
-        count_fits u = let f = byte_there c w in hears_as (data-on ∙ rw (le-leb k data_cap h) (rw f.walked (rw (le-leb y 255 u) (step_on f (named (omega arith)) _ _ _ refl))))
+        count_fits u = let f = byte_there c w in hears_as (data_on ∙ rw (le-leb k data_cap h) (rw f.walked (rw (le-leb y 255 u) (step_on f (named (omega arith)) _ _ _ refl))))
 
 -- room
 module _ (d : Details) (x : ℕ) (s : List ℕ) (at : ℕ) {r : One} (m : Single r s at 0x37 false) where
@@ -227,9 +227,9 @@ module _ (d : Details) (x : ℕ) (s t : List ℕ) where
     plain_fits {r} e h =
         each_member (λ (j : ℕ). Hears (followed d j x t) s r) k unfollowed (h, (h, (h, tt))) (sym u ∙ e)
 
-    pub none-follows : b ≡ false → (k ≡ 0x27 → ⊥) → (k ≡ 0x40 → ⊥) → (k ≡ 0x42 → ⊥) → (k ≡ 0x43 → ⊥) → (k ≡ 0x44 → ⊥) → Hears (followed d k x t) s Silence
+    pub none_follows : b ≡ false → (k ≡ 0x27 → ⊥) → (k ≡ 0x40 → ⊥) → (k ≡ 0x42 → ⊥) → (k ≡ 0x43 → ⊥) → (k ≡ 0x44 → ⊥) → Hears (followed d k x t) s Silence
     unfolding followed further_in further_proper further_objects is_start ◌⇒◌else◌
-    none-follows e h a c f g =
+    none_follows e h a c f g =
         let z : followed d k x t ≡ checked false [] t (record { details = d; result = done x nothing }) =
         simp (ne_eqb k 0x40 a, ne_eqb k 0x42 c, ne_eqb k 0x43 f, ne_eqb k 0x44 g, ne_eqb k 0x27 h, sym u ∙ e) in
         hears_as z (silent _ _ _ _ (λ q _. false≢true q))

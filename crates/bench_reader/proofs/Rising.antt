@@ -73,13 +73,13 @@ module _ (s : List ℕ) (at : ℕ) {r : Two} (m : Double r s at 0x38 false) wher
     displays n l low high q =
         record { holds = subst (λ (v : List ℕ). Holds s at (object_with 0x38 false v) next.at) q (pair_there e m); numbered = number_fair _ low high }
 
-    pub as-not-yet : b ≡ 0 → 1 ≤ a → a < 8 → Displays s at (record { number = record { 0 = a }; link = NotYet }) next.at
+    pub as_not_yet : b ≡ 0 → 1 ≤ a → a < 8 → Displays s at (record { number = record { 0 = a }; link = NotYet }) next.at
     unfolding status_bytes
-    as-not-yet q low high = displays _ NotYet low (omega arith) (λ i. a ∷ q i ∷ [])
+    as_not_yet q low high = displays _ NotYet low (omega arith) (λ i. a ∷ q i ∷ [])
 
-    pub as-established : b ≡ 0 → 129 ≤ a → a < 136 → Displays s at (record { number = record { 0 = a - 0x80 }; link = Established }) next.at
+    pub as_established : b ≡ 0 → 129 ≤ a → a < 136 → Displays s at (record { number = record { 0 = a - 0x80 }; link = Established }) next.at
     unfolding status_bytes
-    as-established q low high =
+    as_established q low high =
         let p : a ≡ a - 0x80 + 0x80 = omega arith in
         displays _ Established (omega arith) (omega arith) (λ i. p i ∷ q i ∷ [])
 
@@ -87,9 +87,9 @@ module _ (s : List ℕ) (at : ℕ) {r : Two} (m : Double r s at 0x38 false) wher
     unfolding status_bytes
     as_dropped q low high = displays _ Dropped low (omega arith) (λ i. a ∷ q i ∷ [])
 
-    pub no-status : (b ≡ 0 → 1 ≤ a → a ≤ 7 → ⊥) → (b ≡ 0 → 129 ≤ a → a ≤ 135 → ⊥) → (b ≡ 5 → 1 ≤ a → a ≤ 7 → ⊥) → Hidden s at
+    pub no_status : (b ≡ 0 → 1 ≤ a → a ≤ 7 → ⊥) → (b ≡ 0 → 129 ≤ a → a ≤ 135 → ⊥) → (b ≡ 5 → 1 ≤ a → a ≤ 7 → ⊥) → Hidden s at
     unfolding status_object status_bytes
-    no-status f g h =
+    no_status f g h =
         record {
           never =
               λ st os k q.
@@ -120,31 +120,31 @@ module _ (d : Details) (x : ℕ) (s : List ℕ) (at : ℕ) {r : Two} (m : Double
       only (st ∷ ss) q = (pair_missed e m).never _ _ (two_long st.number st.link) q
 
   module _ {a b : ℕ} {next : Cursor} (e : r ≡ two.Bytes a b next) where
-    pub statuses-inside : at ≤ length s
-    statuses-inside = let h = pair_there e m in omega (arith, behind_two h, h.within)
+    pub statuses_inside : at ≤ length s
+    statuses_inside = let h = pair_there e m in omega (arith, behind_two h, h.within)
 
-    pub statuses-place : length s ≤ next.at → next.at + 0 ≡ length s
-    statuses-place o = let h = pair_there e m in omega (arith, h.within)
+    pub statuses_place : length s ≤ next.at → next.at + 0 ≡ length s
+    statuses_place o = let h = pair_there e m in omega (arith, h.within)
 
-    pub statuses-none :
+    pub statuses_none :
         {g : ℕ} {y : Heard} → (g ≡ pair_in (a ∷ b ∷ [])) × (pair_bytes g ≡ a ∷ b ∷ []) → g ≡ 0 →
         Hears (checked true [] (drop next.at s) (record { details = d; result = result_of (Done x (Statuses next.at 0)) s })) s y → Hears (followed d 0x44 x (drop at s)) s y
     unfolding followed further_in further_proper report_proper further_objects report_objects ◌⇒◌else◌ statuses_in status_objects value_at same rising result_of further_of statuses_at pair_in
-    statuses-none p q =
+    statuses_none p q =
         let h = pair_there e m in
         let f : a ≡ 0 = omega (arith, p.0) in
         let g : b ≡ 0 = omega (arith, p.0) in
         hears_as (rw h.walked (rw (f, g) (step_on h (named (omega arith)) _ _ _ (λ i. sym f i ∷ sym g i ∷ []))))
 
-    statuses-listed : {y : Heard} → same (a ∷ b ∷ []) (0 ∷ 0 ∷ []) ≡ false → Hears (listed d x (drop at s)) s y → Hears (followed d 0x44 x (drop at s)) s y
+    statuses_listed : {y : Heard} → same (a ∷ b ∷ []) (0 ∷ 0 ∷ []) ≡ false → Hears (listed d x (drop at s)) s y → Hears (followed d 0x44 x (drop at s)) s y
     unfolding followed further_in further_proper report_proper further_objects report_objects ◌⇒◌else◌ statuses_in status_objects value_at listed
-    statuses-listed f = hears_as (rw (pair_there e m).walked (rw f))
+    statuses_listed f = hears_as (rw (pair_there e m).walked (rw f))
 
-    pub statuses-some :
+    pub statuses_some :
         {g : ℕ} {y : Heard} → (g ≡ pair_in (a ∷ b ∷ [])) × (pair_bytes g ≡ a ∷ b ∷ []) → (g ≡ 0 → ⊥) → Hears (listed d x (drop at s)) s y → Hears (followed d 0x44 x (drop at s)) s y
     unfolding pair_in
-    statuses-some p n =
-        statuses-listed (never _ (λ q. let z = same_true (a ∷ b ∷ []) (0 ∷ 0 ∷ []) q in
+    statuses_some p n =
+        statuses_listed (never _ (λ q. let z = same_true (a ∷ b ∷ []) (0 ∷ 0 ∷ []) q in
         let o : a ≡ 0 = cc in
         let u : b ≡ 0 = cc in
         n (omega (arith, p.0))))
@@ -155,11 +155,11 @@ risen last t = let ss = seen (walk t).objects in rising last ss && same (written
 
 module _ (s : List ℕ) (at last : ℕ) where
   module _ {st : Status} {next : ℕ} (h : Displays s at st next) where
-    risen-here :
+    risen_here :
         let ss = seen (walk (drop next s)).objects in
         risen last (drop at s) ≡ rising last (st ∷ ss) && same (written (written_as ss)) (drop next s)
     unfolding risen status_object
-    risen-here =
+    risen_here =
         let n = st.number in
         let l = st.link in
         rw h.holds.walked
@@ -167,13 +167,13 @@ module _ (s : List ℕ) (at last : ℕ) where
         (ap (λ (k : Bool). rising last (st ∷ seen (walk (drop next s)).objects) && k)
         (same_step h.holds (named (omega arith)) (status_bytes n l) _ ∙ rw (same_refl (status_bytes n l)))))
 
-    risen-on : last < st.number.0 → risen last (drop at s) ≡ risen st.number.0 (drop next s)
+    risen_on : last < st.number.0 → risen last (drop at s) ≡ risen st.number.0 (drop next s)
     unfolding risen rising
-    risen-on k = risen-here ∙ rw (lt-ltb last st.number.0 k, le-leb st.number.0 7 (rising_first 0 st [] h.numbered).1)
+    risen_on k = risen_here ∙ rw (lt-ltb last st.number.0 k, le-leb st.number.0 7 (rising_first 0 st [] h.numbered).1)
 
-    risen-order : st.number.0 ≤ last → risen last (drop at s) ≡ false
+    risen_order : st.number.0 ≤ last → risen last (drop at s) ≡ false
     unfolding rising
-    risen-order k = risen-here ∙ rw (le-ltb last st.number.0 k)
+    risen_order k = risen_here ∙ rw (le-ltb last st.number.0 k)
 
   risen_none : Hidden s at → at < length s → risen last (drop at s) ≡ false
   unfolding risen written
@@ -239,7 +239,7 @@ module _ (d : Details) (x : ℕ) (s : List ℕ) {start at count last : ℕ} (r :
   rising_hidden m e k = rising_silent (risen_none s at last (status_hidden e m) k)
 
   pub rising_order : {y : Shown} {n : ChannelNumber} {l : Link} {next : Cursor} → ShownAt y s at → y ≡ shown.At n l next → n.0 ≤ last → Hears (listed d x (drop start s)) s Silence
-  rising_order m e k = rising_silent (risen-order s at last (status_shown e m) k)
+  rising_order m e k = rising_silent (risen_order s at last (status_shown e m) k)
 
   pub rising_heard : length s ≤ at → Hears (listed d x (drop start s)) s (Says d (Done x (Statuses start count)))
   unfolding listed checked risen heard_of result_of further_of
@@ -265,5 +265,5 @@ module _ (s : List ℕ) (at : ℕ) {y : Shown} {n : ChannelNumber} {l : Link} {n
       record {
         place = omega (arith, r.place, h.holds.behind, four n l);
         within = h.holds.within;
-        test = r.test ∙ risen-on s at last h k;
+        test = r.test ∙ risen_on s at last h k;
       }

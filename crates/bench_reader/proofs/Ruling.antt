@@ -28,7 +28,7 @@ use Rattle.bench_reader.specs.declared.Heard.{Heard}
 use Rattle.bench_reader.specs.declared.Heard.TheVariants.{Silence}
 use Rattle.bench_reader.specs.Heard.{result_of}
 use Rattle.bench_reader.specs.Tails.{Holds, object_with, Misfit, Holder, Single, Double, checked, resulted, followed, Hears}
-use Rattle.bench_reader.proofs.Standing.{named, same_object, same-behind, byte_there, pair_there, pair_missed, no_length_lem, other_length, three-bytes, and_true, silent, hears_as, step, step_on}
+use Rattle.bench_reader.proofs.Standing.{named, same_object, same_behind, byte_there, pair_there, pair_missed, no_length_lem, other_length, three_bytes, and_true, silent, hears_as, step, step_on}
 use Rattle.bench_reader.proofs.Results.{outside, no_success}
 
 -- the result that a byte is taken for
@@ -60,18 +60,18 @@ module _ (d : Details) (s : List ℕ) (at : ℕ) {r : One} {x : ℕ} {next : Cur
       (λ n. let o = outside x successes n in absurd (false≢true (no_success d.kind x (omega (arith, o.0, o.1.0)) o.1.1.0 o.1.1.1.0 ∙ p)))
 
   module _ {b : Bool} (f : b ≡ error_proper d x) where
-    pub error-fits : {y : Heard} → not b ≡ false → Hears (checked true [] (drop next.at s) (record { details = d; result = result_of (Error x) s })) s y → Hears (resulted d (drop at s)) s y
+    pub error_fits : {y : Heard} → not b ≡ false → Hears (checked true [] (drop next.at s) (record { details = d; result = result_of (Error x) s })) s y → Hears (resulted d (drop at s)) s y
     unfolding error_proper result_proper result_bytes result_objects ◌⇒◌else◌ same result_of
-    error-fits n h =
+    error_fits n h =
         let p : error_proper d x ≡ true = sym f ∙ not-false b n in
         by_byte
         (λ q. absurd (false≢true (subst (λ (k : ℕ). error_proper d k ≡ true) q p)))
         (λ o. absurd (false≢true (sym (each_member (λ (k : ℕ). error_proper d k ≡ false) x successes (refl, (refl, (refl, (refl, tt)))) o) ∙ p)))
         (λ _. hears_as (rw (p, eq-eqb x x refl)) h)
 
-    pub result-unfit : {c : Bool} → c ≡ success_proper d.kind x → c ≡ false → not b ≡ true → Hears (resulted d (drop at s)) s Silence
+    pub result_unfit : {c : Bool} → c ≡ success_proper d.kind x → c ≡ false → not b ≡ true → Hears (resulted d (drop at s)) s Silence
     unfolding result_proper result_bytes result_objects same
-    result-unfit g c n =
+    result_unfit g c n =
         by_byte
         (λ _. silent _ _ _ _ (λ q _. false≢true (both_right (eqb 0x3A x) _ (both_right (cause_proper d.kind 0) _ q))))
         (λ _. silent _ _ _ _ (λ q _. false≢true (sym (sym g ∙ c) ∙ both_left _ _ (both_left _ _ q))))
@@ -96,23 +96,23 @@ module _ (d : Details) (s : List ℕ) (at : ℕ) {r : Two} (m : Double r s at 0x
   result_missed h e = silent _ _ _ _ (λ _ q. result_long _ (λ l. h.never _ _ l q) (λ l. (pair_missed e m).never _ _ l q))
 
   module _ {x c : ℕ} {next : Cursor} (e : r ≡ two.Bytes x c next) where
-    pub problem-unfit : (x ≡ 0x3A → ⊥) → Hears (resulted d (drop at s)) s Silence
+    pub problem_unfit : (x ≡ 0x3A → ⊥) → Hears (resulted d (drop at s)) s Silence
     unfolding resulted
-    problem-unfit n =
+    problem_unfit n =
         silent _ _ _ _ (λ _ q. n (two_first _ (ap (λ (o : Object). o.value) (same_object (drop at s) _ _ (named (omega arith)) q (pair_there e m).is))))
 
     module _ (f : x ≡ 0x3A) {b : Bool} (g : b ≡ cause_proper d.kind c) where
-      problem-on : resulted d (drop at s) ≡ checked b [] (drop next.at s) (record { details = d; result = problem c })
+      problem_on : resulted d (drop at s) ≡ checked b [] (drop next.at s) (record { details = d; result = problem c })
       unfolding resulted value_at result_in result_proper result_bytes result_objects ◌⇒◌else◌
-      problem-on = let h = pair_there e m in rw h.walked (rw (f, g) (step_on h (named (omega arith)) _ _ _ (λ i. sym f i ∷ c ∷ [])))
+      problem_on = let h = pair_there e m in rw h.walked (rw (f, g) (step_on h (named (omega arith)) _ _ _ (λ i. sym f i ∷ c ∷ [])))
 
-      pub cause-unfit : not b ≡ true → Hears (resulted d (drop at s)) s Silence
-      cause-unfit n = hears_as problem-on (silent _ _ _ _ (λ q _. false≢true (sym (not-true b n) ∙ q)))
+      pub cause_unfit : not b ≡ true → Hears (resulted d (drop at s)) s Silence
+      cause_unfit n = hears_as problem_on (silent _ _ _ _ (λ q _. false≢true (sym (not-true b n) ∙ q)))
 
-      pub cause-fits :
+      pub cause_fits :
           {y : Heard} → not b ≡ false → Hears (checked true [] (drop next.at s) (record { details = d; result = result_of (Problem c) s })) s y → Hears (resulted d (drop at s)) s y
       unfolding result_of
-      cause-fits n = hears_as (problem-on ∙ rw (not-false b n))
+      cause_fits n = hears_as (problem_on ∙ rw (not-false b n))
 
 -- the details and the devices
 bench_checked : (s : List ℕ) → let r = response_in s in bench_read s ≡ checked (proper r) (response_objects r) s r
@@ -135,32 +135,32 @@ module _ (s : List ℕ) {r : Value} (m : Holder r s 0 0x01 true) where
   details_missed e = no_details s (no_length_lem s 0 0x01 true m 3 e)
 
   module _ {start n : ℕ} {behind : Cursor} (e : r ≡ value.At start n behind) where
-    pub details-other : (n ≡ 3 → ⊥) → Hears (bench_read s) s Silence
-    details-other l = no_details s (other_length s 0 0x01 true m e 3 (omega arith) l)
+    pub details_other : (n ≡ 3 → ⊥) → Hears (bench_read s) s Silence
+    details_other l = no_details s (other_length s 0 0x01 true m e 3 (omega arith) l)
 
     module _ (l : n ≡ 3) {q : Two} (w : Double q s behind.at 0x02 true) where
-      pub devices-missed : q ≡ two.Not → Hears (bench_read s) s Silence
+      pub devices_missed : q ≡ two.Not → Hears (bench_read s) s Silence
       unfolding response_objects
-      devices-missed f =
+      devices_missed f =
           hears_as (bench_checked s) (silent _ _ _ _ (λ _ o.
-          (pair_missed f w).never _ _ refl (sym (same-behind s _ _ (named (omega arith)) o (three-bytes s 0 0x01 true m e l).is))))
+          (pair_missed f w).never _ _ refl (sym (same_behind s _ _ (named (omega arith)) o (three_bytes s 0 0x01 true m e l).is))))
 
       module _ {x y : ℕ} {next : Cursor} (f : q ≡ two.Bytes x y next) where
-        devices-other : ((x ≡ 0x82) × (y ≡ 0x81) → ⊥) → Hears (bench_read s) s Silence
+        devices_other : ((x ≡ 0x82) × (y ≡ 0x81) → ⊥) → Hears (bench_read s) s Silence
         unfolding response_objects
-        devices-other k =
+        devices_other k =
             hears_as (bench_checked s) (silent _ _ _ _ (λ _ o.
-            let z = ap (λ (p : Object). p.value) (same_object (drop behind.at s) _ _ (named (omega arith)) (sym (same-behind s _ _ (named (omega arith)) o (three-bytes s 0 0x01 true m e l).is)) (pair_there f w).is) in
+            let z = ap (λ (p : Object). p.value) (same_object (drop behind.at s) _ _ (named (omega arith)) (sym (same_behind s _ _ (named (omega arith)) o (three_bytes s 0 0x01 true m e l).is)) (pair_there f w).is) in
             k (cc, cc)))
 
-        pub source-other : (x ≡ 0x82 → ⊥) → Hears (bench_read s) s Silence
-        source-other k = devices-other (λ p. k p.0)
+        pub source_other : (x ≡ 0x82 → ⊥) → Hears (bench_read s) s Silence
+        source_other k = devices_other (λ p. k p.0)
 
-        pub destination-other : (y ≡ 0x81 → ⊥) → Hears (bench_read s) s Silence
-        destination-other k = devices-other (λ p. k p.1)
+        pub destination_other : (y ≡ 0x81 → ⊥) → Hears (bench_read s) s Silence
+        destination_other k = devices_other (λ p. k p.1)
 
-        pub devices-fit :
+        pub devices_fit :
             {z : Heard} → x ≡ 0x82 → y ≡ 0x81 → Hears (resulted (record { number = get_or s start 0; kind = get_or s (start + 1) 0; qualifier = get_or s (start + 2) 0 }) (drop next.at s)) s z →
             Hears (bench_read s) s z
-        devices-fit a b =
-            hears_as (devices_on (three-bytes s 0 0x01 true m e l) (subst (λ (v : List ℕ). Holds s behind.at (object_with 0x02 true v) next.at) (λ i. a i ∷ b i ∷ []) (pair_there f w)))
+        devices_fit a b =
+            hears_as (devices_on (three_bytes s 0 0x01 true m e l) (subst (λ (v : List ℕ). Holds s behind.at (object_with 0x02 true v) next.at) (λ i. a i ∷ b i ∷ []) (pair_there f w)))

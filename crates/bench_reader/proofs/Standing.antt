@@ -126,8 +126,8 @@ module _ (t : List ℕ) (p : Object) (os : List Object) (named : Named p) (e : t
     pub same_object : p ≡ o
     same_object = let r = read in cc
 
-    pub same-behind : written os ≡ u
-    same-behind = let r = read in cc
+    pub same_behind : written os ≡ u
+    same_behind = let r = read in cc
 
 pub named : {number : ℕ} {flag : Bool} {v : List ℕ} → (1 ≤ number) × (number ≤ 126) → Named (object_with number flag v)
 named h = record { some = h.0; seven_bits = h.1 }
@@ -148,8 +148,8 @@ module _ (s : List ℕ) (at tag : ℕ) {r : Found} (m : Meets r s at) where
     other_tag k =
         record { never = λ v os q. k (ap (λ (l : List ℕ). get_or l 0 0) (sym (drop-cons s at 0 (tag_inside s at m e)) ∙ q) ∙ sym (tag_form tag b)) }
 
-    pub that-tag : Tag tag → get_or s at 0 ≡ tag → Valued s at (tag % 0x80) (leb 0x80 tag) start n next.at
-    that-tag h q =
+    pub that_tag : Tag tag → get_or s at 0 ≡ tag → Valued s at (tag % 0x80) (leb 0x80 tag) start n next.at
+    that_tag h q =
         subst (λ (k : ℕ). k < 256 → (k ≡ 0x7F → ⊥) → Valued s at (k % 0x80) (leb 0x80 k) start n next.at) q (stands_valued (object_told e m)) b
         (λ z. let w = h.1 in let y : tag % 0x80 ≡ 0x7F = ap (λ (k : ℕ). k % 0x80) z in omega arith)
 
@@ -182,40 +182,40 @@ module _ (s : List ℕ) (at number : ℕ) (flag : Bool) {r : Value} (m : Holder 
   no_length_lem k e = record { never = λ v os l q. (object_absent e m).never v os q }
 
   module _ {start n : ℕ} {next : Cursor} (e : r ≡ value.At start n next) where
-    pub value-inside : start + n ≤ length s
-    value-inside = let w = object_there e m in omega (arith, w.ends, w.holds.within)
+    pub value_inside : start + n ≤ length s
+    value_inside = let w = object_there e m in omega (arith, w.ends, w.holds.within)
 
-    pub value-long : length (part start (start + n) s) ≡ n
-    value-long = part_size s start n value-inside
+    pub value_long : length (part start (start + n) s) ≡ n
+    value_long = part_size s start n value_inside
 
     pub other_length : (k : ℕ) → (1 ≤ number) × (number ≤ 126) → (n ≡ k → ⊥) → Misfit s at number flag k
     other_length k h x =
         record {
           never =
               λ v os l q.
-              x (sym value-long ∙ ap (λ (o : Object). length o.value) (sym (same_object (drop at s) (object_with number flag v) os (named h) q (object_there e m).holds.is)) ∙ l);
+              x (sym value_long ∙ ap (λ (o : Object). length o.value) (sym (same_object (drop at s) (object_with number flag v) os (named h) q (object_there e m).holds.is)) ∙ l);
         }
 
-    holds-with : (k : ℕ) (v : List ℕ) → n ≡ k → take k (drop start s) ≡ v → Holds s at (object_with number flag v) next.at
-    holds-with k v q f =
+    holds_with : (k : ℕ) (v : List ℕ) → n ≡ k → take k (drop start s) ≡ v → Holds s at (object_with number flag v) next.at
+    holds_with k v q f =
         let j : start + n - start ≡ k = omega arith in
         subst (λ (x : List ℕ). Holds s at (object_with number flag x) next.at) (ap (λ (i : ℕ). take i (drop start s)) j ∙ f) (object_there e m).holds
 
     pub one_byte : n ≡ 1 → Holds s at (object_with number flag (get_or s start 0 ∷ [])) next.at
-    one_byte q = holds-with 1 _ q (byte_from s start 0 (omega (arith, value-inside)))
+    one_byte q = holds_with 1 _ q (byte_from s start 0 (omega (arith, value_inside)))
 
     pub two_bytes : n ≡ 2 → Holds s at (object_with number flag (get_or s start 0 ∷ get_or s (start + 1) 0 ∷ [])) next.at
     two_bytes q =
-        holds-with 2 _ q
-        (byte_from s start 1 (omega (arith, value-inside)) ∙ ap (λ (l : List ℕ). get_or s start 0 ∷ l) (byte_from s (start + 1) 0 (omega (arith, value-inside))))
+        holds_with 2 _ q
+        (byte_from s start 1 (omega (arith, value_inside)) ∙ ap (λ (l : List ℕ). get_or s start 0 ∷ l) (byte_from s (start + 1) 0 (omega (arith, value_inside))))
 
-    pub three-bytes : n ≡ 3 → Holds s at (object_with number flag (get_or s start 0 ∷ get_or s (start + 1) 0 ∷ get_or s (start + 2) 0 ∷ [])) next.at
-    three-bytes q =
+    pub three_bytes : n ≡ 3 → Holds s at (object_with number flag (get_or s start 0 ∷ get_or s (start + 1) 0 ∷ get_or s (start + 2) 0 ∷ [])) next.at
+    three_bytes q =
         let j : start + 1 + 1 ≡ start + 2 = omega arith in
-        holds-with 3 _ q
-        (byte_from s start 2 (omega (arith, value-inside))
-        ∙ ap (λ (l : List ℕ). get_or s start 0 ∷ l) (byte_from s (start + 1) 1 (omega (arith, value-inside))
-        ∙ ap (λ (l : List ℕ). get_or s (start + 1) 0 ∷ l) (byte_from s (start + 1 + 1) 0 (omega (arith, value-inside)) ∙ ap (λ (i : ℕ). get_or s i 0 ∷ []) j)))
+        holds_with 3 _ q
+        (byte_from s start 2 (omega (arith, value_inside))
+        ∙ ap (λ (l : List ℕ). get_or s start 0 ∷ l) (byte_from s (start + 1) 1 (omega (arith, value_inside))
+        ∙ ap (λ (l : List ℕ). get_or s (start + 1) 0 ∷ l) (byte_from s (start + 1 + 1) 0 (omega (arith, value_inside)) ∙ ap (λ (i : ℕ). get_or s i 0 ∷ []) j)))
 
 -- the place behind a short value
 module _ {s : List ℕ} {at number : ℕ} {flag : Bool} {next : ℕ} where
@@ -268,7 +268,7 @@ module _ {s : List ℕ} {at : ℕ} {o : Object} {next : ℕ} (h : Holds s at o n
       let n : Named p = record { some = named.some; seven_bits = named.seven_bits } in
       both _ _
       (ap (λ (x : Object). same v x.value) (sym (same_object (drop at s) p os n f h.is)) ∙ same_refl v)
-      (ap (same (written os)) (sym (same-behind (drop at s) p os n f h.is)) ∙ same_refl (written os)))
+      (ap (same (written os)) (sym (same_behind (drop at s) p os n f h.is)) ∙ same_refl (written os)))
       (λ e.
       let q = same_true v o.value (both_left _ _ e) in
       let r = same_true (written os) (drop next s) (both_right (same v o.value) _ e) in

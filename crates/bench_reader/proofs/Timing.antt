@@ -30,7 +30,7 @@ use Rattle.bench_reader.specs.declared.Heard.{Heard}
 use Rattle.bench_reader.specs.declared.Heard.TheVariants.{Silence}
 use Rattle.bench_reader.specs.Heard.{further_of, result_of}
 use Rattle.bench_reader.specs.Tails.{Holder, Single, of_type, checked, followed, timed, Hears}
-use Rattle.bench_reader.proofs.Standing.{named, same_object, object_there, object_absent, byte_there, byte_missed, value-long, other_length, never, silent, hears_as, step_on}
+use Rattle.bench_reader.proofs.Standing.{named, same_object, object_there, object_absent, byte_there, byte_missed, value_long, other_length, never, silent, hears_as, step_on}
 use Rattle.bench_reader.proofs.Results.{sure}
 
 -- a timer from 1 to 8
@@ -78,55 +78,55 @@ module _ (d : Details) (x : ℕ) (s : List ℕ) (at : ℕ) where
       branch (λ (f : Further). Hears (checked (further_proper (of_type d 0x27) f) (further_objects f) (drop at s) (record { details = d; result = done x f })) s y) (eqb q 0) _ _ a b
 
   module _ {r : One} (m : Single r s at 0x24 false) where
-    pub timer-missed : r ≡ one.Not → Hears (followed d 0x27 x (drop at s)) s Silence
+    pub timer_missed : r ≡ one.Not → Hears (followed d 0x27 x (drop at s)) s Silence
     unfolding timer_object
-    timer-missed e =
+    timer_missed e =
         by_action (λ _. silent _ _ _ _ (λ _ o. (byte_missed e m).never _ _ refl o)) (λ _. silent _ _ _ _ (λ _ o. (byte_missed e m).never _ _ refl o))
 
     module _ {n : ℕ} {next : Cursor} (e : r ≡ one.Byte n next) where
-      on-timer :
+      on_timer :
           {y : Heard} → let t = drop next.at s in
           let v = time_in (value_at (walk t).objects 0) in
           (eqb q 0 ≡ true → Hears (checked (is_timer n) [] t (record { details = d; result = done x (started n) })) s y) →
           (eqb q 0 ≡ false → Hears (checked ((eqb q 1 || eqb q 2) && is_timer n && is_time v) (time_object v ∷ []) t (record { details = d; result = done x (leaves n v) })) s y) →
           Hears (followed d 0x27 x (drop at s)) s y
       unfolding value_at timer_object
-      on-timer a b =
+      on_timer a b =
           let h = byte_there e m in
           by_action (λ z. hears_as (rw h.walked (rw z (step_on h (named (omega arith)) _ _ _ refl))) (a z))
           (λ z. hears_as (rw h.walked (step_on h (named (omega arith)) _ _ _ refl)) (b z))
 
-      no-timer : (is_timer n ≡ true → ⊥) → Hears (followed d 0x27 x (drop at s)) s Silence
-      no-timer f =
-          on-timer (λ _. silent _ _ _ _ (λ t _. f t)) (λ _. silent _ _ _ _ (λ t _. f (both_right (eqb q 1 || eqb q 2) _ (both_left _ _ t))))
+      no_timer : (is_timer n ≡ true → ⊥) → Hears (followed d 0x27 x (drop at s)) s Silence
+      no_timer f =
+          on_timer (λ _. silent _ _ _ _ (λ t _. f t)) (λ _. silent _ _ _ _ (λ t _. f (both_right (eqb q 1 || eqb q 2) _ (both_left _ _ t))))
 
-      pub timer-zero : n < 1 → Hears (followed d 0x27 x (drop at s)) s Silence
-      timer-zero h = no-timer (λ t. omega (arith, timer_low n t))
+      pub timer_zero : n < 1 → Hears (followed d 0x27 x (drop at s)) s Silence
+      timer_zero h = no_timer (λ t. omega (arith, timer_low n t))
 
-      pub timer-beyond : 8 < n → Hears (followed d 0x27 x (drop at s)) s Silence
-      timer-beyond h = no-timer (λ t. omega (arith, timer_high n t))
+      pub timer_beyond : 8 < n → Hears (followed d 0x27 x (drop at s)) s Silence
+      timer_beyond h = no_timer (λ t. omega (arith, timer_high n t))
 
-      pub timer-started :
+      pub timer_started :
           {y : Heard} → 1 ≤ n → n ≤ 8 → d.qualifier % 4 ≡ 0 →
           Hears (checked true [] (drop next.at s) (record { details = d; result = result_of (Done x (Started n)) s })) s y → Hears (followed d 0x27 x (drop at s)) s y
       unfolding result_of further_of
-      timer-started l h z w =
-          on-timer (λ _. hears_as (rw (timer_fair n l h)) w) (λ f. absurd (true≢false (sym (eq-eqb q 0 z) ∙ f)))
+      timer_started l h z w =
+          on_timer (λ _. hears_as (rw (timer_fair n l h)) w) (λ f. absurd (true≢false (sym (eq-eqb q 0 z) ∙ f)))
 
-      pub timer-unasked : (d.qualifier % 4 ≡ 0 → ⊥) → d.qualifier % 4 ≡ 3 → Hears (followed d 0x27 x (drop at s)) s Silence
-      timer-unasked z k =
-          on-timer (λ f. absurd (true≢false (sym f ∙ ne_eqb q 0 z)))
+      pub timer_unasked : (d.qualifier % 4 ≡ 0 → ⊥) → d.qualifier % 4 ≡ 3 → Hears (followed d 0x27 x (drop at s)) s Silence
+      timer_unasked z k =
+          on_timer (λ f. absurd (true≢false (sym f ∙ ne_eqb q 0 z)))
           (λ _. silent _ _ _ _ (λ t _.
           let none : (eqb q 1 || eqb q 2) ≡ false = rw (ne_eqb q 1 (omega arith), ne_eqb q 2 (omega arith)) in
           true≢false (sym (both_left _ _ (both_left _ _ t)) ∙ none)))
 
-      pub timer-left :
+      pub timer_left :
           {y : Heard} → 1 ≤ n → n ≤ 8 → (d.qualifier % 4 ≡ 0 → ⊥) → (d.qualifier % 4 ≡ 3 → ⊥) →
           Hears (timed d x n (drop next.at s)) s y → Hears (followed d 0x27 x (drop at s)) s y
       unfolding timed
-      timer-left l h z k w =
+      timer_left l h z k w =
           let asked : (eqb q 1 || eqb q 2) ≡ true = one_of d.qualifier z k in
-          on-timer (λ f. absurd (true≢false (sym f ∙ ne_eqb q 0 z))) (λ _. hears_as (rw (asked, timer_fair n l h)) w)
+          on_timer (λ f. absurd (true≢false (sym f ∙ ne_eqb q 0 z))) (λ _. hears_as (rw (asked, timer_fair n l h)) w)
         where
           one_of : (k : ℕ) → (k % 4 ≡ 0 → ⊥) → (k % 4 ≡ 3 → ⊥) → (eqb (k % 4) 1 || eqb (k % 4) 2) ≡ true
           one_of k a b = sym (sure (eqb (k % 4) 1 || eqb (k % 4) 2) (λ e. omega (arith, eqb-false (k % 4) 1 (either_left _ _ e), eqb-false (k % 4) 2 (either_right (eqb (k % 4) 1) _ e))))
@@ -175,42 +175,42 @@ module _ (d : Details) (x n : ℕ) (s : List ℕ) (at : ℕ) {r : Value} (m : Ho
   time_missed e = silent _ _ _ _ (λ _ o. (object_absent e m).never _ _ o)
 
   module _ {start k : ℕ} {next : Cursor} (e : r ≡ value.At start k next) where
-    pub time-other : (k ≡ 3 → ⊥) → Hears (timed d x n (drop at s)) s Silence
+    pub time_other : (k ≡ 3 → ⊥) → Hears (timed d x n (drop at s)) s Silence
     unfolding timed time_object time_bytes
-    time-other l = silent _ _ _ _ (λ _ o. (other_length s at 0x25 false m e 3 (omega arith) l).never _ _ refl o)
+    time_other l = silent _ _ _ _ (λ _ o. (other_length s at 0x25 false m e 3 (omega arith) l).never _ _ refl o)
 
     abbrev v : List ℕ
     v = part start (start + k) s
 
-    time-on : timed d x n (drop at s) ≡ checked (is_time (time_in v)) (time_object (time_in v) ∷ []) (drop at s) (record { details = d; result = done x (leaves n (time_in v)) })
+    time_on : timed d x n (drop at s) ≡ checked (is_time (time_in v)) (time_object (time_in v) ∷ []) (drop at s) (record { details = d; result = done x (leaves n (time_in v)) })
     unfolding timed value_at
-    time-on = rw (object_there e m).holds.walked
+    time_on = rw (object_there e m).holds.walked
 
     module _ {b : Bool} (f : b ≡ every is_digits v) where
-      pub digits-unfit : not b ≡ true → Hears (timed d x n (drop at s)) s Silence
+      pub digits_unfit : not b ≡ true → Hears (timed d x n (drop at s)) s Silence
       unfolding time_object
-      digits-unfit u =
-          hears_as time-on (silent _ _ _ _ (λ t o.
+      digits_unfit u =
+          hears_as time_on (silent _ _ _ _ (λ t o.
           let is = ap (λ (p : Object). p.value) (same_object (drop at s) _ _ (named (omega arith)) o (object_there e m).holds.is) in
           true≢false (sym (time_digits (time_in v) t) ∙ ap (every is_digits) is ∙ sym f ∙ not-true b u)))
 
       module _ {t : Time} (g : t ≡ time_in v) where
         unfit : (is_time t ≡ true → ⊥) → Hears (timed d x n (drop at s)) s Silence
-        unfit u = hears_as time-on (silent _ _ _ _ (λ q _. u (ap is_time g ∙ q)))
+        unfit u = hears_as time_on (silent _ _ _ _ (λ q _. u (ap is_time g ∙ q)))
 
-        pub time-late : {c : Bool} → c ≡ of_day t → not c ≡ true → Hears (timed d x n (drop at s)) s Silence
+        pub time_late : {c : Bool} → c ≡ of_day t → not c ≡ true → Hears (timed d x n (drop at s)) s Silence
         unfolding is_time
-        time-late {c} h u = unfit (λ q. true≢false (sym (both_left (of_day t) _ q) ∙ sym h ∙ not-true c u))
+        time_late {c} h u = unfit (λ q. true≢false (sym (both_left (of_day t) _ q) ∙ sym h ∙ not-true c u))
 
         pub time_zero : {z : Bool} → z ≡ is_zero t → z ≡ true → Hears (timed d x n (drop at s)) s Silence
         unfolding is_time
         time_zero h u = unfit (λ q. true≢false (sym u ∙ h ∙ not-true (is_zero t) (both_right (of_day t) _ q)))
 
-        pub time-fits :
+        pub time_fits :
             {c z : Bool} {y : Heard} → k ≡ 3 → not b ≡ false → c ≡ of_day t → not c ≡ false → z ≡ is_zero t → z ≡ false →
             Hears (checked true [] (drop next.at s) (record { details = d; result = result_of (Done x (Leaves n t)) s })) s y → Hears (timed d x n (drop at s)) s y
         unfolding is_time time_object result_of further_of
-        time-fits {c} l u h w i p =
+        time_fits {c} l u h w i p =
             let fair : is_time t ≡ true = both _ _ (sym h ∙ not-false c w) (ap not (sym i ∙ p)) in
-            let all = value-long s at 0x25 false m e ∙ l in
-            hears_as (time-on ∙ step_on (object_there e m).holds (named (omega arith)) _ _ _ (digits_back v all (sym f ∙ not-false b u)) ∙ rw (← g) (rw fair))
+            let all = value_long s at 0x25 false m e ∙ l in
+            hears_as (time_on ∙ step_on (object_there e m).holds (named (omega arith)) _ _ _ (digits_back v all (sym f ∙ not-false b u)) ∙ rw (← g) (rw fair))

@@ -109,17 +109,17 @@ module _ (kind size at : ℕ) (level : Level) (s before : List ℕ) {d₁ d₂ :
       then_put (0xB5 ∷ (1 + length s) ∷ kind ∷ []) s at (at + 3) _ before d₁ d₂ (by_put _ at (at + 3) before d₁ (omega arith) refl p₁) (omega arith) refl p₂
 
   module _ {m : ℕ} {d₃ : List ℕ} (w₃ : Wrote (object_bytes (flagged 0x39 (pair_bytes size))) (at + 3 + length s) m d₂ d₃) where
-    pub level-room : m + 6 ≤ length d₃
+    pub level_room : m + 6 ≤ length d₃
     unfolding object_bytes length_bytes pair_bytes ◌⇒◌else◌
-    level-room =
+    level_room =
         let l₂ = still _ _ _ _ _ bearer_wrote in
         let l₃ = still _ _ _ _ _ w₃ in
         omega (arith, w₃.behind)
 
-    pub opening-wrote :
+    pub opening_wrote :
         {end : ℕ} {after : List ℕ} → Wrote (written (transport_objects (level_of level))) m end d₃ after →
         Wrote (written (body_objects (body_of (Open kind size level) s))) at end before after
-    opening-wrote {end} {after} w₄ =
+    opening_wrote {end} {after} w₄ =
         as_form _ _ at end before after (opening_form kind size level s pre.1)
         (joined _ _ at (at + 3 + length s) end before d₂ after bearer_wrote (joined _ _ (at + 3 + length s) m end d₂ d₃ after w₃ w₄))
 
@@ -174,20 +174,20 @@ module _ (order : Record) (s : List ℕ) (buffer : ℕ) where
   short_buffer h = stop _ _ _ (lt-ltb buffer command_cap h)
 
   module _ (h : command_cap ≤ buffer) {kind : ℕ} (k : (t : List ℕ) → kind ≡ kind_of (body_of order.asking t)) {b : Bool} (f : b ≡ addressed kind order.source order.destination) where
-    not-kind : (t : Bool) → b ≡ t → not (addressed (kind_of body) order.source order.destination) ≡ not t
-    not-kind t e = ap (λ (x : ℕ). not (addressed x order.source order.destination)) (sym (k s)) ∙ ap not (sym f ∙ e)
+    not_kind : (t : Bool) → b ≡ t → not (addressed (kind_of body) order.source order.destination) ≡ not t
+    not_kind t e = ap (λ (x : ℕ). not (addressed x order.source order.destination)) (sym (k s)) ∙ ap not (sym f ∙ e)
 
     pub unaddressed : not b ≡ true → outcome ≡ refused UnfitRecord
     unfolding bench_write command_of
-    unaddressed n = skip _ _ _ (le-ltb buffer command_cap h) ∙ stop _ _ _ (not-kind false (not-true b n))
+    unaddressed n = skip _ _ _ (le-ltb buffer command_cap h) ∙ stop _ _ _ (not_kind false (not-true b n))
 
     module _ (n : not b ≡ false) {p : Bool} (e : p ≡ body_proper body) where
       pub unproper : not p ≡ true → outcome ≡ refused UnfitRecord
       unfolding bench_write command_of
-      unproper m = skip _ _ _ (le-ltb buffer command_cap h) ∙ skip _ _ _ (not-kind true (not-false b n)) ∙ stop _ _ _ (ap not (sym e) ∙ m)
+      unproper m = skip _ _ _ (le-ltb buffer command_cap h) ∙ skip _ _ _ (not_kind true (not-false b n)) ∙ stop _ _ _ (ap not (sym e) ∙ m)
 
       pub whole : not p ≡ false → {size : ℕ} → size ≡ length (written (body_objects body)) → outcome ≡ wrote (front_bytes order kind size ++ written (body_objects body))
       unfolding bench_write command_of
       whole m l =
-          skip _ _ _ (le-ltb buffer command_cap h) ∙ skip _ _ _ (not-kind true (not-false b n)) ∙ skip _ _ _ (ap not (sym e) ∙ m)
+          skip _ _ _ (le-ltb buffer command_cap h) ∙ skip _ _ _ (not_kind true (not-false b n)) ∙ skip _ _ _ (ap not (sym e) ∙ m)
           ∙ ap wrote (front_frame order s kind (k s) _ l)

@@ -58,10 +58,10 @@ handler_back Close d e = rw (eqb-true d.kind 0x41 e)
 handler_back Receive d e = rw (eqb-true d.kind 0x42 e)
 handler_back Send d e = rw (eqb-true d.kind 0x43 e)
 handler_back StartTimer d e = rw (start_kind d e, starts d e)
-handler_back ManageTimer d e = by-start d.kind (eqb-true d.kind 0x27 (both_left (eqb d.kind 0x27) _ e)) (both_right (eqb d.kind 0x27) _ e)
+handler_back ManageTimer d e = by_start d.kind (eqb-true d.kind 0x27 (both_left (eqb d.kind 0x27) _ e)) (both_right (eqb d.kind 0x27) _ e)
   where
-    by-start : (k : ℕ) → k ≡ 0x27 → not (eqb k 0x27 && eqb (action_of d.qualifier) start_action) ≡ true → handler_in (record { number = d.number; kind = k; qualifier = d.qualifier }) ≡ ManageTimer
-    by-start k q f = rw q (skip _ _ _ (not-true (eqb (action_of d.qualifier) start_action) (rw q at f)))
+    by_start : (k : ℕ) → k ≡ 0x27 → not (eqb k 0x27 && eqb (action_of d.qualifier) start_action) ≡ true → handler_in (record { number = d.number; kind = k; qualifier = d.qualifier }) ≡ ManageTimer
+    by_start k q f = rw q (skip _ _ _ (not-true (eqb (action_of d.qualifier) start_action) (rw q at f)))
 
 module _ {q r : Request} {p s : List ℕ} (u : AskedFor q p s) (w : AskedFor r p s) where
   details_alike : q.details ≡ r.details

@@ -31,9 +31,9 @@ module _ (s : List ℕ) where
   frame_unsized e = ap (λ (l : LengthRead). eqb (get_or s 0 0) 0xD0 && fills l) e ∙ and-false (eqb (get_or s 0 0) 0xD0)
 
   module _ (n start : ℕ) (l : Length s 1 n start) where
-    pub frame-count : (length s - start ≡ n → ⊥) → framed s ≡ false
+    pub frame_count : (length s - start ≡ n → ⊥) → framed s ≡ false
     unfolding framed fills
-    frame-count h =
+    frame_count h =
         let d = length-drop start s in
         ap (λ (x : LengthRead). eqb (get_or s 0 0) 0xD0 && fills x) l.is
         ∙ ap (λ (b : Bool). eqb (get_or s 0 0) 0xD0 && b) (ne_eqb n (length (drop start s)) (λ e. h (sym d ∙ sym e)))

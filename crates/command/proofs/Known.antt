@@ -68,15 +68,15 @@ module _ {s : List ℕ} {d : Details} {plan : Plan} {v : Sorted} (z : Fitted s d
 
   -- a needed object is there, with its value and its length
   module _ (n : ℕ) (e : member n (needed plan.row) ≡ true) where
-    needed-counts : present n counts ≡ true
+    needed_counts : present n counts ≡ true
     unfolding complete
-    needed-counts = every_member (λ k. present k counts) n (row_of (the_details s)).required whole (needed_required s z.begun.planned.row n e)
+    needed_counts = every_member (λ k. present k counts) n (row_of (the_details s)).required whole (needed_required s z.begun.planned.row n e)
 
-    pub needed-there : present n (walk s).objects ≡ true
-    needed-there = sym (needed_alike s z.begun.planned.row n e).there ∙ needed-counts
+    pub needed_there : present n (walk s).objects ≡ true
+    needed_there = sym (needed_alike s z.begun.planned.row n e).there ∙ needed_counts
 
-    pub needed-value : value_of n counts ≡ value_of n (walk s).objects
-    needed-value = (needed_alike s z.begun.planned.row n e).value
+    pub needed_value : value_of n counts ≡ value_of n (walk s).objects
+    needed_value = (needed_alike s z.begun.planned.row n e).value
 
-    pub needed-fits : length_fits n (value_of n (walk s).objects) ≡ true
-    needed-fits = ap (length_fits n) (sym needed-value) ∙ value_fits n counts needed-counts fit
+    pub needed_fits : length_fits n (value_of n (walk s).objects) ≡ true
+    needed_fits = ap (length_fits n) (sym needed_value) ∙ value_fits n counts needed_counts fit

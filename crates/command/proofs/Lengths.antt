@@ -67,9 +67,9 @@ module _ (s : List ℕ) (start n : ℕ) (w : start + n ≤ length s) where
         let f = first ∙ e in
         size 1 ∙ sym (skip _ _ _ some_bytes ∙ skip _ _ _ (ne_eqb (get_or v 0 0) 0x02 (omega arith)) ∙ stop _ _ _ (eq-eqb (get_or v 0 0) 0x03 f))
 
-    pub bearer-any : (Unit {0} × (get_or s start 0 ≡ 0x02 → ⊥)) × (get_or s start 0 ≡ 0x03 → ⊥) → true ≡ bearer_fits v
+    pub bearer_any : (Unit {0} × (get_or s start 0 ≡ 0x02 → ⊥)) × (get_or s start 0 ≡ 0x03 → ⊥) → true ≡ bearer_fits v
     unfolding bearer_fits
-    bearer-any o =
+    bearer_any o =
         sym
         (skip _ _ _ some_bytes ∙ skip _ _ _ (ne_eqb (get_or v 0 0) 0x02 (λ e. o.0.1 (sym first ∙ e)))
         ∙ skip _ _ _ (ne_eqb (get_or v 0 0) 0x03 (λ e. o.1 (sym first ∙ e))))
@@ -78,27 +78,27 @@ module _ (s : List ℕ) (start n : ℕ) (w : start + n ≤ length s) where
     abbrev fits : ℕ → Bool
     fits k = length_fits k v
 
-    pub fits-three : OneOf (0x01 ∷ 0x25 ∷ 0x3C ∷ []) t → eqb n 3 ≡ length_fits t v
+    pub fits_three : OneOf (0x01 ∷ 0x25 ∷ 0x3C ∷ []) t → eqb n 3 ≡ length_fits t v
     unfolding length_fits ◌⇒◌else◌
-    fits-three = arm fits (eqb n 3) (0x01 ∷ 0x25 ∷ 0x3C ∷ []) t (size 3, (size 3, (size 3, tt)))
+    fits_three = arm fits (eqb n 3) (0x01 ∷ 0x25 ∷ 0x3C ∷ []) t (size 3, (size 3, (size 3, tt)))
 
-    pub fits-two : OneOf (0x02 ∷ 0x04 ∷ 0x1E ∷ 0x39 ∷ []) t → eqb n 2 ≡ length_fits t v
+    pub fits_two : OneOf (0x02 ∷ 0x04 ∷ 0x1E ∷ 0x39 ∷ []) t → eqb n 2 ≡ length_fits t v
     unfolding length_fits ◌⇒◌else◌
-    fits-two = arm fits (eqb n 2) (0x02 ∷ 0x04 ∷ 0x1E ∷ 0x39 ∷ []) t (size 2, (size 2, (size 2, (size 2, tt))))
+    fits_two = arm fits (eqb n 2) (0x02 ∷ 0x04 ∷ 0x1E ∷ 0x39 ∷ []) t (size 2, (size 2, (size 2, (size 2, tt))))
 
     pub fits_one : OneOf (0x24 ∷ 0x37 ∷ []) t → eqb n 1 ≡ length_fits t v
     unfolding length_fits ◌⇒◌else◌
     fits_one = arm fits (eqb n 1) (0x24 ∷ 0x37 ∷ []) t (size 1, (size 1, tt))
 
-    pub fits-bearer : t ≡ 0x35 → bearer_fits v ≡ length_fits t v
+    pub fits_bearer_lem : t ≡ 0x35 → bearer_fits v ≡ length_fits t v
     unfolding length_fits ◌⇒◌else◌
-    fits-bearer = arm fits (bearer_fits v) (0x35 ∷ []) t (refl, tt)
+    fits_bearer_lem = arm fits (bearer_fits v) (0x35 ∷ []) t (refl, tt)
 
-    pub fits-any :
+    pub fits_any :
         (((Unit {0} × (OneOf (0x01 ∷ 0x25 ∷ 0x3C ∷ []) t → ⊥)) × (OneOf (0x02 ∷ 0x04 ∷ 0x1E ∷ 0x39 ∷ []) t → ⊥)) × (OneOf (0x24 ∷ 0x37 ∷ []) t → ⊥)) × (t ≡ 0x35 → ⊥) →
         true ≡ length_fits t v
     unfolding length_fits ◌⇒◌else◌
-    fits-any o =
+    fits_any o =
         let three = o.0.0.0.1 in
         let two = o.0.0.1 in
         simp (

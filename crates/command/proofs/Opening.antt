@@ -74,8 +74,8 @@ module _ {s : List ℕ} (h : length s ≡ 0 → ⊥) {number : ℕ} {flag : Bool
   stranger_number e = stranger (begins ∙ ap (λ (b : Bool). b && eqb n 3) (ne_eqb number 0x01 e))
 
   module _ (e : number ≡ 0x01) where
-    pub stranger-length : (n ≡ 3 → ⊥) → (p : List ℕ) → read_objects p s ≡ wrong zeros 0x36
-    stranger-length l = stranger (begins ∙ (λ i. eq-eqb number 0x01 e i && ne_eqb n 3 l i))
+    pub stranger_length : (n ≡ 3 → ⊥) → (p : List ℕ) → read_objects p s ≡ wrong zeros 0x36
+    stranger_length l = stranger (begins ∙ (λ i. eq-eqb number 0x01 e i && ne_eqb n 3 l i))
 
     module _ (l : n ≡ 3) where
       pub headed : Headed s start
@@ -83,8 +83,8 @@ module _ {s : List ℕ} (h : length s ≡ 0 → ⊥) {number : ℕ} {flag : Bool
           let q : next ≡ start + 3 = omega (arith, st.ends) in
           record { flag = flag; stands = subst (λ (k : ℕ). Stands s 0 0x01 flag start 3 k) q (subst (λ (k : ℕ). Stands s 0 0x01 flag start k next) l (subst (λ (k : ℕ). Stands s 0 k flag start n next) e st)) }
 
-      pub first-within : start + 3 ≤ length s
-      first-within = omega (arith, fits)
+      pub first_within : start + 3 ≤ length s
+      first_within = omega (arith, fits)
 
       pub leads : {d : Details} → d ≡ details_at s start → Leads s d start
       unfolding details_in value_of
@@ -156,18 +156,18 @@ module _ {s : List ℕ} {d : Details} (g : Detailed s d) where
 
   -- the type has a plan
   module _ {plan : Plan} (k : PlanOf plan d) where
-    plan-is : PlanOf plan (the_details s)
-    plan-is = subst (λ (x : Details). PlanOf plan x) (sym g.details) k
+    plan_is : PlanOf plan (the_details s)
+    plan_is = subst (λ (x : Details). PlanOf plan x) (sym g.details) k
 
     pub row_is : RowFor plan.row (the_details s)
-    row_is = plan-is.row
+    row_is = plan_is.row
 
     module _ {v : Sorted} (w : Sorts v s plan.row) where
-      pub planned-cut : not v.whole ≡ true → (p : List ℕ) → read_objects p s ≡ wrong d 0x32
-      planned-cut f = cut_read _ refl (not-false (is_fault (walk s).ending) (sym w.whole ∙ not-true v.whole f))
+      pub planned_cut : not v.whole ≡ true → (p : List ℕ) → read_objects p s ≡ wrong d 0x32
+      planned_cut f = cut_read _ refl (not-false (is_fault (walk s).ending) (sym w.whole ∙ not-true v.whole f))
 
       pub begun : Begun s d plan v
-      begun = record { began = g.began; details = g.details; planned = plan-is; sorted = w }
+      begun = record { began = g.began; details = g.details; planned = plan_is; sorted = w }
 
       module _ (f : not v.whole ≡ false) where
         unbroken : is_fault (walk s).ending ≡ false
@@ -175,12 +175,12 @@ module _ {s : List ℕ} {d : Details} (g : Detailed s d) where
 
         module _ (p : List ℕ) {b : Bool} (a : b ≡ bit p plan.place.byte plan.place.bit) where
           allows : allows_type p (the_details s) ≡ b
-          allows = sym (a ∙ plan-is.place.is p)
+          allows = sym (a ∙ plan_is.place.is p)
 
-          pub forbidden-read : not b ≡ true → read_objects p s ≡ wrong d 0x30
-          forbidden-read e =
+          pub forbidden_read : not b ≡ true → read_objects p s ≡ wrong d 0x30
+          forbidden_read e =
               told
-              (read_began p s g.began ∙ skip _ _ _ unbroken ∙ skip _ _ _ (ap not plan-is.known_is) ∙ stop _ _ _ (ap not (allows ∙ not-true b e)))
+              (read_began p s g.began ∙ skip _ _ _ unbroken ∙ skip _ _ _ (ap not plan_is.known_is) ∙ stop _ _ _ (ap not (allows ∙ not-true b e)))
 
           pub typed : not b ≡ false → Typed p s
-          typed e = record { began = g.began; whole = unbroken; kind = plan-is.known_is; allowed = allows ∙ not-false b e }
+          typed e = record { began = g.began; whole = unbroken; kind = plan_is.known_is; allowed = allows ∙ not-false b e }

@@ -27,7 +27,7 @@ use Rattle.command.specs.declared.Sorted.{Sorted}
 use Rattle.command.specs.Plans.{handles, own_number, further_number, needed, besides_by, times_by}
 use Rattle.command.specs.Requests.{the_details, the_objects, the_command, size_at, protocol_at, BodyIs, place_or_none, StandsAt, AskedFor, Typed, Fitted}
 use Rattle.command.proofs.Counting.{Alike, alike}
-use Rattle.command.proofs.Known.{known_misaddressed, known_asked, fit, needed-there, needed-value, needed-fits}
+use Rattle.command.proofs.Known.{known_misaddressed, known_asked, fit, needed_there, needed_value, needed_fits}
 use Rattle.command.proofs.Lengths.{part_first, part_at}
 use Rattle.command.proofs.Tables.{own_needed, further_needed}
 use Rattle.rules.specs.Timers.{is_start}
@@ -66,7 +66,7 @@ module _ {s : List ℕ} {d : Details} {plan : Plan} {v : Sorted} (z : Fitted s d
   -- the devices, in two bytes
   two : length (value_of 0x02 all) ≡ 2
   unfolding length_fits member some_of ◌⇒◌else◌
-  two = eqb-true (length (value_of 0x02 all)) 2 (needed-fits z 0x02 refl)
+  two = eqb-true (length (value_of 0x02 all)) 2 (needed_fits z 0x02 refl)
 
   pub devices_within : v.devices + 2 ≤ length s
   devices_within = stands_within z.begun.sorted.devices two
@@ -74,12 +74,12 @@ module _ {s : List ℕ} {d : Details} {plan : Plan} {v : Sorted} (z : Fitted s d
   source_is : (the_command s).source ≡ record { 0 = get_or s v.devices 0 }
   unfolding command_in member some_of
   source_is =
-      λ i. record { 0 = (ap (λ (l : List ℕ). get_or l 0 0) (needed-value z 0x02 refl) ∙ byte_first z.begun.sorted.devices two (omega arith)) i }
+      λ i. record { 0 = (ap (λ (l : List ℕ). get_or l 0 0) (needed_value z 0x02 refl) ∙ byte_first z.begun.sorted.devices two (omega arith)) i }
 
   destination_is : (the_command s).destination ≡ record { 0 = get_or s (v.devices + 1) 0 }
   unfolding command_in member some_of
   destination_is =
-      λ i. record { 0 = (ap (λ (l : List ℕ). get_or l 1 0) (needed-value z 0x02 refl) ∙ byte_at z.begun.sorted.devices two 1 (omega arith)) i }
+      λ i. record { 0 = (ap (λ (l : List ℕ). get_or l 1 0) (needed_value z 0x02 refl) ∙ byte_at z.begun.sorted.devices two 1 (omega arith)) i }
 
   by_bytes :
       addressed (the_details s).kind (the_command s).source (the_command s).destination ≡
@@ -97,7 +97,7 @@ module _ {s : List ℕ} {d : Details} {plan : Plan} {v : Sorted} (z : Fitted s d
 
   pub own_behind : 1 ≤ v.own
   own_behind =
-      let h = eqb-false v.own 0 (z.begun.sorted.own.there ∙ ap not (needed-there z plan.row.own_val needs_own)) in
+      let h = eqb-false v.own 0 (z.begun.sorted.own.there ∙ ap not (needed_there z plan.row.own_val needs_own)) in
       omega arith
 
   pub own_within : v.own ≤ length s
@@ -115,64 +115,64 @@ module _ {s : List ℕ} {d : Details} {plan : Plan} {v : Sorted} (z : Fitted s d
     further_is : plan.row.further ≡ 0x39
     further_is = z.begun.planned.further_is ∙ ap further_number h
 
-    size-needed : member 0x39 (needed plan.row) ≡ true
-    size-needed = subst (λ (n : ℕ). member n (needed plan.row) ≡ true) further_is needs_further
+    size_needed : member 0x39 (needed plan.row) ≡ true
+    size_needed = subst (λ (n : ℕ). member n (needed plan.row) ≡ true) further_is needs_further
 
-    size-stands : StandsAt v.further s 0x39
-    size-stands = subst (λ (n : ℕ). StandsAt v.further s n) further_is z.begun.sorted.further
+    size_stands : StandsAt v.further s 0x39
+    size_stands = subst (λ (n : ℕ). StandsAt v.further s n) further_is z.begun.sorted.further
 
-    size-two : length (value_of 0x39 all) ≡ 2
+    size_two : length (value_of 0x39 all) ≡ 2
     unfolding length_fits ◌⇒◌else◌
-    size-two = eqb-true (length (value_of 0x39 all)) 2 (needed-fits z 0x39 size-needed)
+    size_two = eqb-true (length (value_of 0x39 all)) 2 (needed_fits z 0x39 size_needed)
 
     size_within : v.further + 2 ≤ length s
-    size_within = stands_within size-stands size-two
+    size_within = stands_within size_stands size_two
 
     size_is : pair_in (value_of 0x39 counts) ≡ size_at s v.further
     unfolding pair_in size_at
     size_is =
-        let high = ap (λ (l : List ℕ). get_or l 0 0) (needed-value z 0x39 size-needed) ∙ byte_first size-stands size-two (omega arith) in
-        let low = ap (λ (l : List ℕ). get_or l 1 0) (needed-value z 0x39 size-needed) ∙ byte_at size-stands size-two 1 (omega arith) in
+        let high = ap (λ (l : List ℕ). get_or l 0 0) (needed_value z 0x39 size_needed) ∙ byte_first size_stands size_two (omega arith) in
+        let low = ap (λ (l : List ℕ). get_or l 1 0) (needed_value z 0x39 size_needed) ∙ byte_at size_stands size_two 1 (omega arith) in
         λ i. 256 * high i + low i
 
-    transport-alike : Alike 0x3C counts all
+    transport_alike : Alike 0x3C counts all
     unfolding times_by besides_by member some_of
-    transport-alike =
+    transport_alike =
         let t = z.begun.planned.row.times_are 0x3C in
         let once : 1 ≤ times_by plan.row 0x3C =
         branch (λ (k : ℕ). 1 ≤ k) _ _ _ (λ _. omega arith) (λ _. subst (λ (k : ℕ). 1 ≤ k) (sym (skip _ _ _ refl ∙ stop _ _ _ refl ∙ stop _ _ _ o)) (omega arith)) in
         alike (row_of (the_details s)) 0x3C all (omega arith)
 
-    transport-there : not (present 0x3C counts) ≡ eqb v.transport 0
-    transport-there = ap not transport-alike.there ∙ sym z.begun.sorted.transport.there
+    transport_there : not (present 0x3C counts) ≡ eqb v.transport 0
+    transport_there = ap not transport_alike.there ∙ sym z.begun.sorted.transport.there
 
     abbrev level : Option Transport
     level = present 0x3C counts ⇒ some (transport_in (value_of 0x3C counts)) else none
 
-    tcp-is : eqb v.transport 0 ≡ true → protocol_of level ≡ 0x02
+    tcp_is : eqb v.transport 0 ≡ true → protocol_of level ≡ 0x02
     unfolding protocol_of
-    tcp-is c = ap protocol_of (skip _ _ _ (not-true (present 0x3C counts) (transport-there ∙ c)))
+    tcp_is c = ap protocol_of (skip _ _ _ (not-true (present 0x3C counts) (transport_there ∙ c)))
 
     module _ (c : eqb v.transport 0 ≡ false) where
       there : present 0x3C counts ≡ true
-      there = not-false (present 0x3C counts) (transport-there ∙ c)
+      there = not-false (present 0x3C counts) (transport_there ∙ c)
 
       three : length (value_of 0x3C all) ≡ 3
       unfolding length_fits ◌⇒◌else◌
-      three = eqb-true (length (value_of 0x3C all)) 3 (ap (length_fits 0x3C) (sym transport-alike.value) ∙ value_fits 0x3C counts there (fit z))
+      three = eqb-true (length (value_of 0x3C all)) 3 (ap (length_fits 0x3C) (sym transport_alike.value) ∙ value_fits 0x3C counts there (fit z))
 
       told_is : protocol_of level ≡ get_or s v.transport 0
       unfolding protocol_of transport_in
       told_is =
-          ap protocol_of (stop _ _ _ there) ∙ ap (λ (l : List ℕ). get_or l 0 0) transport-alike.value
+          ap protocol_of (stop _ _ _ there) ∙ ap (λ (l : List ℕ). get_or l 0 0) transport_alike.value
           ∙ byte_first z.begun.sorted.transport three (omega arith)
 
-    protocol-is : protocol_of level ≡ protocol_at s v.transport
+    protocol_is : protocol_of level ≡ protocol_at s v.transport
     unfolding protocol_at
-    protocol-is = branch (λ (n : ℕ). protocol_of level ≡ n) (eqb v.transport 0) _ _ tcp-is told_is
+    protocol_is = branch (λ (n : ℕ). protocol_of level ≡ n) (eqb v.transport 0) _ _ tcp_is told_is
 
-    transport-within : 0 < v.transport → v.transport < length s
-    transport-within c = let w = stands_within z.begun.sorted.transport (three (ne_eqb v.transport 0 (omega arith))) in omega arith
+    transport_within : 0 < v.transport → v.transport < length s
+    transport_within c = let w = stands_within z.begun.sorted.transport (three (ne_eqb v.transport 0 (omega arith))) in omega arith
 
   -- what is asked
   module _ where
@@ -189,25 +189,25 @@ module _ {s : List ℕ} {d : Details} {plan : Plan} {v : Sorted} (z : Fitted s d
           transport = v.transport;
         }
 
-    abbrev ownValue : List ℕ
-    ownValue = part v.own (v.own + get_or s (v.own - 1) 0) s
+    abbrev own_bytes : List ℕ
+    own_bytes = part v.own (v.own + get_or s (v.own - 1) 0) s
 
-    own-size : get_or s (v.own - 1) 0 ≡ length (value_of plan.row.own_val all)
-    own-size = z.begun.sorted.own.last (needed-there z plan.row.own_val needs_own)
+    own_size : get_or s (v.own - 1) 0 ≡ length (value_of plan.row.own_val all)
+    own_size = z.begun.sorted.own.last (needed_there z plan.row.own_val needs_own)
 
-    own-part : value_of plan.row.own_val all ≡ ownValue
-    own-part = z.begun.sorted.own.value ∙ ap (λ (k : ℕ). part v.own (v.own + k) s) (sym own-size)
+    own_part : value_of plan.row.own_val all ≡ own_bytes
+    own_part = z.begun.sorted.own.value ∙ ap (λ (k : ℕ). part v.own (v.own + k) s) (sym own_size)
 
     -- the own value and the values of the type, by its handler
     module _ (h : Handler) (eh : plan.handler ≡ h) where
       number_is : plan.row.own_val ≡ own_number h
       number_is = z.begun.planned.own_is ∙ ap own_number eh
 
-      own_value : value_of (own_number h) counts ≡ ownValue
-      own_value = subst (λ (n : ℕ). value_of n counts ≡ ownValue) number_is (needed-value z plan.row.own_val needs_own ∙ own-part)
+      own_value : value_of (own_number h) counts ≡ own_bytes
+      own_value = subst (λ (n : ℕ). value_of n counts ≡ own_bytes) number_is (needed_value z plan.row.own_val needs_own ∙ own_part)
 
-      own-fits : length_fits (own_number h) ownValue ≡ true
-      own-fits = subst (λ (n : ℕ). length_fits n ownValue ≡ true) number_is (ap (length_fits plan.row.own_val) (sym own-part) ∙ needed-fits z plan.row.own_val needs_own)
+      own_fits : length_fits (own_number h) own_bytes ≡ true
+      own_fits = subst (λ (n : ℕ). length_fits n own_bytes ≡ true) number_is (ap (length_fits plan.row.own_val) (sym own_part) ∙ needed_fits z plan.row.own_val needs_own)
 
       handled : handles h (the_details s) ≡ true
       handled = subst (λ (k : Handler). handles k (the_details s) ≡ true) eh z.begun.planned.kind_is
@@ -219,59 +219,59 @@ module _ {s : List ℕ} {d : Details} {plan : Plan} {v : Sorted} (z : Fitted s d
     -- a value of one byte, by its handler
     one : (h : Handler) → plan.handler ≡ h → own_number h ≡ 0x24 → get_or s (v.own - 1) 0 ≡ 1
     unfolding length_fits ◌⇒◌else◌
-    one h e n = own-size ∙ ap length own-part ∙ eqb-true (length ownValue) 1 (subst (λ (k : ℕ). length_fits k ownValue ≡ true) n (own-fits h e))
+    one h e n = own_size ∙ ap length own_part ∙ eqb-true (length own_bytes) 1 (subst (λ (k : ℕ). length_fits k own_bytes ≡ true) n (own_fits h e))
 
     -- the time of a start, in three bytes
     module _ (h : plan.handler ≡ StartTimer) where
-      time-further : plan.row.further ≡ 0x25
-      time-further = z.begun.planned.further_is ∙ ap further_number h
+      time_further : plan.row.further ≡ 0x25
+      time_further = z.begun.planned.further_is ∙ ap further_number h
 
-      time-needed : member 0x25 (needed plan.row) ≡ true
-      time-needed = subst (λ (n : ℕ). member n (needed plan.row) ≡ true) time-further needs_further
+      time_needed : member 0x25 (needed plan.row) ≡ true
+      time_needed = subst (λ (n : ℕ). member n (needed plan.row) ≡ true) time_further needs_further
 
-      time-stands : StandsAt v.further s 0x25
-      time-stands = subst (λ (n : ℕ). StandsAt v.further s n) time-further z.begun.sorted.further
+      time_stands : StandsAt v.further s 0x25
+      time_stands = subst (λ (n : ℕ). StandsAt v.further s n) time_further z.begun.sorted.further
 
-      time-three : length (value_of 0x25 all) ≡ 3
+      time_three : length (value_of 0x25 all) ≡ 3
       unfolding length_fits ◌⇒◌else◌
-      time-three = eqb-true (length (value_of 0x25 all)) 3 (needed-fits z 0x25 time-needed)
+      time_three = eqb-true (length (value_of 0x25 all)) 3 (needed_fits z 0x25 time_needed)
 
-      time-within : v.further + 3 ≤ length s
-      time-within = stands_within time-stands time-three
+      time_within : v.further + 3 ≤ length s
+      time_within = stands_within time_stands time_three
 
-      time-is : value_of 0x25 counts ≡ part v.further (v.further + 3) s
-      time-is = needed-value z 0x25 time-needed ∙ time-stands.value ∙ ap (λ (k : ℕ). part v.further (v.further + k) s) time-three
+      time_is : value_of 0x25 counts ≡ part v.further (v.further + 3) s
+      time_is = needed_value z 0x25 time_needed ∙ time_stands.value ∙ ap (λ (k : ℕ). part v.further (v.further + k) s) time_three
 
     -- the values that are asked with, type by type
-    asked-body : (h : Handler) → plan.handler ≡ h → BodyIs h (asks h) s (the_command s).body
+    asked_body : (h : Handler) → plan.handler ≡ h → BodyIs h (asks h) s (the_command s).body
     unfolding body_in is_start length_fits ◌⇒◌else◌
-    asked-body Bare e =
+    asked_body Bare e =
         each_member (λ (k : ℕ). (the_details s).kind ≡ k → (the_command s).body ≡ bare k) (the_details s).kind bare_types
         (body_is Bare e 0x02, (body_is Bare e 0x44, tt)) (handled Bare e) refl
         ∙ ap (λ (x : Details). bare x.kind) z.begun.details
-    asked-body EventList e = body_is EventList e 0x05 (eqb-true _ _ (handled EventList e)) ∙ ap event_list (own_value EventList e)
-    asked-body Open e =
+    asked_body EventList e = body_is EventList e 0x05 (eqb-true _ _ (handled EventList e)) ∙ ap event_list (own_value EventList e)
+    asked_body Open e =
         record {
           level = level e;
           is = body_is Open e 0x40 (eqb-true _ _ (handled Open e)) ∙ (λ i. open_channel (bearer_in (own_value Open e i)) (size_is e i) (level e));
-          protocol = protocol-is e;
-          bearer = own-fits Open e;
+          protocol = protocol_is e;
+          bearer = own_fits Open e;
           size_within = size_within e;
-          protocol_within = transport-within e;
+          protocol_within = transport_within e;
         }
-    asked-body Close e = body_is Close e 0x41 (eqb-true _ _ (handled Close e))
-    asked-body Receive e =
-        let one = own-size ∙ ap length own-part ∙ eqb-true (length ownValue) 1 (own-fits Receive e) in
+    asked_body Close e = body_is Close e 0x41 (eqb-true _ _ (handled Close e))
+    asked_body Receive e =
+        let one = own_size ∙ ap length own_part ∙ eqb-true (length own_bytes) 1 (own_fits Receive e) in
         (body_is Receive e 0x42 (eqb-true _ _ (handled Receive e)) ∙ ap (λ (l : List ℕ). receive_data (get_or l 0 0)) (own_value Receive e) ∙ ap receive_data (part_first s v.own (get_or s (v.own - 1) 0) (omega arith)), one)
-    asked-body Send e = body_is Send e 0x43 (eqb-true _ _ (handled Send e)) ∙ ap send_data (own_value Send e)
-    asked-body StartTimer e =
+    asked_body Send e = body_is Send e 0x43 (eqb-true _ _ (handled Send e)) ∙ ap send_data (own_value Send e)
+    asked_body StartTimer e =
         let b = start_kind (the_details s) (handled StartTimer e) in (
           body_is StartTimer e 0x27 b ∙ stop _ _ _ (starts_at (the_details s) (handled StartTimer e))
-              ∙ (λ i. start_timer ((ap (λ (l : List ℕ). get_or l 0 0) (own_value StartTimer e) ∙ part_first s v.own (get_or s (v.own - 1) 0) (omega (arith, one StartTimer e refl))) i) (time-is e i)),
+              ∙ (λ i. start_timer ((ap (λ (l : List ℕ). get_or l 0 0) (own_value StartTimer e) ∙ part_first s v.own (get_or s (v.own - 1) 0) (omega (arith, one StartTimer e refl))) i) (time_is e i)),
           one StartTimer e refl,
-          time-within e,
+          time_within e,
         )
-    asked-body ManageTimer e =
+    asked_body ManageTimer e =
         let k = both_left (eqb (the_details s).kind 0x27) _ (handled ManageTimer e) in
         let not_start = not-true (is_start (the_details s)) (both_right (eqb (the_details s).kind 0x27) _ (handled ManageTimer e)) in (
           body_is ManageTimer e 0x27 (eqb-true _ _ k) ∙ skip _ _ _ (starts_not_at (the_details s) (eqb-true _ _ k) not_start)
@@ -279,15 +279,15 @@ module _ {s : List ℕ} {d : Details} {plan : Plan} {v : Sorted} (z : Fitted s d
           one ManageTimer e refl,
         )
 
-    transport-placed : v.transport ≡ place_or_none 0x3C s
-    transport-placed =
+    transport_placed : v.transport ≡ place_or_none 0x3C s
+    transport_placed =
         let w = z.begun.sorted.transport in
         branch (λ (k : ℕ). v.transport ≡ k) (present 0x3C all) _ _ (λ e. w.place e) (λ e. eqb-true v.transport 0 (w.there ∙ ap not e))
 
-    pub settle-asked :
+    pub settle_asked :
         {b : Bool} → b ≡ addressed d.kind (record { 0 = get_or s v.devices 0 }) (record { 0 = get_or s (v.devices + 1) 0 }) → not b ≡ false →
         (p : List ℕ) → Typed p s → AskedFor (asks plan.handler) p s
-    settle-asked {b} e f p ty =
+    settle_asked {b} e f p ty =
         let right = by_bytes ∙ sym e ∙ not-false b f in
         let own = z.begun.sorted.own in
         let number = z.begun.planned.own_is in
@@ -297,10 +297,10 @@ module _ {s : List ℕ} {d : Details} {plan : Plan} {v : Sorted} (z : Fitted s d
           kind = subst (λ (x : Details). handles plan.handler x ≡ true) z.begun.details z.begun.planned.kind_is;
           destination = destination_is;
           devices = right;
-          body = asked-body plan.handler refl;
-          within = omega (arith, own.within, own-size);
-          own_place = subst (λ (n : ℕ). v.own ≡ place_of n s) number (own.place (needed-there z plan.row.own_val needs_own));
-          own_length = subst (λ (n : ℕ). get_or s (v.own - 1) 0 ≡ length (value_of n all)) number own-size;
-          further_place = subst (λ (n : ℕ). v.further ≡ place_of n s) z.begun.planned.further_is (z.begun.sorted.further.place (needed-there z plan.row.further needs_further));
-          transport_place = transport-placed;
+          body = asked_body plan.handler refl;
+          within = omega (arith, own.within, own_size);
+          own_place = subst (λ (n : ℕ). v.own ≡ place_of n s) number (own.place (needed_there z plan.row.own_val needs_own));
+          own_length = subst (λ (n : ℕ). get_or s (v.own - 1) 0 ≡ length (value_of n all)) number own_size;
+          further_place = subst (λ (n : ℕ). v.further ≡ place_of n s) z.begun.planned.further_is (z.begun.sorted.further.place (needed_there z plan.row.further needs_further));
+          transport_place = transport_placed;
         }

@@ -28,7 +28,7 @@ use Rattle.csim.specs.Records.{imported, unfit, cleaned, opening, quoting, shape
 use Rattle.csim.specs.Exports.{export_of, export_in, export_behind, exports}
 use Rattle.csim.specs.Logged.{is_plain, Logged, agrees, Miscounted}
 use Rattle.csim.proofs.Scans.{leads_true}
-use Rattle.csim.proofs.Shapes.{Shaping, shape_is, text-counted}
+use Rattle.csim.proofs.Shapes.{Shaping, shape_is, text_counted}
 use Rattle.csim.proofs.Decimals.{decimal_gives, decimal_only}
 use Rattle.csim.proofs.Telling.{bytes_double, first_kind, second_kind, third_kind, no_kind}
 use Rattle.csim.proofs.Characters.{Plain, Byte, each_left, each_right, cleaned_plain, plain_cleaned, decimals_plain, hex_plain, bytes_hex, hex_read}
@@ -53,7 +53,7 @@ logged_imports l g =
     let five : length s ≡ 5 + length g.bytes = omega arith in
     let size : length s - 5 ≡ length g.bytes = omega arith in
     let there = g.data_there in
-    text-counted g.count g.quoted g.proper.counting (cleaned l) g.text
+    text_counted g.count g.quoted g.proper.counting (cleaned l) g.text
     ∙ skip _ _ _ g.proper.bare ∙ ap (framed g.count) g.frame ∙ headed g.kind g.count (g.stated ∷ g.bytes)
     ∙ skip _ _ _ (le-ltb (length s) 6 (omega arith))
     ∙ two (count_is g.count (2 * length s)) (eqb g.stated (length s - 5))
@@ -76,9 +76,9 @@ module _ (l : List ℕ) where
     quoted : List ℕ
     quoted = part (10 + k) (length (cleaned l) - 1) (cleaned l)
 
-    of-kind : (j : Kind) (s : List ℕ) → leading_zero ds ≡ false → bytes_of quoted ≡ some s → leads (header_of j) s ≡ true → imports l ≡ checked j ds s → Sorted
+    of_kind : (j : Kind) (s : List ℕ) → leading_zero ds ≡ false → bytes_of quoted ≡ some s → leads (header_of j) s ≡ true → imports l ≡ checked j ds s → Sorted
     unfolding Sorted checked ds quoted
-    of-kind j s bare o lead e =
+    of_kind j s bare o lead e =
         either_way (ltb (length s) 6) (λ z. inl (e ∙ stop _ _ _ z))
         (λ z.
         let long = ltb-false (length s) 6 z in
@@ -96,18 +96,18 @@ module _ (l : List ℕ) where
           data_there = omega arith;
         }))
 
-    by-header : (o : Option (List ℕ)) → leading_zero ds ≡ false → bytes_of quoted ≡ o → imports l ≡ framed ds o → Sorted
+    by_header : (o : Option (List ℕ)) → leading_zero ds ≡ false → bytes_of quoted ≡ o → imports l ≡ framed ds o → Sorted
     unfolding Sorted framed
-    by-header none bare o e = inl e
-    by-header (some s) bare o e =
-        either_way (leads (header_of Profile) s) (λ a. of-kind Profile s bare o a (e ∙ first_kind _ _ _ a))
-        (λ a. either_way (leads (header_of Response) s) (λ b. of-kind Response s bare o b (e ∙ second_kind _ _ _ a b))
-        (λ b. either_way (leads (header_of Envelope) s) (λ c. of-kind Envelope s bare o c (e ∙ third_kind _ _ _ a b c))
+    by_header none bare o e = inl e
+    by_header (some s) bare o e =
+        either_way (leads (header_of Profile) s) (λ a. of_kind Profile s bare o a (e ∙ first_kind _ _ _ a))
+        (λ a. either_way (leads (header_of Response) s) (λ b. of_kind Response s bare o b (e ∙ second_kind _ _ _ a b))
+        (λ b. either_way (leads (header_of Envelope) s) (λ c. of_kind Envelope s bare o c (e ∙ third_kind _ _ _ a b c))
         (λ c. inl (e ∙ no_kind _ _ _ a b c))))
 
     by_count : imports l ≡ counted ds quoted → Sorted
     unfolding Sorted counted
-    by_count e = either_way (leading_zero ds) (λ z. inl (e ∙ stop _ _ _ z)) (λ z. by-header (bytes_of quoted) z refl (e ∙ skip _ _ _ z))
+    by_count e = either_way (leading_zero ds) (λ z. inl (e ∙ stop _ _ _ z)) (λ z. by_header (bytes_of quoted) z refl (e ∙ skip _ _ _ z))
 
   by_shape : (x : Shape) → x ≡ shape_of (cleaned l) → Sorted
   unfolding Sorted imports record_in shaped ds quoted

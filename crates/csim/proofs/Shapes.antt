@@ -56,8 +56,8 @@ module _ (c : List ℕ) (b : Bool) (u : b ≡ leads opening c) where
       unquoted g = sym (skip _ _ _ (ne_eqb k 0 n) ∙ stop _ _ _ (ap not (sym v) ∙ g)) ∙ behind
 
       module _ (g : not q ≡ false) where
-        pub quoted-long : 10 + k ≤ length c
-        quoted-long = let m = leads_size quoting (drop (8 + k) c) (sym v ∙ not-false q g) in let l = length-drop (8 + k) c in let o = count_within in omega arith
+        pub quoted_long : 10 + k ≤ length c
+        quoted_long = let m = leads_size quoting (drop (8 + k) c) (sym v ∙ not-false q g) in let l = length-drop (8 + k) c in let o = count_within in omega arith
 
         pub unended : length c ≤ 10 + k → Other ≡ shape_of c
         unfolding shape_behind
@@ -170,9 +170,9 @@ module _ (ds q : List ℕ) (h : Counting ds) where
     front : length (opening ++ (ds ++ quoting)) ≡ 10 + length ds
     front = let a = length-append ds quoting in omega arith
 
-    pub text-counted : record_in c ≡ counted ds q
+    pub text_counted : record_in c ≡ counted ds q
     unfolding record_in shaped is_decimal
-    text-counted =
+    text_counted =
         let k : length (digits_in (drop 8 c)) ≡ length ds = ap (λ (r : List ℕ). length (digits_in (drop 8 r))) is ∙ ap length (digits_before ds 44 (34 ∷ q ++ 34 ∷ []) h.digits refl) in
         let size = sizes in
         let room : 8 + length ds ≡ length (opening ++ ds) = omega arith in

@@ -164,14 +164,14 @@ module _ (ds s before : List ℕ) (at r : ℕ) (after : List ℕ) (a : Bool) (u 
   as_profile e w = prints_as (ap record_line (sym (first_kind _ _ _ (sym u ∙ e)))) w
 
   module _ (d : a ≡ false) (b : Bool) (v : b ≡ leads (header_of Response) s) where
-    pub as-response : b ≡ true → Prints (record_line (checked Response ds s)) r before at after → Prints (record_line (framed ds (some s))) r before at after
+    pub as_response : b ≡ true → Prints (record_line (checked Response ds s)) r before at after → Prints (record_line (framed ds (some s))) r before at after
     unfolding framed
-    as-response e w = prints_as (ap record_line (sym (second_kind _ _ _ (sym u ∙ d) (sym v ∙ e)))) w
+    as_response e w = prints_as (ap record_line (sym (second_kind _ _ _ (sym u ∙ d) (sym v ∙ e)))) w
 
     module _ (f : b ≡ false) (c : Bool) (x : c ≡ leads (header_of Envelope) s) where
-      pub as-envelope : c ≡ true → Prints (record_line (checked Envelope ds s)) r before at after → Prints (record_line (framed ds (some s))) r before at after
+      pub as_envelope : c ≡ true → Prints (record_line (checked Envelope ds s)) r before at after → Prints (record_line (framed ds (some s))) r before at after
       unfolding framed
-      as-envelope e w = prints_as (ap record_line (sym (third_kind _ _ _ (sym u ∙ d) (sym v ∙ f) (sym x ∙ e)))) w
+      as_envelope e w = prints_as (ap record_line (sym (third_kind _ _ _ (sym u ∙ d) (sym v ∙ f) (sym x ∙ e)))) w
 
       pub unheaded : c ≡ false → Prints (line_of (refused NoRecord)) r before at after → Prints (record_line (framed ds (some s))) r before at after
       unfolding framed record_line
@@ -184,13 +184,13 @@ module _ (ds q before : List ℕ) (at r : ℕ) (after : List ℕ) (b : Bool) (u 
   padded_told e w = prints_as (ap record_line (sym (stop _ _ _ (sym u ∙ e)))) w
 
   module _ (f : b ≡ false) (h : length q ≤ longest) where
-    pub frame-told : {s : List ℕ} → frame_of q ≡ some s → Prints (record_line (framed ds (some s))) r before at after → Prints (record_line (counted ds q)) r before at after
+    pub frame_told_lem : {s : List ℕ} → frame_of q ≡ some s → Prints (record_line (framed ds (some s))) r before at after → Prints (record_line (counted ds q)) r before at after
     unfolding counted
-    frame-told e w = prints_as (ap record_line (sym (skip _ _ _ (sym u ∙ f) ∙ ap (framed ds) (sym (short_frame q h) ∙ e)))) w
+    frame_told_lem e w = prints_as (ap record_line (sym (skip _ _ _ (sym u ∙ f) ∙ ap (framed ds) (sym (short_frame q h) ∙ e)))) w
 
-    pub unread-told : frame_of q ≡ none → Prints (line_of (refused NoRecord)) r before at after → Prints (record_line (counted ds q)) r before at after
+    pub unread_told : frame_of q ≡ none → Prints (line_of (refused NoRecord)) r before at after → Prints (record_line (counted ds q)) r before at after
     unfolding counted framed record_line
-    unread-told e w = prints_as (ap record_line (sym (skip _ _ _ (sym u ∙ f) ∙ ap (framed ds) (sym (short_frame q h) ∙ e)))) w
+    unread_told e w = prints_as (ap record_line (sym (skip _ _ _ (sym u ∙ f) ∙ ap (framed ds) (sym (short_frame q h) ∙ e)))) w
 
 -- a line without blanks, by its shape
 module _ (c before : List ℕ) (at r : ℕ) (after : List ℕ) where
@@ -242,19 +242,19 @@ module _ (l before : List ℕ) (at r : ℕ) (after : List ℕ) where
   within h e w = prints_as (ap csim_line (sym e) ∙ sym (skip _ _ _ (le-ltb longest (length l) h))) w
 
   module _ (h : length l ≤ longest) (a : Bool) (u : a ≡ leads (lead_of Profile) l) where
-    pub export-profile : a ≡ true → Prints (csim_line (export_behind Profile l)) r before at after → Prints (export_line l) r before at after
+    pub export_profile : a ≡ true → Prints (csim_line (export_behind Profile l)) r before at after → Prints (export_line l) r before at after
     unfolding exports
-    export-profile e w = within h (first_kind _ _ _ (sym u ∙ e)) w
+    export_profile e w = within h (first_kind _ _ _ (sym u ∙ e)) w
 
     module _ (d : a ≡ false) (b : Bool) (v : b ≡ leads (lead_of Response) l) where
-      pub export-response : b ≡ true → Prints (csim_line (export_behind Response l)) r before at after → Prints (export_line l) r before at after
+      pub export_response : b ≡ true → Prints (csim_line (export_behind Response l)) r before at after → Prints (export_line l) r before at after
       unfolding exports
-      export-response e w = within h (second_kind _ _ _ (sym u ∙ d) (sym v ∙ e)) w
+      export_response e w = within h (second_kind _ _ _ (sym u ∙ d) (sym v ∙ e)) w
 
       module _ (f : b ≡ false) (c : Bool) (x : c ≡ leads (lead_of Envelope) l) where
-        pub export-envelope : c ≡ true → Prints (csim_line (export_behind Envelope l)) r before at after → Prints (export_line l) r before at after
+        pub export_envelope : c ≡ true → Prints (csim_line (export_behind Envelope l)) r before at after → Prints (export_line l) r before at after
         unfolding exports
-        export-envelope e w = within h (third_kind _ _ _ (sym u ∙ d) (sym v ∙ f) (sym x ∙ e)) w
+        export_envelope e w = within h (third_kind _ _ _ (sym u ∙ d) (sym v ∙ f) (sym x ∙ e)) w
 
         pub unnamed : c ≡ false → Prints (line_of (refused NoRecord)) r before at after → Prints (export_line l) r before at after
         unfolding exports csim_line

@@ -101,23 +101,23 @@ module _ (r₀ : List ℕ) (held : ℕ) (s : List ℕ) (size : length r₀ ≡ g
     count = length-take-le k s b.within
 
     -- the bytes that are gathered
-    pub bring-front : take (held + k) r ≡ take held r₀ ++ take k s
-    bring-front =
+    pub bring_front : take (held + k) r ≡ take held r₀ ++ take k s
+    bring_front =
         let f = b.fits in
         let n = count in
         (λ i. take (held + sym n i) (b.is i)) ∙ take_pasted r₀ held (take k s) (omega (arith, f, n, size))
 
-    pub bring-more :
+    pub bring_more :
         (n e : ℕ) (r' : List ℕ) → stage (take (held + k) r) ≡ Lacks n → e ≡ k + min n (length s - k) → r' ≡ pasted r (held + k) (part k e s) →
         Bringing r₀ held s r' e
-    bring-more n e r' l q put =
+    bring_more n e r' l q put =
         let g = take held r₀ in
         let j = min n (length s - k) in
         let w = b.within in
         let c = count in
         let f = b.fits in
         let m : e - k ≡ j = omega (arith, q, w) in
-        let front : stage (g ++ take k s) ≡ Lacks n = ap stage (sym bring-front) ∙ l in
+        let front : stage (g ++ take k s) ≡ Lacks n = ap stage (sym bring_front) ∙ l in
         let means = subst (λ (x : Stage). Means x (g ++ take k s)) front (stage_means (g ++ take k s)) in
         let room = lacks_within (g ++ take k s) n means in
         let hl = length-append g (take k s) in
@@ -141,14 +141,14 @@ module _ (r₀ : List ℕ) (held : ℕ) (s : List ℕ) (size : length r₀ ≡ g
               ∙ (λ i. take e s ++ brought (g ++ joined i) (drop (sym q i) s));
         }
 
-    pub bring-short : length (take (held + k) r) ≤ count_at
-    bring-short =
+    pub bring_short : length (take (held + k) r) ≤ count_at
+    bring_short =
         let f = b.fits in
         let c = length-take (held + k) r in omega (arith, f, c)
 
     -- as many bytes as are lacking fit behind them
-    pub bring-fits : (n : ℕ) → stage (take (held + k) r) ≡ Lacks n → (held + k + n ≤ count_at) × (1 ≤ n)
-    bring-fits n l =
+    pub bring_fits : (n : ℕ) → stage (take (held + k) r) ≡ Lacks n → (held + k + n ≤ count_at) × (1 ≤ n)
+    bring_fits n l =
         let f = b.fits in
         let z = b.size in
         let means = subst (λ (x : Stage). Means x (take (held + k) r)) l (stage_means (take (held + k) r)) in
@@ -162,12 +162,12 @@ module _ (r₀ : List ℕ) (held : ℕ) (s : List ℕ) (size : length r₀ ≡ g
     told : brought (take held r₀) s ≡ take k s → (k ≡ length (brought (take held r₀) s)) × (r ≡ pasted r₀ held (brought (take held r₀) s))
     told e = (sym (ap length e ∙ count), b.is ∙ ap (pasted r₀ held) (sym e))
 
-    pub bring-stop : is_lacking (stage (take (held + k) r)) ≡ false → (k ≡ length (brought (take held r₀) s)) × (r ≡ pasted r₀ held (brought (take held r₀) s))
-    bring-stop e = told (ended (brought_none _ (drop k s) (ap (λ (x : List ℕ). is_lacking (stage x)) (sym bring-front) ∙ e)))
+    pub bring_stop : is_lacking (stage (take (held + k) r)) ≡ false → (k ≡ length (brought (take held r₀) s)) × (r ≡ pasted r₀ held (brought (take held r₀) s))
+    bring_stop e = told (ended (brought_none _ (drop k s) (ap (λ (x : List ℕ). is_lacking (stage x)) (sym bring_front) ∙ e)))
 
-    pub bring-end : length s ≤ k → (k ≡ length (brought (take held r₀) s)) × (r ≡ pasted r₀ held (brought (take held r₀) s))
+    pub bring_end : length s ≤ k → (k ≡ length (brought (take held r₀) s)) × (r ≡ pasted r₀ held (brought (take held r₀) s))
     unfolding brought
-    bring-end h = told (ended (ap (brought (take held r₀ ++ take k s)) (drop_of_length-le s h)))
+    bring_end h = told (ended (ap (brought (take held r₀ ++ take k s)) (drop_of_length-le s h)))
 
 -- what the bytes g come to with t of the burst s behind them
 abbrev with_taken : State → Terms → List ℕ → List ℕ → List ℕ → Fetched

@@ -117,8 +117,8 @@ module _ (r s : List ℕ) (gathers : Gathers r) where
   -- k bytes of it were brought
   module _ (k : ℕ) (r₁ : List ℕ) (n : k ≡ length (brought held s)) (put : r₁ ≡ pasted r count (brought held s)) where
     -- they stand behind those held
-    pub fetch-stands : Partial r₁ (count + k)
-    fetch-stands =
+    pub fetch_stands : Partial r₁ (count + k)
+    fetch_stands =
         let f = brought_fits in
         subst (λ (x : List ℕ). Partial x (count + k)) (sym put)
         (subst (λ (j : ℕ). Partial (pasted r count (brought held s)) (count + j)) (sym n) (stands_on r count (gathers_stand r gathers) (brought held s) f))
@@ -130,11 +130,11 @@ module _ (r s : List ℕ) (gathers : Gathers r) where
         let f = brought_fits in
         (λ i. take (count + n i) (put i)) ∙ take_pasted r count (brought held s) (omega (arith, z, f))
 
-    pub fetch-told :
+    pub fetch_told :
         (t p out t' p' r' : List ℕ) (e : Ended) (out' : List ℕ) → 255 ≤ length out →
         Leaves (concluded (shown t p) (lending (length out)) (take (count + k) r₁) [] (stage (take (count + k) r₁))) t' p' r' e out out' →
         Fetches (fetch (shown t p) (lending (length out)) held s) t' p' r' (record { ended = e; left = length s - k }) out out'
-    fetch-told t p out t' p' r' e out' h leaves =
+    fetch_told t p out t' p' r' e out' h leaves =
         let a = shown t p in
         let b = brought held s in
         let u = drop (length b) s in

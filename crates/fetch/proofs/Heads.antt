@@ -22,13 +22,13 @@ module _ (k n here : ℕ) where
   lacks_none h = sym (stop _ _ _ (eq-eqb (n - here) 0 (omega (arith, h))))
 
   module _ (h : here < n) (w : k ≤ 256) where
-    pub lacks-long : 256 - k < n - here → Overlong ≡ lacking_by k (n - here)
+    pub lacks_long : 256 - k < n - here → Overlong ≡ lacking_by k (n - here)
     unfolding lacking_by
-    lacks-long m = sym (skip _ _ _ (ne_eqb (n - here) 0 (λ e. omega (arith, e, h))) ∙ stop _ _ _ (lt-ltb 256 (k + (n - here)) (omega (arith, m, w))))
+    lacks_long m = sym (skip _ _ _ (ne_eqb (n - here) 0 (λ e. omega (arith, e, h))) ∙ stop _ _ _ (lt-ltb 256 (k + (n - here)) (omega (arith, m, w))))
 
-    pub lacks-some : n - here ≤ 256 - k → Lacks (n - here) ≡ lacking_by k (n - here)
+    pub lacks_some : n - here ≤ 256 - k → Lacks (n - here) ≡ lacking_by k (n - here)
     unfolding lacking_by
-    lacks-some m = sym (skip _ _ _ (ne_eqb (n - here) 0 (λ e. omega (arith, e, h))) ∙ skip _ _ _ (le-ltb 256 (k + (n - here)) (omega (arith, m, w))))
+    lacks_some m = sym (skip _ _ _ (ne_eqb (n - here) 0 (λ e. omega (arith, e, h))) ∙ skip _ _ _ (le-ltb 256 (k + (n - here)) (omega (arith, m, w))))
 
 -- nothing of the length is here
 pub come_none : (s : List ℕ) → length s < 2 → true ≡ length_to_come (drop 1 s)
@@ -70,18 +70,18 @@ module _ (s : List ℕ) (some : length s ≡ 0 → ⊥) where
   stage_other h = sym (begun ∙ stop _ _ _ (ap not (ne_eqb (get_or s 0 0) 0xD0 h)))
 
   module _ (first : get_or s 0 0 ≡ 0xD0) where
-    pub stage-to-come : true ≡ length_to_come (drop 1 s) → Lacks 1 ≡ stage s
-    stage-to-come e = sym (begun ∙ skip _ _ _ (ap not (eq-eqb (get_or s 0 0) 0xD0 first)) ∙ stop _ _ _ (sym e))
+    pub stage_to_come : true ≡ length_to_come (drop 1 s) → Lacks 1 ≡ stage s
+    stage_to_come e = sym (begun ∙ skip _ _ _ (ap not (eq-eqb (get_or s 0 0) 0xD0 first)) ∙ stop _ _ _ (sym e))
 
     module _ (here : false ≡ length_to_come (drop 1 s)) where
       sized : stage s ≡ stage_by (length s) (length_at (drop 1 s))
       sized = begun ∙ skip _ _ _ (ap not (eq-eqb (get_or s 0 0) 0xD0 first)) ∙ skip _ _ _ (sym here)
 
-      pub stage-unsized : length_at (drop 1 s) ≡ no_length_lem → Decided ≡ stage s
+      pub stage_unsized : length_at (drop 1 s) ≡ no_length_lem → Decided ≡ stage s
       unfolding stage_by
-      stage-unsized e = sym (sized ∙ ap (stage_by (length s)) e)
+      stage_unsized e = sym (sized ∙ ap (stage_by (length s)) e)
 
-      pub stage-sized : (n start : ℕ) → Length s 1 n start → lacking_by (length s) (n - (length s - start)) ≡ stage s
+      pub stage_sized : (n start : ℕ) → Length s 1 n start → lacking_by (length s) (n - (length s - start)) ≡ stage s
       unfolding stage_by
-      stage-sized n start l =
+      stage_sized n start l =
           ap (λ (k : ℕ). lacking_by (length s) (n - k)) (sym (length-drop start s)) ∙ sym (sized ∙ ap (stage_by (length s)) l.is)

@@ -63,10 +63,10 @@ module _ {M : Type 0} {G : M → Type 0} {c : Running} {m : M} {line chunk : Lis
     short = let n = held_size c line y in omega (arith, y.kept)
 
     -- a line that goes on, and one that is whole
-    pub feeds-open :
+    pub feeds_open :
         (out : List ℕ) (at : ℕ) → g.whole ≡ false → let d : Progress = record { running = record { begun = c.begun; len = g.len }; next = g.next; at = at } in
         Goes G view (feeds e x (piece s)) d m line' out at out × Keeps d c.len chunk from line line'
-    feeds-open out at t =
+    feeds_open out at t =
         let d : Progress = record { running = record { begun = c.begun; len = g.len }; next = g.next; at = at } in (
           subst (λ (f : Fed K). Goes G view f d m line' out at out) (sym (piece_open e x s short (sym h.whole ∙ t)))
               (record {
@@ -78,11 +78,11 @@ module _ {M : Type 0} {G : M → Type 0} {c : Running} {m : M} {line chunk : Lis
           keeps d refl,
         )
 
-    pub feeds-whole :
+    pub feeds_whole :
         (k : ℕ) (m' : M) (out : List ℕ) (at : ℕ) (out' : List ℕ) → g.whole ≡ true → Says G view (e (view c.begun m) (take g.len line')) m' k out at out' →
         let d : Progress = record { running = record { begun = true; len = 0 }; next = g.next; at = k } in
         Goes G view (feeds e x (piece s)) d m' line' out at out' × Keeps d c.len chunk from line line'
-    feeds-whole k m' out at out' t w =
+    feeds_whole k m' out at out' t w =
         let d : Progress = record { running = record { begun = true; len = 0 }; next = g.next; at = k } in
         let same = ap (λ (l : List ℕ). ended (e (view c.begun m) l)) kept_line ∙ sym (piece_whole e x s short (sym h.whole ∙ t)) in (
           subst (λ (f : Fed K). Goes G view f d m' line' out at out') same

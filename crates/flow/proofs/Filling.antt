@@ -176,8 +176,8 @@ module _ {M K : Type 0} {G : M → Type 0} {view : View M K} {e : Ends K} {x : R
     some_left : 1 ≤ length (drop next s)
     some_left = let t = length-drop next s in omega arith
 
-    pub filling-less : next < d.next
-    filling-less = let n = piece_some (drop next s) some_left in omega (arith, g.1.next)
+    pub filling_less : next < d.next
+    filling_less = let n = piece_some (drop next s) some_left in omega (arith, g.1.next)
 
     few : d.next ≤ length s
     few = let t = length-drop next s in let n = piece_few (drop next s) in omega (arith, g.1.next, w.within)
@@ -188,23 +188,23 @@ module _ {M K : Type 0} {G : M → Type 0} {view : View M K} {e : Ends K} {x : R
         (ap (λ (j : ℕ). take j s) g.1.next ∙ take-add next (length l) s ∙ ap (λ (r : List ℕ). take next s ++ r) (piece_front (drop next s)))
         ∙ fed_pieces e x (take next s) l ∙ (λ i. let f = feeds e (sym w.goes.holds i) l in record { reader = f.reader; out = q.out ++ f.out })
 
-    left-on :
+    left_on :
         read_within e (feeds e y l).reader (drop (length l) (drop next s)) (length before - at - length (feeds e y l).out)
         ≡ read_within e (reader_in view d.running m' line') (drop d.next s) (length before - d.at)
-    left-on =
+    left_on =
         let rest = drop (length l) (drop next s) in
         let room = length before - at - length (feeds e y l).out in
         let t : rest ≡ drop d.next s = drop-drop (length l) next s ∙ ap (λ (j : ℕ). drop j s) (sym g.1.next) in
         let n : room ≡ length before - d.at = omega (arith, g.0.place) in
         λ i. read_within e (sym g.0.holds i) (t i) (n i)
 
-    pub filling-more : length out' ≡ length out → Filling G view e x s before d.running m' line' out' d.next d.at
-    filling-more n =
+    pub filling_more : length out' ≡ length out → Filling G view e x s before d.running m' line' out' d.next d.at
+    filling_more n =
         let z = filling_size in
         let o = length-append q.out (feeds e y l).out in
         let b = ap (λ (f : Fed K). length f.out) both in
         let a = read_line e y (drop next s) (length before - at) some_left (omega arith) in
-        let r = left-on in
+        let r = left_on in
         let i = place_within g.0 (omega arith) in
         record {
           goes =

@@ -106,29 +106,29 @@ module _ (had : ℕ) (chunk : List ℕ) (at : ℕ) (line : List ℕ) (h : at < l
     kept_on : before_feed (drop at chunk) ≡ c ∷ before_feed rest
     kept_on = ap before_feed first ∙ (goes_on_lem c rest n).more
 
-    gathers-on :
+    gathers_on :
         (have : ℕ) (more : List ℕ) → pasted more have (fitting have rest) ≡ pasted line had (fitting had (drop at chunk)) →
         have + length (fitting have rest) ≡ had + length (fitting had (drop at chunk)) → LineReads g have chunk (at + 1) more after → LineReads g had chunk at line after
-    gathers-on have more e l w =
+    gathers_on have more e l w =
         let o = goes_on_lem c rest n in
         let k = ap (λ (s : List ℕ). length (piece s)) first ∙ ap length o.next in
         record { kept = w.kept ∙ e; len = w.len ∙ l; whole = w.whole ∙ sym (ap (member 10) first ∙ o.whole); next = omega (arith, w.next) }
 
-    gathers-full : kept_size ≤ had → LineReads g had chunk (at + 1) line after → LineReads g had chunk at line after
+    gathers_full : kept_size ≤ had → LineReads g had chunk (at + 1) line after → LineReads g had chunk at line after
     unfolding fitting
-    gathers-full k w =
+    gathers_full k w =
         let z : kept_size - had ≡ 0 = omega arith in
         let same : fitting had rest ≡ fitting had (drop at chunk) =
         ap (λ (j : ℕ). take j (before_feed rest)) z ∙ sym (ap (λ (j : ℕ). take j (before_feed (drop at chunk))) z) in
-        gathers-on had line (ap (pasted line had) same) (ap (λ (s : List ℕ). had + length s) same) w
+        gathers_on had line (ap (pasted line had) same) (ap (λ (s : List ℕ). had + length s) same) w
 
-    gathers-byte : had < kept_size → length line ≡ kept_size → LineReads g (had + 1) chunk (at + 1) (set line had c) after → LineReads g had chunk at line after
+    gathers_byte : had < kept_size → length line ≡ kept_size → LineReads g (had + 1) chunk (at + 1) (set line had c) after → LineReads g had chunk at line after
     unfolding fitting
-    gathers-byte k l w =
+    gathers_byte k l w =
         let z : kept_size - had ≡ suc (kept_size - (had + 1)) = omega arith in
         let f : fitting had (drop at chunk) ≡ c ∷ fitting (had + 1) rest = λ i. take (z i) (kept_on i) in
         let y = ap length f in
-        gathers-on (had + 1) (set line had c) (paste_one line had c (fitting (had + 1) rest) (omega arith) ∙ ap (pasted line had) (sym f)) (omega arith) w
+        gathers_on (had + 1) (set line had c) (paste_one line had c (fitting (had + 1) rest) (omega arith) ∙ ap (pasted line had) (sym f)) (omega arith) w
 
 -- what is gathered from here completes the line
 pub record Gathering (before : List ℕ) (had : ℕ) (chunk : List ℕ) (from : ℕ) (line : List ℕ) (kept at : ℕ) : Type 0 where
@@ -147,23 +147,23 @@ module _ (before : List ℕ) (had : ℕ) (chunk : List ℕ) (from : ℕ) (line :
   gathering_end h = w.completes _ _ (gathers_end kept chunk at line h)
 
   module _ (h : at < length chunk) where
-    pub gathering-feed : get_or chunk at 0 ≡ 10 → LineReads (record { len = kept; next = at + 1; whole = true }) had chunk from before line
-    gathering-feed e = w.completes _ _ (gathers_feed kept chunk at line h e)
+    pub gathering_feed : get_or chunk at 0 ≡ 10 → LineReads (record { len = kept; next = at + 1; whole = true }) had chunk from before line
+    gathering_feed e = w.completes _ _ (gathers_feed kept chunk at line h e)
 
-    pub gathering-full : (get_or chunk at 0 ≡ 10 → ⊥) → kept_size ≤ kept → Gathering before had chunk from line kept (at + 1)
-    gathering-full n k =
+    pub gathering_full : (get_or chunk at 0 ≡ 10 → ⊥) → kept_size ≤ kept → Gathering before had chunk from line kept (at + 1)
+    gathering_full n k =
         record {
           size = w.size;
           few = w.few;
           within = omega arith;
-          completes = λ g after s. w.completes g after (gathers-full kept chunk at line h n g after k s);
+          completes = λ g after s. w.completes g after (gathers_full kept chunk at line h n g after k s);
         }
 
-    pub gathering-byte : (get_or chunk at 0 ≡ 10 → ⊥) → kept < kept_size → Gathering before had chunk from (set line kept (get_or chunk at 0)) (kept + 1) (at + 1)
-    gathering-byte n k =
+    pub gathering_byte : (get_or chunk at 0 ≡ 10 → ⊥) → kept < kept_size → Gathering before had chunk from (set line kept (get_or chunk at 0)) (kept + 1) (at + 1)
+    gathering_byte n k =
         record {
           size = length-set line kept (get_or chunk at 0) ∙ w.size;
           few = omega arith;
           within = omega arith;
-          completes = λ g after s. w.completes g after (gathers-byte kept chunk at line h n g after k w.size s);
+          completes = λ g after s. w.completes g after (gathers_byte kept chunk at line h n g after k w.size s);
         }

@@ -39,27 +39,27 @@ module _ {M K : Type 0} {G : M → Type 0} {view : View M K} {e : Ends K} {x : R
     g : Fills G view e (reader_in view c m line) (drop next s) d m' line' out out'
     g = subst (λ (r : List ℕ). Fills G view e (reader_in view c m line) r d m' line' out out') (part_to_end s next) f
 
-    pub midway-within : next + d.next ≤ length s
-    midway-within =
+    pub midway_within : next + d.next ≤ length s
+    midway_within =
         let t = length-drop next s in
         let k = read_few e (reader_in view c m line) (drop next s) (length out) in
         omega (arith, g.next, w.within)
 
-    pub midway-less : next < length s → next < next + d.next
-    midway-less h =
+    pub midway_less : next < length s → next < next + d.next
+    midway_less h =
         let t = length-drop next s in
         let k = read_some e (reader_in view c m line) (drop next s) (length out) (omega arith) w.room in
         omega (arith, g.next)
 
-    pub midway-more : length out' ≡ length out → Midway G view e x s d.running m' line' out₀ out' (next + d.next)
-    midway-more n =
+    pub midway_more : length out' ≡ length out → Midway G view e x s d.running m' line' out₀ out' (next + d.next)
+    midway_more n =
         let r = take d.next (drop next s) in
         record {
           ready = g.goes.ready;
           holds =
               g.goes.holds ∙ ap (λ (y : Reader K). (feeds e y r).reader) w.holds
               ∙ ap (λ (y : Fed K). y.reader) (sym (ap (feeds e x) (take-add next d.next s) ∙ fed_pieces e x (take next s) r));
-          within = midway-within;
+          within = midway_within;
           room = omega (arith, w.room);
           size = n ∙ w.size;
         }

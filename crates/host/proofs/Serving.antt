@@ -1,5 +1,5 @@
 -- One law for the calls from C: a function over the lent record that lends the record's two arrays to a callee and passes its further parameters on, whatever they are (`Passing.antt`). What the callee returns is what it returns, and what the callee says is what it says.
---     calls-lent       the call itself: from the record's borrow, the tokens and what is passed on, to the same at what the callee leaves
+--     calls_lent       the call itself: from the record's borrow, the tokens and what is passed on, to the same at what the callee leaves
 --     hands_on         the statements up to that call
 --     Result           what such a function returns: `a_number`, uN, or `nothing`
 --     exported, code_of         its signature and its MIR, computed from the list of what is passed and the result
@@ -141,12 +141,12 @@ module _ {M : Type 1} {𝓤 : Ura M} (𝓛 : Logic 𝓤) (R : RattleType) (x : C
     Calling Γ ν μ δ ε = raw (Asks ν μ δ ε) ∷ Lender b o 𝓛 κ q γ h (ν ∷ []) (μ ∷ []) δ ε ∷ Γ
 
     -- from the one to the other, where the callee meets what it is asked and its operands can be read
-    calls-lent :
+    calls_lent :
         {K : Type 0} {E : Env 𝓤 H} {ψ : Post 𝓤 H} {xs : List Operand} {d : Place} {rest : Code} {Γ : List (Item 𝓤)} → K → (Sized h → ent 𝓤 Has Asked) →
         ((ν μ : ℕ) (δ ε : GName) → ent 𝓤 (Asks ν μ δ ε) (C f vs (Gives ν μ δ ε))) → ((ν μ : ℕ) (δ ε : GName) → Opds K 𝓛 (Calling Γ ν μ δ ε) E xs vs) →
         ((w : Val) (r : R.Denot) (l p : List ℕ) (ws : Ws) → Is R r (w ∷ []) →
         Seq K 𝓛 (Behind r w l p ws Γ) (lands C Λ E d w rest ψ)) → Seq K 𝓛 (Before Γ) (runs C Λ E (seq (call f xs d) rest) ψ)
-    calls-lent t good met reads ends =
+    calls_lent t good met reads ends =
         lends b o t (tt {0}) h (λ z ν μ δ ε.
         -- [ν; μ; the numbers, lent; the pool, lent; the lender; the tokens; what is passed on; what is told; …]
         move t (7 ∷ []) $ use1 𝓛 (raw Asked) (good z) $ move t (1 ∷ 2 ∷ 6 ∷ 3 ∷ 4 ∷ 7 ∷ 0 ∷ []) $ group t 7 $ use1 𝓛 (raw (Asks ν μ δ ε)) (asks ν μ δ ε) $
@@ -207,7 +207,7 @@ module _ {M : Type 1} {𝓤 : Ura M} (𝓛 : Logic 𝓤) (R : RattleType) (x : C
       move t (4 ∷ 2 ∷ []) $ prepares E t hs us bs.1 cs.1.1 2 (suc (suc j)) _ ps.1 ts.1.1 ok $
       -- [the parameters; the further locals; the ledger; the pool; the session; obs; …]
       move t (5 ∷ 6 ∷ 7 ∷ 8 ∷ 9 ∷ 10 ∷ 4 ∷ 0 ∷ 2 ∷ 3 ∷ 1 ∷ []) $
-      calls-lent 𝓛 R x C Λ fm f (v₁ b o ∷ v₂ b o ∷ vals hs us) t good met
+      calls_lent 𝓛 R x C Λ fm f (v₁ b o ∷ v₂ b o ∷ vals hs us) t good met
       (λ ν μ δ ε. and_then t (load t (from_at t ts.0 (stop t)) (look t 4 refl)) (and_then t (load t (from_at t ts.1.0 (stop t)) (look t 5 refl))
       (reads_operands E t hs us bs.1 cs.1.1 2 (suc (suc j)) ps.1 ts.1.1
       (reads_all _ 𝓛 _ t 3 (tys hs) bs.1 (vals hs us) refl) (reads_all _ 𝓛 _ t 6 (temps hs) cs.1.1 (temp_vals hs us) refl))))

@@ -177,20 +177,20 @@ module _ (s : List ℕ) (r : Spoken) (t : call_of s ≡ call_spoken r s) where
     lent : (c : ℕ → Call) (k : ℕ) → k ≤ grant_cap → call_of s ≡ some (c k) → call_of s ≡ some (c (length (take k z)))
     lent c k f e = e ∙ ap (λ (j : ℕ). some (c j)) (front_size k z h f)
 
-    pub command-spoken : r ≡ Command → call_of s ≡ some (commanding (lending (length (take response_cap z))) s)
+    pub command_spoken : r ≡ Command → call_of s ≡ some (commanding (lending (length (take response_cap z))) s)
     unfolding call_spoken
-    command-spoken e = lent (λ (k : ℕ). commanding (lending k) s) response_cap (omega arith) (spoken Command e)
+    command_spoken e = lent (λ (k : ℕ). commanding (lending k) s) response_cap (omega arith) (spoken Command e)
 
-    pub arrival-spoken : (n : ChannelNumber) → r ≡ Arrival n → call_of s ≡ some (arriving (length (take event_cap z)) n (part 2 (length s) s))
+    pub arrival_spoken : (n : ChannelNumber) → r ≡ Arrival n → call_of s ≡ some (arriving (length (take event_cap z)) n (part 2 (length s) s))
     unfolding call_spoken
-    arrival-spoken n e =
+    arrival_spoken n e =
         lent (λ (k : ℕ). arriving k n (part 2 (length s) s)) event_cap (omega arith)
         (spoken (Arrival n) e ∙ ap (λ (t : List ℕ). some (arriving event_cap n t)) (sym (part_to_end s 2)))
 
-    pub take-spoken : (n : ChannelNumber) (k : ℕ) → r ≡ Take n k → call_of s ≡ some (taking_out (length (take k z)) n)
+    pub take_spoken : (n : ChannelNumber) (k : ℕ) → r ≡ Take n k → call_of s ≡ some (taking_out (length (take k z)) n)
     unfolding call_spoken
-    take-spoken n k e = lent (λ (j : ℕ). taking_out j n) k (take_bounded n k e) (spoken (Take n k) e)
+    take_spoken n k e = lent (λ (j : ℕ). taking_out j n) k (take_bounded n k e) (spoken (Take n k) e)
 
-    pub drop-spoken : (n : ChannelNumber) → r ≡ Drop n → call_of s ≡ some (dropping_link (length (take event_cap z)) n)
+    pub drop_spoken : (n : ChannelNumber) → r ≡ Drop n → call_of s ≡ some (dropping_link (length (take event_cap z)) n)
     unfolding call_spoken
-    drop-spoken n e = lent (λ (k : ℕ). dropping_link k n) event_cap (omega arith) (spoken (Drop n) e)
+    drop_spoken n e = lent (λ (k : ℕ). dropping_link k n) event_cap (omega arith) (spoken (Drop n) e)

@@ -106,13 +106,13 @@ module _ (t p : List ℕ) (g : GoodIn t p) (s reply : List ℕ) where
     unfolding answer_to
     enveloped = call_replies t p g (some (timing (envelope (length before)))) u p e (timing (envelope (length before))) before after w refl h
 
-    pub envelope-one : length s ≡ 1 → length before ≡ 14 → Replies (envelope_for a s) u p e (after ++ w)
+    pub envelope_one : length s ≡ 1 → length before ≡ 14 → Replies (envelope_for a s) u p e (after ++ w)
     unfolding envelope_for
-    envelope-one q l = replies_as (stop _ _ _ (eq-eqb (length s) 1 q) ∙ ap (λ (n : ℕ). step a (timing (envelope n))) (sym l)) enveloped
+    envelope_one q l = replies_as (stop _ _ _ (eq-eqb (length s) 1 q) ∙ ap (λ (n : ℕ). step a (timing (envelope n))) (sym l)) enveloped
 
-    pub envelope-sized : length s ≡ 2 → length before ≡ get_or s 1 0 → Replies (envelope_for a s) u p e (after ++ w)
+    pub envelope_sized : length s ≡ 2 → length before ≡ get_or s 1 0 → Replies (envelope_for a s) u p e (after ++ w)
     unfolding envelope_for
-    envelope-sized q l =
+    envelope_sized q l =
         replies_as (skip _ _ _ (ne_eqb (length s) 1 (omega (arith, q))) ∙ stop _ _ _ (eq-eqb (length s) 2 q) ∙ ap (λ (n : ℕ). step a (timing (envelope n))) (sym l)) enveloped
 
   pub envelope_none : (length s ≡ 1 → ⊥) → (length s ≡ 2 → ⊥) → Replies (envelope_for a s) t p (Refused Unreadable) reply

@@ -87,8 +87,8 @@ module _ {s : List ℕ} {at sized kept next : ℕ} (st : Stands s at sized kept 
         let k = kept_size_lem in
         omega arith
 
-    pub tag-put : (at ≤ sized) × (sized ≤ length s) × (to + (sized - at) ≤ length out)
-    tag-put = (omega (arith, st.tagged), omega (arith, st.from, st.behind, st.within), let h = object_room in omega arith)
+    pub tag_put : (at ≤ sized) × (sized ≤ length s) × (to + (sized - at) ≤ length out)
+    tag_put = (omega (arith, st.tagged), omega (arith, st.from, st.behind, st.within), let h = object_room in omega arith)
 
     pub kept_put : {middle : List ℕ} → middle ≡ pasted out to (part at sized s) → (kept ≤ next) × (next ≤ length s) × (to + (sized - at) + (next - kept) ≤ length middle)
     kept_put p =

@@ -104,21 +104,21 @@ module _ {s : List ℕ} {said kept start : ℕ} (h : Length s outer_place said k
   some_objects k = (mend_few start (drop start s)).some ∙ sym (empty_length m.bytes) ∙ ne_eqb (length m.bytes) 0 (omega arith)
 
   module _ {count : ℕ} {zeros buffer : List ℕ} (p : Prints m.bytes count zeros 0 buffer) where
-    pub none-left-told : {r : ℕ} {before : List ℕ} {at : ℕ} {after : List ℕ} → count ≡ 0 → Prints (line_of (refused Unmendable)) r before at after → Prints (mending_line (mends_behind (head_at s start))) r before at after
+    pub none_left_told : {r : ℕ} {before : List ℕ} {at : ℕ} {after : List ℕ} → count ≡ 0 → Prints (line_of (refused Unmendable)) r before at after → Prints (mending_line (mends_behind (head_at s start))) r before at after
     unfolding mending_line
-    none-left-told e w =
+    none_left_told e w =
         let empty = (mend_few start (drop start s)).some ∙ sym (empty_length m.bytes) ∙ eq-eqb (length m.bytes) 0 (omega (arith, p.place)) in
         prints_as (ap mending_line (sym (behind_is ∙ stop _ _ _ empty))) w
 
-    pub too-long-told : {r : ℕ} {before : List ℕ} {at : ℕ} {after : List ℕ} → objects_cap < count → Prints (line_of (refused Unmendable)) r before at after → Prints (mending_line (mends_behind (head_at s start))) r before at after
+    pub too_long_told : {r : ℕ} {before : List ℕ} {at : ℕ} {after : List ℕ} → objects_cap < count → Prints (line_of (refused Unmendable)) r before at after → Prints (mending_line (mends_behind (head_at s start))) r before at after
     unfolding mending_line
-    too-long-told k w =
+    too_long_told k w =
         let n = long_bytes (length m.bytes) (omega (arith, p.place)) in
         let long = lt-ltb 256 (length (framing m.bytes)) (omega (arith, framing_size, n, p.place)) in
         prints_as (ap mending_line (sym (behind_is ∙ skip _ _ _ (some_objects (omega (arith, p.place))) ∙ stop _ _ _ long))) w
 
-    pub objects-are : take count buffer ≡ m.bytes
-    objects-are = front_is zeros buffer m.bytes count p.stands p.place
+    pub objects_are : take count buffer ≡ m.bytes
+    objects_are = front_is zeros buffer m.bytes count p.stands p.place
 
     module _ (some : count ≡ 0 → ⊥) (few : count ≤ objects_cap) where
       size : length (framing m.bytes) ≤ 256
@@ -133,30 +133,30 @@ module _ {s : List ℕ} {said kept start : ℕ} (h : Length s outer_place said k
           ap mending_line (behind_is ∙ skip _ _ _ (some_objects (omega (arith, p.place, some))) ∙ skip _ _ _ (le-ltb 256 (length (framing m.bytes)) size))
           ∙ ap (λ (x : List ℕ). (f ++ x) ++ 10 ∷ []) (text_append cs m.changes ∙ ap (λ (x : List ℕ). x ++ changes_text m.changes) (outer_is (length m.bytes) ∙ ap (outer_text said kept) n))
           ∙ ap (λ (x : List ℕ). x ++ 10 ∷ []) (sym (append_assoc f (outer_text said kept count) (changes_text m.changes)))
-          ∙ ap (λ (x : List ℕ). ((hex (framing x) ++ outer_text said kept count) ++ changes_text m.changes) ++ 10 ∷ []) (sym objects-are)
+          ∙ ap (λ (x : List ℕ). ((hex (framing x) ++ outer_text said kept count) ++ changes_text m.changes) ++ 10 ∷ []) (sym objects_are)
 
       -- how many characters each part has at most; there are at most 127 changes of objects
-      pub frame-few : length (hex (framing (take count buffer))) ≤ frame_room
-      frame-few =
-          let e = ap (λ (x : List ℕ). length (hex (framing x))) objects-are ∙ hex_size (framing m.bytes) in
+      pub frame_few : length (hex (framing (take count buffer))) ≤ frame_room
+      frame_few =
+          let e = ap (λ (x : List ℕ). length (hex (framing x))) objects_are ∙ hex_size (framing m.bytes) in
           let z = size in
           omega arith
 
-      pub outer-few : length (outer_text said kept count) ≤ change_cap
-      outer-few = branch (λ (cs : List Change). length (changes_text cs) ≤ change_cap) (eqb said count && eqb kept outer_place) [] (outer_length ∷ []) (λ _. let z = text_few [] in omega arith) (λ _. let z = text_few (outer_length ∷ []) in omega arith)
+      pub outer_few : length (outer_text said kept count) ≤ change_cap
+      outer_few = branch (λ (cs : List Change). length (changes_text cs) ≤ change_cap) (eqb said count && eqb kept outer_place) [] (outer_length ∷ []) (λ _. let z = text_few [] in omega arith) (λ _. let z = text_few (outer_length ∷ []) in omega arith)
 
-      pub changes-few : length (changes_text m.changes) ≤ 762
-      changes-few =
+      pub changes_few : length (changes_text m.changes) ≤ 762
+      changes_few =
           let z = text_few m.changes in
           omega (arith, (mend_few start (drop start s)).changes, p.place)
 
-      pub mended-told :
+      pub mended_told :
           {x y z before after : List ℕ} {at j k l r : ℕ} → at + room ≤ length before → Prints (hex (framing (take count buffer))) j before at x → Prints (outer_text said kept count) k x j y →
           Prints (changes_text m.changes) l y k z → Prints (10 ∷ []) r z l after → Prints (mending_line (mends_behind (head_at s start))) r before at after
-      mended-told h a b c d =
-          let f = frame-few in
-          let o = outer-few in
-          let g = changes-few in
+      mended_told h a b c d =
+          let f = frame_few in
+          let o = outer_few in
+          let g = changes_few in
           let first = length-append (hex (framing (take count buffer))) (outer_text said kept count) in
           let second = length-append (hex (framing (take count buffer)) ++ outer_text said kept count) (changes_text m.changes) in
           prints_as (sym line_is) (prints_after (prints_after (prints_after a b (omega arith)) c (omega arith)) d (omega arith))
@@ -179,29 +179,29 @@ module _ (s : List ℕ) where
   blank_told e w = prints_as (sym (stop _ _ _ (sym (empty_length s) ∙ eq-eqb (length s) 0 e))) w
 
   module _ (n : length s ≡ 0 → ⊥) where
-    by-head : (x : Head) → outer_head s ≡ x → frame_line (some s) ≡ mending_line (mends_behind x)
+    by_head : (x : Head) → outer_head s ≡ x → frame_line (some s) ≡ mending_line (mends_behind x)
     unfolding frame_line mends
-    by-head x e = skip _ _ _ (sym (empty_length s) ∙ ne_eqb (length s) 0 n) ∙ ap (λ (y : Head). mending_line (mends_behind y)) e
+    by_head x e = skip _ _ _ (sym (empty_length s) ∙ ne_eqb (length s) 0 n) ∙ ap (λ (y : Head). mending_line (mends_behind y)) e
 
     pub other_told :
         {r : ℕ} {before : List ℕ} {at : ℕ} {after : List ℕ} → (get_or s 0 0 ≡ 0xD0 → ⊥) → Prints (line_of (refused Unmendable)) r before at after → Prints (frame_line (some s)) r before at after
     unfolding mending_line mends_behind
-    other_told k w = prints_as (sym (by-head _ (headless s n k))) w
+    other_told k w = prints_as (sym (by_head _ (headless s n k))) w
 
     module _ (e : get_or s 0 0 ≡ 0xD0) where
-      pub unsized-told :
+      pub unsized_told :
           {r : ℕ} {before : List ℕ} {at : ℕ} {after : List ℕ} → loose_length_at (drop outer_place s) ≡ no_length_lem → Prints (line_of (refused Unmendable)) r before at after →
           Prints (frame_line (some s)) r before at after
       unfolding mending_line mends_behind head_of
-      unsized-told k w = prints_as (sym (by-head _ (headed s n e ∙ ap (head_of (drop outer_place s)) k))) w
+      unsized_told k w = prints_as (sym (by_head _ (headed s n e ∙ ap (head_of (drop outer_place s)) k))) w
 
-      pub sized-told :
+      pub sized_told :
           {said kept start r : ℕ} {before : List ℕ} {at : ℕ} {after : List ℕ} → Length s outer_place said kept start → Prints (mending_line (mends_behind (head_at s start))) r before at after →
           Prints (frame_line (some s)) r before at after
       unfolding head_of
-      sized-told {start = start} h w =
+      sized_told {start = start} h w =
           prints_as
           (sym
-          (by-head _
+          (by_head _
           (headed s n e ∙ ap (head_of (drop outer_place s)) h.is
           ∙ ap (λ (x : List ℕ). head x (drop start s)) (front_part s outer_place start (omega (arith, h.from, h.behind)) h.within)))) w

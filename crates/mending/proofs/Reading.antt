@@ -40,9 +40,9 @@ module _ (s : List ℕ) (at : ℕ) where
     one_byte : part at (at + 1) s ≡ b ∷ []
     one_byte = let e : at + 1 - at ≡ 1 = omega arith in (λ i. take (e i) (cons_at s at h i))
 
-    pub length-short : b < 0x80 → Length s at b at (at + 1)
+    pub length_short : b < 0x80 → Length s at b at (at + 1)
     unfolding loose_length_at length_bytes is_overlong
-    length-short few =
+    length_short few =
         record {
           is = ap loose_length_at (cons_at s at h) ∙ stop _ _ _ (lt-ltb b 0x80 few);
           shortest = one_byte ∙ sym (stop _ _ _ (lt-ltb b 0x80 few));
@@ -53,32 +53,32 @@ module _ (s : List ℕ) (at : ℕ) where
         }
 
     module _ (many : 0x80 ≤ b) where
-      pub length-other : (b ≡ 0x81 → ⊥) → loose_length_at (drop at s) ≡ no_length_lem
+      pub length_other : (b ≡ 0x81 → ⊥) → loose_length_at (drop at s) ≡ no_length_lem
       unfolding loose_length_at
-      length-other n = ap loose_length_at (cons_at s at h) ∙ skip _ _ _ (le-ltb b 0x80 many) ∙ skip _ _ _ (ne_eqb b 0x81 n)
+      length_other n = ap loose_length_at (cons_at s at h) ∙ skip _ _ _ (le-ltb b 0x80 many) ∙ skip _ _ _ (ne_eqb b 0x81 n)
 
       module _ (e : b ≡ 0x81) where
-        by-second : loose_length_at (drop at s) ≡ any_length (drop (at + 1) s)
+        by_second : loose_length_at (drop at s) ≡ any_length (drop (at + 1) s)
         unfolding loose_length_at
-        by-second = ap loose_length_at (cons_at s at h) ∙ skip _ _ _ (le-ltb b 0x80 many) ∙ stop _ _ _ (eq-eqb b 0x81 e)
+        by_second = ap loose_length_at (cons_at s at h) ∙ skip _ _ _ (le-ltb b 0x80 many) ∙ stop _ _ _ (eq-eqb b 0x81 e)
 
         pub second_none : length s ≤ at + 1 → loose_length_at (drop at s) ≡ no_length_lem
         unfolding any_length
-        second_none n = by-second ∙ ap any_length (drop_of_length-le s n)
+        second_none n = by_second ∙ ap any_length (drop_of_length-le s n)
 
         module _ (n : at + 1 < length s) where
           said : loose_length_at (drop at s) ≡ len c (drop (at + 1 + 1) s)
           unfolding any_length
-          said = by-second ∙ ap any_length (cons_at s (at + 1) n)
+          said = by_second ∙ ap any_length (cons_at s (at + 1) n)
 
           two_bytes : part at (at + 1 + 1) s ≡ 0x81 ∷ c ∷ []
           two_bytes =
               let k : at + 1 + 1 - at ≡ 2 = omega arith in
               (λ i. take (k i) ((cons_at s at h ∙ (λ j. e j ∷ cons_at s (at + 1) n j)) i))
 
-          pub long-short : c < 0x80 → Length s at c (at + 1) (at + 1 + 1)
+          pub long_short : c < 0x80 → Length s at c (at + 1) (at + 1 + 1)
           unfolding length_bytes is_overlong
-          long-short few =
+          long_short few =
               let k : at + 1 + 1 - (at + 1) ≡ 1 = omega arith in
               record {
                 is = said;
@@ -154,14 +154,14 @@ module _ (s : List ℕ) (at : ℕ) where
         ap (loose_tag (drop at s)) t.is
         ∙ ap (λ (x : List ℕ). loose_value x number flag (drop sized s) (loose_length_at (drop sized s))) (front_part s at sized (omega (arith, t.behind)) t.within)
 
-    pub object-unsized : loose_length_at (drop sized s) ≡ no_length_lem → mend_from at (drop at s) ≡ cut_from at
+    pub object_unsized : loose_length_at (drop sized s) ≡ no_length_lem → mend_from at (drop at s) ≡ cut_from at
     unfolding loose_value
-    object-unsized e = at_fault here (by_length ∙ ap (loose_value (part at sized s) number flag (drop sized s)) e)
+    object_unsized e = at_fault here (by_length ∙ ap (loose_value (part at sized s) number flag (drop sized s)) e)
 
     module _ {n kept start : ℕ} (l : Length s sized n kept start) where
-      pub object-cut : length s - start < n → mend_from at (drop at s) ≡ cut_from at
+      pub object_cut : length s - start < n → mend_from at (drop at s) ≡ cut_from at
       unfolding loose_value
-      object-cut k =
+      object_cut k =
           at_fault here
           (by_length ∙ ap (loose_value (part at sized s) number flag (drop sized s)) l.is
           ∙ stop _ _ _ (lt-ltb (length (drop start s)) n (let e = length-drop start s in omega arith)))
@@ -173,9 +173,9 @@ module _ (s : List ℕ) (at : ℕ) where
         abbrev read : Object
         read = record { number = number; flag = flag; value = value }
 
-        is-loose : loose_at (drop at s) ≡ loose (part at sized s) (part sized start s) read (drop (start + n) s)
+        is_loose : loose_at (drop at s) ≡ loose (part at sized s) (part sized start s) read (drop (start + n) s)
         unfolding loose_value
-        is-loose =
+        is_loose =
             let e : n ≡ start + n - start = omega arith in
             let fp = front_part s sized start (omega (arith, l.from, l.behind)) l.within in
             by_length ∙ ap (loose_value (part at sized s) number flag (drop sized s)) l.is
@@ -188,8 +188,8 @@ module _ (s : List ℕ) (at : ℕ) where
         tag_size : at + length (part at sized s) ≡ sized
         tag_size = let p = length_part at sized s t.within in omega (arith, t.behind)
 
-        object-size : at + length (part at sized s ++ (part sized start s ++ value)) ≡ start + n
-        object-size =
+        object_size_lem : at + length (part at sized s ++ (part sized start s ++ value)) ≡ start + n
+        object_size_lem =
             let a = length-append (part at sized s) (part sized start s ++ value) in
             let b = length-append (part sized start s) value in
             let p = length_part sized start s l.within in
@@ -197,22 +197,22 @@ module _ (s : List ℕ) (at : ℕ) where
             let y = tag_size in
             omega (arith, l.from, l.behind)
 
-        mends-to : mend_from at (drop at s) ≡ with_object at (part at sized s) (part sized start s) read (mend_from (start + n) (drop (start + n) s))
-        mends-to =
+        mends_to : mend_from at (drop at s) ≡ with_object at (part at sized s) (part sized start s) read (mend_from (start + n) (drop (start + n) s))
+        mends_to =
             let c = cons_at s at here in
-            ap (mend_from at) c ∙ mend_object at (get_or s at 0) (drop (at + 1) s) _ _ _ _ (ap loose_at (sym c) ∙ is-loose)
-            ∙ ap (λ (x : ℕ). with_object at (part at sized s) (part sized start s) read (mend_from x (drop (start + n) s))) object-size
+            ap (mend_from at) c ∙ mend_object at (get_or s at 0) (drop (at + 1) s) _ _ _ _ (ap loose_at (sym c) ∙ is_loose)
+            ∙ ap (λ (x : ℕ). with_object at (part at sized s) (part sized start s) read (mend_from x (drop (start + n) s))) object_size_lem
 
-        pub object-stands : Stands s at sized kept (start + n)
+        pub object_stands : Stands s at sized kept (start + n)
         unfolding with_object
-        object-stands =
+        object_stands =
             record {
               bytes =
-                  ap (λ (m : Mended). m.bytes) mends-to
+                  ap (λ (m : Mended). m.bytes) mends_to
                   ∙ ap (λ (x : List ℕ). (part at sized s ++ x) ++ (mend_from (start + n) (drop (start + n) s)).bytes)
                   (ap (λ (x : List ℕ). x ++ value) (ap length_bytes size ∙ sym l.shortest) ∙ part_join s kept start (start + n) (omega (arith, l.behind)) (omega arith));
               changes =
-                  ap (λ (m : Mended). m.changes) mends-to
+                  ap (λ (m : Mended). m.changes) mends_to
                   ∙ (λ i. (l.overlong i ⇒ shortened (tag_size i) ∷ [] else []) ++ (mend_from (start + n) (drop (start + n) s)).changes);
               tagged = t.behind;
               from = l.from;

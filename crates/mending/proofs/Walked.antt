@@ -66,24 +66,24 @@ module _
     (ends : (place : ℕ) → P place [] none_left)
     (cuts : (place b : ℕ) (s : List ℕ) → P place (b ∷ s) (cut_from place))
     (more : (place : ℕ) (s t l : List ℕ) (o : Object) (r : List ℕ) (m : Mended) → LooseParts s t l o r → P (place + length (t ++ (l ++ o.value))) r m → P place s (with_object place t l o m)) where
-  on-holds :
+  on_holds :
       (place b : ℕ) (s : List ℕ) (x : LooseRead) (k : ℕ → List ℕ → Mended) → LooseIs (b ∷ s) x → ((p : ℕ) (r : List ℕ) → length r ≤ length s → P p r (k p r)) →
       P place (b ∷ s) (mend_on place x k)
   unfolding mend_on
-  on-holds place b s fault k h f = cuts place b s
-  on-holds place b s (loose t l o r) k h f = more place (b ∷ s) t l o r _ h (f _ r (shorter h))
+  on_holds place b s fault k h f = cuts place b s
+  on_holds place b s (loose t l o r) k h f = more place (b ∷ s) t l o r _ h (f _ r (shorter h))
 
-  up-to-holds : (n place : ℕ) (s : List ℕ) → length s ≤ n → P place s (mend_up_to n place s)
+  up_to_holds : (n place : ℕ) (s : List ℕ) → length s ≤ n → P place s (mend_up_to n place s)
   unfolding mend_up_to
-  up-to-holds zero place [] h = ends place
-  up-to-holds zero place (b ∷ s) h = absurd (not-suc-le-zero h)
-  up-to-holds (suc n) place [] h = ends place
-  up-to-holds (suc n) place (b ∷ s) h =
-      on-holds place b s (loose_at (b ∷ s)) (mend_up_to n) (loose_parts (b ∷ s)) (λ p r l. up-to-holds n p r (omega (arith, le_of_suc-le-suc h)))
+  up_to_holds zero place [] h = ends place
+  up_to_holds zero place (b ∷ s) h = absurd (not-suc-le-zero h)
+  up_to_holds (suc n) place [] h = ends place
+  up_to_holds (suc n) place (b ∷ s) h =
+      on_holds place b s (loose_at (b ∷ s)) (mend_up_to n) (loose_parts (b ∷ s)) (λ p r l. up_to_holds n p r (omega (arith, le_of_suc-le-suc h)))
 
   pub holds : (place : ℕ) (s : List ℕ) → P place s (mend_from place s)
   unfolding mend_from
-  holds place s = up-to-holds (length s) place s (omega arith)
+  holds place s = up_to_holds (length s) place s (omega arith)
 
 -- the walk passes what comes out, and meets the objects
 pub mend_walks : (place : ℕ) (s : List ℕ) → walk (mend_from place s).bytes ≡ record { objects = (mend_from place s).objects; ending = End; rest = [] }

@@ -68,8 +68,8 @@ module _ (a : State) (buffer : ℕ) (s : List ℕ) where
     unfolding reading meant_by
     unframed f = read ∙ ap meant (stop _ _ _ (ap not f))
 
-    pub framed-obeyed : (start : ℕ) → FramedAt s start → command a terms s ≡ obeyed a (part start (length s) s)
+    pub framed_obeyed : (start : ℕ) → FramedAt s start → command a terms s ≡ obeyed a (part start (length s) s)
     unfolding reading obeyed
-    framed-obeyed start f =
+    framed_obeyed start f =
         let rest = take_all (length s - start) (drop start s) (omega (arith, length-drop start s)) in
         read ∙ ap meant (skip _ _ _ (ap not f.is) ∙ ap (read_objects a.profile) (f.objects ∙ sym rest))

@@ -84,58 +84,58 @@ module _ (t p s : List ℕ) (q : Request) (g : GoodIn t p) (h : AskedFor q (part
     abbrev obeys : Type 0
     obeys = Answers (obeyed a s) u r (Wrote k) before after
 
-    as-body : (b : Body) (x : Reply) → c.body ≡ b → own a c b q.ignored ≡ x → ends x → obeys
-    as-body b x e f w = as_obeyed (obeyed a s) (told d x) u r (Wrote k) before after (asked_told x (ap (λ (y : Body). own a c y q.ignored) e ∙ f)) w
+    as_body : (b : Body) (x : Reply) → c.body ≡ b → own a c b q.ignored ≡ x → ends x → obeys
+    as_body b x e f w = as_obeyed (obeyed a s) (told d x) u r (Wrote k) before after (asked_told x (ap (λ (y : Body). own a c y q.ignored) e ∙ f)) w
 
-    pub bare-answers : q.handler ≡ Bare → ends (reply a (telling a d.kind q.ignored)) → obeys
+    pub bare_answers : q.handler ≡ Bare → ends (reply a (telling a d.kind q.ignored)) → obeys
     unfolding own
-    bare-answers e = as-body (bare d.kind) _ (body_is Bare e) refl
+    bare_answers e = as_body (bare d.kind) _ (body_is Bare e) refl
 
-    pub events-answers : q.handler ≡ EventList → ends (listing a (requests.own q s) q.ignored) → obeys
+    pub events_answers : q.handler ≡ EventList → ends (listing a (requests.own q s) q.ignored) → obeys
     unfolding own
-    events-answers e = as-body (event_list (requests.own q s)) _ (body_is EventList e) refl
+    events_answers e = as_body (event_list (requests.own q s)) _ (body_is EventList e) refl
 
-    pub open-answers :
+    pub open_answers :
         q.handler ≡ Open → {size protocol : ℕ} → size ≡ size_at s q.further → protocol ≡ protocol_at s q.transport →
         ends (opening a d.qualifier (bearer_in (requests.own q s)) size protocol q.ignored) → obeys
     unfolding own
-    open-answers e f g =
+    open_answers e f g =
         let o = body_is Open e in
-        as-body (open_channel (bearer_in (requests.own q s)) (size_at s q.further) o.level) _ o.is
+        as_body (open_channel (bearer_in (requests.own q s)) (size_at s q.further) o.level) _ o.is
         (λ i. opening a (qualifier_is i) (bearer_in (requests.own q s)) (sym f i) ((o.protocol ∙ sym g) i) q.ignored)
 
     -- a timer, and at a start its time
-    pub start-answers :
+    pub start_answers :
         q.handler ≡ StartTimer → {v : List ℕ} → v ≡ part q.further (q.further + 3) s → ends (starting_timer a (get_or s q.start 0) v q.ignored) → obeys
     unfolding own
-    start-answers e f =
-        as-body (start_timer (get_or s q.start 0) (part q.further (q.further + 3) s)) _ (body_is StartTimer e).0
+    start_answers e f =
+        as_body (start_timer (get_or s q.start 0) (part q.further (q.further + 3) s)) _ (body_is StartTimer e).0
         (ap (λ (v : List ℕ). starting_timer a (get_or s q.start 0) v q.ignored) (sym f))
 
-    pub manage-answers : q.handler ≡ ManageTimer → ends (managing_timer a d.qualifier (get_or s q.start 0) q.ignored) → obeys
+    pub manage_answers : q.handler ≡ ManageTimer → ends (managing_timer a d.qualifier (get_or s q.start 0) q.ignored) → obeys
     unfolding own
-    manage-answers e =
-        as-body (manage_timer (get_or s q.start 0)) _ (body_is ManageTimer e).0 (λ i. managing_timer a (qualifier_is i) (get_or s q.start 0) q.ignored)
+    manage_answers e =
+        as_body (manage_timer (get_or s q.start 0)) _ (body_is ManageTimer e).0 (λ i. managing_timer a (qualifier_is i) (get_or s q.start 0) q.ignored)
 
     -- a command to the channel that its destination names
     module _ (n : ChannelNumber) (v : n ≡ channel_of q.destination) where
       number_is : channel_of c.destination ≡ n
       number_is = ap channel_of h.destination ∙ sym v
 
-      pub close-answers : q.handler ≡ Close → ends (closing a n q.ignored) → obeys
+      pub close_answers : q.handler ≡ Close → ends (closing a n q.ignored) → obeys
       unfolding own
-      close-answers e = as-body close_channel _ (body_is Close e) (ap (λ (m : ChannelNumber). closing a m q.ignored) number_is)
+      close_answers e = as_body close_channel _ (body_is Close e) (ap (λ (m : ChannelNumber). closing a m q.ignored) number_is)
 
-      pub receive-answers : q.handler ≡ Receive → ends (receiving a n (get_or s q.start 0) q.ignored) → obeys
+      pub receive_answers : q.handler ≡ Receive → ends (receiving a n (get_or s q.start 0) q.ignored) → obeys
       unfolding own
-      receive-answers e =
-          as-body (receive_data (get_or s q.start 0)) _ (body_is Receive e).0
+      receive_answers e =
+          as_body (receive_data (get_or s q.start 0)) _ (body_is Receive e).0
           (ap (λ (m : ChannelNumber). receiving a m (get_or s q.start 0) q.ignored) number_is)
 
-      pub send-answers : q.handler ≡ Send → ends (sending a d.qualifier n (requests.own q s) q.ignored) → obeys
+      pub send_answers : q.handler ≡ Send → ends (sending a d.qualifier n (requests.own q s) q.ignored) → obeys
       unfolding own
-      send-answers e =
-          as-body (send_data (requests.own q s)) _ (body_is Send e) (λ i. sending a (qualifier_is i) (number_is i) (requests.own q s) q.ignored)
+      send_answers e =
+          as_body (send_data (requests.own q s)) _ (body_is Send e) (λ i. sending a (qualifier_is i) (number_is i) (requests.own q s) q.ignored)
 
   pub one_byte : q.handler ≡ Receive → q.start + 1 ≤ length s
   one_byte e = omega (arith, h.within, (body_is Receive e).1)

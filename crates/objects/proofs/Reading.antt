@@ -45,16 +45,16 @@ module _ (s : List ℕ) (at : ℕ) where
     abbrev number : ℕ
     number = 256 * (b % 0x80) + get_or s (at + 1) 0
 
-    both-there : long_tag (drop at s) ≡ long_tag (b ∷ get_or s (at + 1) 0 ∷ drop (at + 1 + 1) s)
-    both-there = ap long_tag (cons_at s at (omega arith) ∙ ap (λ (l : List ℕ). b ∷ l) (cons_at s (at + 1) k))
+    both_there : long_tag (drop at s) ≡ long_tag (b ∷ get_or s (at + 1) 0 ∷ drop (at + 1 + 1) s)
+    both_there = ap long_tag (cons_at s at (omega arith) ∙ ap (λ (l : List ℕ). b ∷ l) (cons_at s (at + 1) k))
 
-    pub long-zero : number ≡ 0 → long_tag (drop at s) ≡ no_tag
+    pub long_zero : number ≡ 0 → long_tag (drop at s) ≡ no_tag
     unfolding long_tag
-    long-zero e = both-there ∙ stop _ _ _ (eq-eqb number 0 e)
+    long_zero e = both_there ∙ stop _ _ _ (eq-eqb number 0 e)
 
-    pub long-read : (number ≡ 0 → ⊥) → LongTag s at number (leb 0x80 b) (at + 1 + 1)
+    pub long_read : (number ≡ 0 → ⊥) → LongTag s at number (leb 0x80 b) (at + 1 + 1)
     unfolding long_tag
-    long-read n = record { is = both-there ∙ skip _ _ _ (ne_eqb number 0 n); behind = omega arith; within = omega arith }
+    long_read n = record { is = both_there ∙ skip _ _ _ (ne_eqb number 0 n); behind = omega arith; within = omega arith }
 
 -- the tag at a place
 module _ (s : List ℕ) (at : ℕ) where
@@ -69,20 +69,20 @@ module _ (s : List ℕ) (at : ℕ) where
     by_byte : tag_at (drop at s) ≡ tag_at (t ∷ drop (at + 1) s)
     by_byte = ap tag_at (cons_at s at h)
 
-    by-rest : t ≡ 0x7F → tag_at (drop at s) ≡ long_tag (drop (at + 1) s)
+    by_rest : t ≡ 0x7F → tag_at (drop at s) ≡ long_tag (drop (at + 1) s)
     unfolding tag_at
-    by-rest e = by_byte ∙ stop _ _ _ (eq-eqb t 0x7F e)
+    by_rest e = by_byte ∙ stop _ _ _ (eq-eqb t 0x7F e)
 
-    pub tag-long : (r : Tagged) → t ≡ 0x7F → LongTags r s (at + 1) → Tags r s at
-    tag-long (As number flag next) e w = record { is = by-rest e ∙ w.is; behind = omega (arith, w.behind); within = w.within }
-    tag-long tagged.Not e w = by-rest e ∙ w
+    pub tag_long : (r : Tagged) → t ≡ 0x7F → LongTags r s (at + 1) → Tags r s at
+    tag_long (As number flag next) e w = record { is = by_rest e ∙ w.is; behind = omega (arith, w.behind); within = w.within }
+    tag_long tagged.Not e w = by_rest e ∙ w
 
     short : (t ≡ 0x7F → ⊥) → {b : Bool} → (eqb (t % 0x80) 0 || eqb (t % 0x80) 0x7F) ≡ b → tag_at (drop at s) ≡ (b ⇒ no_tag else tag (t % 0x80) (leb 0x80 t) (drop (at + 1) s))
     unfolding tag_at
     short k e = by_byte ∙ skip _ _ _ (ne_eqb t 0x7F k) ∙ (λ i. e i ⇒ no_tag else tag (t % 0x80) (leb 0x80 t) (drop (at + 1) s))
 
-    pub tag-zero : t % 0x80 ≡ 0 → tag_at (drop at s) ≡ no_tag
-    tag-zero e =
+    pub tag_zero : t % 0x80 ≡ 0 → tag_at (drop at s) ≡ no_tag
+    tag_zero e =
         short (λ k. let z : 0x7F % 0x80 ≡ 0 = sym (ap (λ (x : ℕ). x % 0x80) k) ∙ e in omega arith) (ap (λ (b : Bool). b || eqb (t % 0x80) 0x7F) (eq-eqb (t % 0x80) 0 e))
         ∙ stop _ _ _ refl
 
@@ -98,8 +98,8 @@ module _ (s : List ℕ) (at : ℕ) where
             within = omega arith;
           }
 
-      pub tag-last : 0x7F ≤ t % 0x80 → (t ≡ 0x7F → ⊥) → tag_at (drop at s) ≡ no_tag
-      tag-last l k = short k (λ i. ne_eqb (t % 0x80) 0 n₀ i || eq-eqb (t % 0x80) 0x7F (omega arith) i) ∙ stop _ _ _ refl
+      pub tag_last : 0x7F ≤ t % 0x80 → (t ≡ 0x7F → ⊥) → tag_at (drop at s) ≡ no_tag
+      tag_last l k = short k (λ i. ne_eqb (t % 0x80) 0 n₀ i || eq-eqb (t % 0x80) 0x7F (omega arith) i) ∙ stop _ _ _ refl
 
 last_byte : (s : List ℕ) (at : ℕ) → get_or s (at + 1 - 1) 0 ≡ get_or s at 0
 last_byte s at = let e : at + 1 - 1 ≡ at = omega arith in ap (λ (k : ℕ). get_or s k 0) e
@@ -114,27 +114,27 @@ module _ (s : List ℕ) (at : ℕ) where
     by_first : length_at (drop at s) ≡ length_at (get_or s at 0 ∷ drop (at + 1) s)
     by_first = ap length_at (cons_at s at h)
 
-    pub length-short : get_or s at 0 < 0x80 → Length s at (get_or s at 0) (at + 1)
+    pub length_short : get_or s at 0 < 0x80 → Length s at (get_or s at 0) (at + 1)
     unfolding length_at
-    length-short b =
+    length_short b =
         record { is = by_first ∙ stop _ _ _ (lt-ltb (get_or s at 0) 0x80 b); within = omega arith; behind = omega arith; last = last_byte s at }
 
-    pub length-other : 0x80 ≤ get_or s at 0 → (get_or s at 0 ≡ 0x81 → ⊥) → length_at (drop at s) ≡ no_length_lem
+    pub length_other : 0x80 ≤ get_or s at 0 → (get_or s at 0 ≡ 0x81 → ⊥) → length_at (drop at s) ≡ no_length_lem
     unfolding length_at
-    length-other b n = by_first ∙ skip _ _ _ (le-ltb (get_or s at 0) 0x80 b) ∙ skip _ _ _ (ne_eqb (get_or s at 0) 0x81 n)
+    length_other b n = by_first ∙ skip _ _ _ (le-ltb (get_or s at 0) 0x80 b) ∙ skip _ _ _ (ne_eqb (get_or s at 0) 0x81 n)
 
-    by-long : 0x80 ≤ get_or s at 0 → get_or s at 0 ≡ 0x81 → length_at (drop at s) ≡ long_length (drop (at + 1) s)
+    by_long : 0x80 ≤ get_or s at 0 → get_or s at 0 ≡ 0x81 → length_at (drop at s) ≡ long_length (drop (at + 1) s)
     unfolding length_at
-    by-long b e = by_first ∙ skip _ _ _ (le-ltb (get_or s at 0) 0x80 b) ∙ stop _ _ _ (eq-eqb (get_or s at 0) 0x81 e)
+    by_long b e = by_first ∙ skip _ _ _ (le-ltb (get_or s at 0) 0x80 b) ∙ stop _ _ _ (eq-eqb (get_or s at 0) 0x81 e)
 
-    pub long-none : 0x80 ≤ get_or s at 0 → get_or s at 0 ≡ 0x81 → length s ≤ at + 1 → length_at (drop at s) ≡ no_length_lem
+    pub long_none : 0x80 ≤ get_or s at 0 → get_or s at 0 ≡ 0x81 → length s ≤ at + 1 → length_at (drop at s) ≡ no_length_lem
     unfolding long_length
-    long-none b e n = by-long b e ∙ ap long_length (drop_of_length-le s n)
+    long_none b e n = by_long b e ∙ ap long_length (drop_of_length-le s n)
 
-    pub long-low :
+    pub long_low :
         0x80 ≤ get_or s at 0 → get_or s at 0 ≡ 0x81 → at + 1 < length s → get_or s (at + 1) 0 < 0x80 → length_at (drop at s) ≡ no_length_lem
     unfolding long_length
-    long-low b e n c = by-long b e ∙ ap long_length (cons_at s (at + 1) n) ∙ skip _ _ _ (lt-leb 0x80 (get_or s (at + 1) 0) c)
+    long_low b e n c = by_long b e ∙ ap long_length (cons_at s (at + 1) n) ∙ skip _ _ _ (lt-leb 0x80 (get_or s (at + 1) 0) c)
 
     pub long_length_lem :
         0x80 ≤ get_or s at 0 → get_or s at 0 ≡ 0x81 → at + 1 < length s → 0x80 ≤ get_or s (at + 1) 0 →
@@ -142,7 +142,7 @@ module _ (s : List ℕ) (at : ℕ) where
     unfolding long_length
     long_length_lem b e n c =
         record {
-          is = by-long b e ∙ ap long_length (cons_at s (at + 1) n) ∙ stop _ _ _ (le-leb 0x80 (get_or s (at + 1) 0) c);
+          is = by_long b e ∙ ap long_length (cons_at s (at + 1) n) ∙ stop _ _ _ (le-leb 0x80 (get_or s (at + 1) 0) c);
           within = omega arith;
           behind = omega arith;
           last = last_byte s (at + 1);
@@ -183,20 +183,20 @@ module _ (s : List ℕ) (at : ℕ) where
     unfolding object_at after_tag
     by_length = ap after_tag t.is
 
-    pub object-unsized : length_at (drop sized s) ≡ no_length_lem → object_at (drop at s) ≡ faulty BadLength
+    pub object_unsized : length_at (drop sized s) ≡ no_length_lem → object_at (drop at s) ≡ faulty BadLength
     unfolding value_after
-    object-unsized e = by_length ∙ ap (value_after number flag) e
+    object_unsized e = by_length ∙ ap (value_after number flag) e
 
     module _ {n start : ℕ} (l : Length s sized n start) where
-      pub object-cut : length s - start < n → object_at (drop at s) ≡ faulty CutValue
+      pub object_cut : length s - start < n → object_at (drop at s) ≡ faulty CutValue
       unfolding value_after
-      object-cut k =
+      object_cut k =
           by_length ∙ ap (value_after number flag) l.is
           ∙ stop _ _ _ (lt-ltb (length (drop start s)) n (let e = length-drop start s in omega arith))
 
-      pub object-stands : n ≤ length s - start → Stands s at number flag start n (start + n)
+      pub object_stands : n ≤ length s - start → Stands s at number flag start n (start + n)
       unfolding value_after
-      object-stands k =
+      object_stands k =
           let e : n ≡ start + n - start = omega arith in
           record {
             is =

@@ -96,10 +96,10 @@ paste_parts x k s w at e l =
     ap (λ (r : List ℕ). r ++ (s ++ drop (at + length s) (x ++ (k ++ w)))) (take_at x (k ++ w) at e)
     ∙ ap (λ (r : List ℕ). x ++ (s ++ r))
     (ap (λ (r : List ℕ). drop (at + length s) r) (sym (append_assoc x k w))
-    ∙ drop_at (x ++ k) w (at + length s) (length-append x k ∙ cong-add e l))
+    ∙ drop_at (x ++ k) w (at + length s) (length-append x k ∙ cong_add e l))
   where
-    cong-add : {a b c d : ℕ} → a ≡ b → c ≡ d → a + c ≡ b + d
-    cong-add p q = λ i. p i + q i
+    cong_add : {a b c d : ℕ} → a ≡ b → c ≡ d → a + c ≡ b + d
+    cong_add p q = λ i. p i + q i
 
 -- a part that stands between two others
 pub part_parts : (x y w : List ℕ) (a e : ℕ) → length x ≡ a → a + length y ≡ e → part a e (x ++ (y ++ w)) ≡ y

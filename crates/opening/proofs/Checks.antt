@@ -78,16 +78,16 @@ module _ (t p : List ℕ) (g : GoodIn t p) where
   a = shown t p
 
   module _ (n k : ℕ) (en : n ≡ channels t) (ek : k ≡ open_from t 0 n) where
-    channels-is : n ≡ channels a.profile
+    channels_is : n ≡ channels a.profile
     unfolding shown
-    channels-is = en ∙ sym (front_channels t)
+    channels_is = en ∙ sym (front_channels t)
 
     number_is : k ≡ open_before (channels a.profile) a.chans
-    number_is = ek ∙ open_shown t p g n (few_channels t n en) ∙ ap (λ (m : ℕ). open_before m a.chans) channels-is
+    number_is = ek ∙ open_shown t p g n (few_channels t n en) ∙ ap (λ (m : ℕ). open_before m a.chans) channels_is
 
     module _ (u : k ≡ n → ⊥) where
       unused : open_before (channels a.profile) a.chans ≡ channels a.profile → ⊥
-      unused e = u (number_is ∙ e ∙ sym channels-is)
+      unused e = u (number_is ∙ e ∙ sym channels_is)
 
       pub numbered : Numbered t p (record { 0 = k + 1 })
       numbered =
@@ -110,8 +110,8 @@ module _ (t p : List ℕ) (g : GoodIn t p) where
     granted : (size w : ℕ) → w ≡ grant_for size f → Granted size (unpromised a) w
     granted size w e = subst (Granted size (unpromised a)) (sym (grant_is size w e)) (grant_law size (unpromised a))
 
-    pub grant-fits : (size w : ℕ) → w ≡ grant_for size f → 2 * cells w ≤ unpromised a
-    grant-fits size w e = (granted size w e).fits
+    pub grant_fits : (size w : ℕ) → w ≡ grant_for size f → 2 * cells w ≤ unpromised a
+    grant_fits size w e = (granted size w e).fits
 
 -- the checks in their order: the bearer, of which the code tells x; the protocol; the size; the number, k of n; the free cells, f
 module _ (t p : List ℕ) (g : GoodIn t p) (d : Details) (v : List ℕ) (size protocol : ℕ) (i : Bool) (x : Bool) (bearer : x ≡ allows_bearer t (get_or v 0 0))
@@ -157,7 +157,7 @@ module _ (t p : List ℕ) (g : GoodIn t p) (d : Details) (v : List ℕ) (size pr
         numberless e w =
             left_answers d all (problem 0x01) t p count before after
             (skip _ _ _ (served_is ∙ s) ∙ skip _ _ _ carried ∙ skip _ _ _ asked
-            ∙ stop _ _ _ (eq-eqb _ _ (sym (number_is t p g n k en ek) ∙ e ∙ channels-is t p g n k en ek))) g w
+            ∙ stop _ _ _ (eq-eqb _ _ (sym (number_is t p g n k en ek) ∙ e ∙ channels_is t p g n k en ek))) g w
 
         module _ (u : k ≡ n → ⊥) (f : ℕ) (ef : f ≡ free_in t) where
           pub cellless : f < 2 → Filled (response d (problem 0x04)) count before after → answer t p

@@ -34,8 +34,8 @@ module _ (t : List ℕ) (n : ℕ) where
 
   -- an entry that was read at the place k
   module _ (k : ℕ) (e : Channel) (s : Seen t n k) (h : k < n) (q : e ≡ entry_from t (entry_at (k + 1 - 1))) where
-    grant-at : e.grant ≡ get_or t (entry_at k) 0
-    grant-at = ap (λ (x : Channel). x.grant) q ∙ ap (λ (j : ℕ). get_or t (entry_at j) 0) (let z : k + 1 - 1 ≡ k = omega arith in z)
+    grant_at : e.grant ≡ get_or t (entry_at k) 0
+    grant_at = ap (λ (x : Channel). x.grant) q ∙ ap (λ (j : ℕ). get_or t (entry_at j) 0) (let z : k + 1 - 1 ≡ k = omega arith in z)
 
     here : open_from t k (n - k) ≡ (leb 1 (get_or t (entry_at k) 0) ⇒ suc (open_from t (k + 1) (n - (k + 1))) else 0)
     unfolding open_from
@@ -43,12 +43,12 @@ module _ (t : List ℕ) (n : ℕ) where
 
     pub seen_more : 1 ≤ e.grant → Seen t n (k + 1)
     seen_more o =
-        let m = here ∙ stop _ _ _ (le-leb 1 _ (subst (λ (g : ℕ). 1 ≤ g) grant-at o)) in
+        let m = here ∙ stop _ _ _ (le-leb 1 _ (subst (λ (g : ℕ). 1 ≤ g) grant_at o)) in
         record { upto = omega arith; on = let z = s.on in omega arith }
 
-    pub seen-stop : e.grant < 1 → k ≡ open_from t 0 n
-    seen-stop o =
-        let m = here ∙ skip _ _ _ (lt-leb 1 _ (subst (λ (g : ℕ). g < 1) grant-at o)) in
+    pub seen_stop : e.grant < 1 → k ≡ open_from t 0 n
+    seen_stop o =
+        let m = here ∙ skip _ _ _ (lt-leb 1 _ (subst (λ (g : ℕ). g < 1) grant_at o)) in
         let z = s.on in
         omega arith
 

@@ -79,9 +79,9 @@ module _ (t p : List ℕ) (n : ChannelNumber) (h : Numbered t p n) (e : Channel)
 
   -- CLOSE CHANNEL
   module _ (d : Details) (i : Bool) (k : ℕ) (before after : List ℕ) where
-    pub close-unopened : e.grant < 1 → Filled (response d (problem 0x03)) k before after → Answers (told d (closing a n i)) t p (Wrote k) before after
+    pub close_unopened : e.grant < 1 → Filled (response d (problem 0x03)) k before after → Answers (told d (closing a n i)) t p (Wrote k) before after
     unfolding closing
-    close-unopened o w = left_answers d (closing a n i) (problem 0x03) t p k before after (stop _ _ _ (unopened o)) h.good w
+    close_unopened o w = left_answers d (closing a n i) (problem 0x03) t p k before after (stop _ _ _ (unopened o)) h.good w
 
     pub close_done :
         (x : ℕ) (u r : List ℕ) → 1 ≤ e.grant → Changed t p n closed u r → x ≡ plain i → Filled (response d (error x)) k before after →
@@ -93,29 +93,29 @@ module _ (t p : List ℕ) (n : ChannelNumber) (h : Numbered t p n) (e : Channel)
 
   -- RECEIVE DATA
   module _ (d : Details) (w : ℕ) (i : Bool) (count : ℕ) (before after : List ℕ) where
-    pub receive-unopened : e.grant < 1 → Filled (response d (problem 0x03)) count before after → Answers (told d (receiving a n w i)) t p (Wrote count) before after
+    pub receive_unopened : e.grant < 1 → Filled (response d (problem 0x03)) count before after → Answers (told d (receiving a n w i)) t p (Wrote count) before after
     unfolding receiving
-    receive-unopened o s = left_answers d (receiving a n w i) (problem 0x03) t p count before after (stop _ _ _ (unopened o)) h.good s
+    receive_unopened o s = left_answers d (receiving a n w i) (problem 0x03) t p count before after (stop _ _ _ (unopened o)) h.good s
 
   -- so many bytes are handed out
   module _ (w k m once : ℕ) (y : k ≡ min w m) (z : m ≡ min once 237) (o₁ : once ≡ at_once c Receive) where
-    rx-found : e.rx ≡ length (held c Receive)
+    rx_found : e.rx ≡ length (held c Receive)
     unfolding entry
-    rx-found = ap (λ (x : Channel). x.rx) found
+    rx_found = ap (λ (x : Channel). x.rx) found
 
-    pub handed-few : (k ≤ 237) × (k ≤ e.rx)
+    pub handed_few : (k ≤ 237) × (k ≤ e.rx)
     unfolding due
-    handed-few = let r = rx-found in let u = once_due c Receive (chan_sound a n h.good.sound) in (omega arith, omega arith)
+    handed_few = let r = rx_found in let u = once_due c Receive (chan_sound a n h.good.sound) in (omega arith, omega arith)
 
-    pub handed-once : k ≤ at_once c Receive
-    handed-once = omega arith
+    pub handed_once : k ≤ at_once c Receive
+    handed_once = omega arith
 
-    handed-is : k ≡ min w (min (at_once c Receive) 237)
-    handed-is = y ∙ ap (min w) (z ∙ ap (λ (j : ℕ). min j 237) o₁)
+    handed_is : k ≡ min w (min (at_once c Receive) 237)
+    handed_is = y ∙ ap (min w) (z ∙ ap (λ (j : ℕ). min j 237) o₁)
 
     left_is : capped (e.rx - k) ≡ capped (length (held (removed c Receive k) Receive))
     unfolding removed with_queue without queue
-    left_is = ap capped (ap (λ (j : ℕ). j - k) rx-found ∙ sym (length-drop k c.receive.bytes))
+    left_is = ap capped (ap (λ (j : ℕ). j - k) rx_found ∙ sym (length-drop k c.receive.bytes))
 
     pub receive_done :
         (d : Details) (i : Bool) (count x left at : ℕ) (u r before after : List ℕ) → 1 ≤ e.grant → at ≡ start_in t n e.grant Receive →
@@ -125,7 +125,7 @@ module _ (t p : List ℕ) (n : ChannelNumber) (h : Numbered t p n) (e : Channel)
     unfolding receiving removed with_queue
     receive_done d i count x left at u r before after o l s v g f =
         let from = l ∙ ap (λ (b : Channel). start_in t n b.grant Receive) q in
-        let data_is = ap (λ (j : ℕ). part j (j + k) p) from ∙ held_read t p n h Receive k (omega (arith, rx-found, handed-few)) in
+        let data_is = ap (λ (j : ℕ). part j (j + k) p) from ∙ held_read t p n h Receive k (omega (arith, rx_found, handed_few)) in
         told_answers d (receiving a n w i) (with_chan a n (removed c Receive k))
         (done (ltb k w ⇒ 0x02 else plain i) (received (take k (held c Receive)) (capped (length (held (removed c Receive k) Receive))))) u r count before after
         (skip _ _ _ (unclosed o)
@@ -133,6 +133,6 @@ module _ (t p : List ℕ) (n : ChannelNumber) (h : Numbered t p n) (e : Channel)
         (λ (j : ℕ).
         reply (with_chan a n (removed c Receive j))
         (done (ltb j w ⇒ 0x02 else plain i) (received (take j (held c Receive)) (capped (length (held (removed c Receive j) Receive))))))
-        (sym handed-is))
-        (same_sound a n (removed c Receive k) h.good.sound (not_not _ (unclosed o)) (removed_sound c (chan_sound a n h.good.sound) Receive k handed-once) refl)
+        (sym handed_is))
+        (same_sound a n (removed c Receive k) h.good.sound (not_not _ (unclosed o)) (removed_sound c (chan_sound a n h.good.sound) Receive k handed_once) refl)
         s (subst (λ (b : List ℕ). Filled b count before after) (λ j. response d (done (v j) (received (data_is j) ((g ∙ left_is) j)))) f)

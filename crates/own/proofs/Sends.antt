@@ -146,16 +146,16 @@ module _ (t p : List ℕ) (n : ChannelNumber) (h : Numbered t p n) (e : Channel)
     undropped : is_dropped c.link ≡ false
     undropped = ap is_dropped (sym link_found) ∙ sym x ∙ y
 
-    pub send-overfull : e.grant - e.tx < length s → Filled (response d (problem 0x04)) k before after → answer t p
+    pub send_overfull : e.grant - e.tx < length s → Filled (response d (problem 0x04)) k before after → answer t p
     unfolding sending
-    send-overfull f w =
+    send_overfull f w =
         left_answers d _ (problem 0x04) t p k before after
         (skip _ _ _ (unclosed t p n h e q o) ∙ skip _ _ _ undropped ∙ stop _ _ _ (lt-ltb (room c Send) (length s) (subst (λ (r : ℕ). r < length s) (room_found t p n h e q) f))) h.good w
 
-    pub send-crowded :
+    pub send_crowded :
         (v : Bool) → length s ≤ e.grant - e.tx → v ≡ crowded c Send s → v ≡ true → Filled (response d (problem 0x04)) k before after → answer t p
     unfolding sending
-    send-crowded v f z l w =
+    send_crowded v f z l w =
         left_answers d _ (problem 0x04) t p k before after
         (skip _ _ _ (unclosed t p n h e q o) ∙ skip _ _ _ undropped ∙ skip _ _ _ (le-ltb (room c Send) (length s) (send_fits t p n h e q (length s) f)) ∙ stop _ _ _ (sym z ∙ l)) h.good w
 
@@ -170,65 +170,65 @@ module _ (t p : List ℕ) (n : ChannelNumber) (h : Numbered t p n) (e : Channel)
       abbrev joins : Chan
       joins = appended c Send s
 
-      abbrev after-send : Chan
-      after-send = bit1 d.qualifier ⇒ readied joins else joins
+      abbrev after_send : Chan
+      after_send = bit1 d.qualifier ⇒ readied joins else joins
 
-      joins-sound : SoundChan joins
-      joins-sound = sent_sound c (chan_sound a n h.good.sound) s fit uncrowded
+      joins_sound : SoundChan joins
+      joins_sound = sent_sound c (chan_sound a n h.good.sound) s fit uncrowded
 
-      all-sent : e.tx + length s ≡ length (held joins Send)
+      all_sent : e.tx + length s ≡ length (held joins Send)
       unfolding appended with_queue joined queue
-      all-sent = ap (λ (j : ℕ). j + length s) (tx_found t p n h e q) ∙ sym (length-append c.send.bytes s)
+      all_sent = ap (λ (j : ℕ). j + length s) (tx_found t p n h e q) ∙ sym (length-append c.send.bytes s)
 
       all_whole : e.tx + length s - e.ready ≡ unfinished joins
       unfolding unfinished appended with_queue
-      all_whole = λ i. all-sent i - ready_found t p n h e q i
+      all_whole = λ i. all_sent i - ready_found t p n h e q i
 
-      both-sent :
+      both_sent :
           (x : Bool) → whole (appended (marked c Established (e.tx + length s)) Send s) Send (e.tx + length s - e.ready) ≡ readied joins →
           whole (appended (marked c (link_of e.link) e.ready) Send s) Send 0 ≡ joins →
           let u : Channel = x ⇒ record { grant = e.grant; link = 1; rx = e.rx; tx = e.tx; ready = e.tx + length s; carries = e.carries } else e in
           whole (appended (marked c (link_of u.link) u.ready) Send s) Send (x ⇒ e.tx + length s - e.ready else 0) ≡ (x ⇒ readied joins else joins)
       unfolding ◌⇒◌else◌
-      both-sent true p₁ p₂ = p₁
-      both-sent false p₁ p₂ = p₂
+      both_sent true p₁ p₂ = p₁
+      both_sent false p₁ p₂ = p₂
 
       -- the channel so marked, with the bytes behind those held and the datagram that they end, is the channel after the command
       sent_is :
           (v : Channel) (m : ℕ) → v ≡ sent_entry e d.qualifier (length s) → m ≡ sent_whole e d.qualifier (length s) →
-          whole (appended (marked c (link_of v.link) v.ready) Send s) Send m ≡ after-send
+          whole (appended (marked c (link_of v.link) v.ready) Send s) Send m ≡ after_send
       unfolding sent_entry sent_whole readied appended with_queue marked
       sent_is v m z l =
           (λ i. whole (appended (marked c (link_of (z i).link) (z i).ready) Send s) Send (l i))
-          ∙ both-sent (bit1 d.qualifier)
-          (whole_marked c Established (e.tx + length s) s (e.tx + length s - e.ready) ∙ (λ i. marked (whole joins Send (all_whole i)) (established c.link undropped i) (all-sent i)))
+          ∙ both_sent (bit1 d.qualifier)
+          (whole_marked c Established (e.tx + length s) s (e.tx + length s - e.ready) ∙ (λ i. marked (whole joins Send (all_whole i)) (established c.link undropped i) (all_sent i)))
           ((λ i. whole (appended (marked c (link_found i) (ready_found t p n h e q i)) Send s) Send 0) ∙ whole_none joins)
 
-      after_sound : SoundChan after-send
-      after_sound = branch SoundChan _ _ _ (λ _. readied_sound joins joins-sound) (λ _. joins-sound)
+      after_sound : SoundChan after_send
+      after_sound = branch SoundChan _ _ _ (λ _. readied_sound joins joins_sound) (λ _. joins_sound)
 
-      after-grant : after-send.grant ≡ c.grant
+      after_grant : after_send.grant ≡ c.grant
       unfolding readied marked appended with_queue
-      after-grant = branch (λ (u : Chan). u.grant ≡ c.grant) _ _ _ (λ _. whole_grant joins Send (unfinished joins)) (λ _. refl)
+      after_grant = branch (λ (u : Chan). u.grant ≡ c.grant) _ _ _ (λ _. whole_grant joins Send (unfinished joins)) (λ _. refl)
 
-      joins-room : e.grant - e.tx - length s ≡ joins.grant - length (held joins Send)
+      joins_room : e.grant - e.tx - length s ≡ joins.grant - length (held joins Send)
       unfolding room appended with_queue joined queue
-      joins-room =
+      joins_room =
           let r = room_found t p n h e q in
           let l = length-append c.send.bytes s in
           omega arith
 
-      after-room : e.grant - e.tx - length s ≡ room after-send Send
+      after_room : e.grant - e.tx - length s ≡ room after_send Send
       unfolding room readied marked queue
-      after-room =
+      after_room =
           branch (λ (u : Chan). e.grant - e.tx - length s ≡ u.grant - length (held u Send)) _ _ _
-          (λ _. joins-room ∙ (λ i. sym (whole_grant joins Send (unfinished joins)) i - length (sym (whole_held joins Send Send (unfinished joins)) i))) (λ _. joins-room)
+          (λ _. joins_room ∙ (λ i. sym (whole_grant joins Send (unfinished joins)) i - length (sym (whole_held joins Send Send (unfinished joins)) i))) (λ _. joins_room)
 
       -- the datagram that the bytes end has a place
-      pub send-place : (m : ℕ) → m ≡ sent_whole e d.qualifier (length s) → (m ≤ 65535) × (length (queue c Send).lengths + min 1 m ≤ 16)
+      pub send_place : (m : ℕ) → m ≡ sent_whole e d.qualifier (length s) → (m ≤ 65535) × (length (queue c Send).lengths + min 1 m ≤ 16)
       unfolding sent_whole places_used unfinished appended with_queue joined queue
-      send-place m l =
-          let few = (joins-sound.lengths Send).few in
+      send_place m l =
+          let few = (joins_sound.lengths Send).few in
           let b = bounds t p n h in
           let g = ap (λ (u : Channel). u.grant) q in
           let x₀ = ap (λ (u : Channel). u.tx) q in
@@ -237,14 +237,14 @@ module _ (t p : List ℕ) (n : ChannelNumber) (h : Numbered t p n) (e : Channel)
           (branch (λ (j : ℕ). (j ≤ 65535) × (length c.send.lengths + min 1 j ≤ 16)) (bit1 d.qualifier) _ _
           (λ _. (omega (arith, f, g, b.capped, b.tx_fits), omega arith)) (λ _. (omega arith, omega arith)))
 
-      pub send-done :
+      pub send_done :
           (m left len : ℕ) (v : Channel) (u r : List ℕ) → v ≡ sent_entry e d.qualifier (length s) → len ≡ sent_whole e d.qualifier (length s) →
           Changed t p n (whole (appended (marked c (link_of v.link) v.ready) Send s) Send len) u r → m ≡ plain i → left ≡ capped (e.grant - e.tx - length s) →
           Filled (response d (done m (sent left))) k before after → answer u r
       unfolding sending
-      send-done m left len v u r z y₀ w j l g =
-          told_answers d _ (with_chan a n after-send) (done (plain i) (sent (capped (room after-send Send)))) u r k before after
+      send_done m left len v u r z y₀ w j l g =
+          told_answers d _ (with_chan a n after_send) (done (plain i) (sent (capped (room after_send Send)))) u r k before after
           (skip _ _ _ (unclosed t p n h e q o) ∙ skip _ _ _ undropped ∙ skip _ _ _ (le-ltb (room c Send) (length s) fit) ∙ skip _ _ _ uncrowded)
-          (same_sound a n after-send h.good.sound (not_not _ (unclosed t p n h e q o)) after_sound after-grant)
+          (same_sound a n after_send h.good.sound (not_not _ (unclosed t p n h e q o)) after_sound after_grant)
           (subst (λ (y : Chan). Changed t p n y u r) (sent_is v len z y₀) w)
-          (subst (λ (y : List ℕ). Filled y k before after) (λ i. response d (done (j i) (sent ((l ∙ ap capped after-room) i)))) g)
+          (subst (λ (y : List ℕ). Filled y k before after) (λ i. response d (done (j i) (sent ((l ∙ ap capped after_room) i)))) g)

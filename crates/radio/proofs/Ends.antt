@@ -178,26 +178,26 @@ module _ {t p : List ℕ} {n : ChannelNumber} {x : Channel} (u : Usable t p n x)
       omega arith
 
   module _ (s out : List ℕ) (b : 16 ≤ length out) where
-    by-room :
+    by_room :
         arrival a (length out) n s ≡
         (ltb (room c Receive) (length s) ⇒ refusal a Overfull else
         crowded c Receive s ⇒ refusal a NoPlace else
         answered (with_chan a n (arrived c s)) (arrival_event a n s))
     unfolding arrival
-    by-room = skip _ _ _ (le-ltb (length out) 16 b) ∙ passing t p n u _
+    by_room = skip _ _ _ (le-ltb (length out) 16 b) ∙ passing t p n u _
 
-    pub accept-overfull : x.grant - x.rx < length s → Answers (arrival a (length out) n s) t p (Refused Overfull) out out
-    accept-overfull h =
-        refuse_answers _ t p out _ u.numbered.good (by-room ∙ stop _ _ _ (lt-ltb (room c Receive) (length s) (omega (arith, room_is))))
+    pub accept_overfull : x.grant - x.rx < length s → Answers (arrival a (length out) n s) t p (Refused Overfull) out out
+    accept_overfull h =
+        refuse_answers _ t p out _ u.numbered.good (by_room ∙ stop _ _ _ (lt-ltb (room c Receive) (length s) (omega (arith, room_is))))
 
     module _ (fit : length s ≤ x.grant - x.rx) where
       by_place : arrival a (length out) n s ≡ (crowded c Receive s ⇒ refusal a NoPlace else answered (with_chan a n (arrived c s)) (arrival_event a n s))
-      by_place = by-room ∙ skip _ _ _ (le-ltb (room c Receive) (length s) (accept_room fit))
+      by_place = by_room ∙ skip _ _ _ (le-ltb (room c Receive) (length s) (accept_room fit))
 
       -- no bytes leave the session as it was
-      pub accept-empty : length s ≡ 0 → Answers (arrival a (length out) n s) t p (Wrote 0) out out
+      pub accept_empty : length s ≡ 0 → Answers (arrival a (length out) n s) t p (Wrote 0) out out
       unfolding step
-      accept-empty e =
+      accept_empty e =
           quiet_answers _ a _ t p out (sound (arriving (length out) n s))
           (by_place ∙ skip _ _ _ (crowded_empty c s e) ∙ ap (λ (d : State). answered d (arrival_event a n s)) (nothing_arrives a n s e))
           (silent_empty a n s e) u.numbered.good.shows
@@ -206,8 +206,8 @@ module _ {t p : List ℕ} {n : ChannelNumber} {x : Channel} (u : Usable t p n x)
         full_is : crowded c Receive s ≡ r
         full_is = crowded_some c s some ∙ sym is-full
 
-        pub accept-crowded : r ≡ true → Answers (arrival a (length out) n s) t p (Refused NoPlace) out out
-        accept-crowded f = refuse_answers _ t p out _ u.numbered.good (by_place ∙ stop _ _ _ (full_is ∙ f))
+        pub accept_crowded : r ≡ true → Answers (arrival a (length out) n s) t p (Refused NoPlace) out out
+        accept_crowded f = refuse_answers _ t p out _ u.numbered.good (by_place ∙ stop _ _ _ (full_is ∙ f))
 
         -- behind the append
         module _ (free : r ≡ false) (t' p' : List ℕ)
@@ -219,19 +219,19 @@ module _ {t p : List ℕ} {n : ChannelNumber} {x : Channel} (u : Usable t p n x)
           unfolding arrived
           shows = subst (λ (d : Chan). Changed t p n (whole (appended d Receive s) Receive (length s)) t' p') marked_own ch
 
-          pub accept-unlisted : get_or t available_at 0 < 1 → Answers (arrival a (length out) n s) t' p' (Wrote 0) out out
+          pub accept_unlisted : get_or t available_at 0 < 1 → Answers (arrival a (length out) n s) t' p' (Wrote 0) out out
           unfolding shown step
-          accept-unlisted e =
+          accept_unlisted e =
               quiet_answers _ _ _ t' p' out (sound (arriving (length out) n s)) stored (silent_unlisted a n s (listed_not (get_or t available_at 0) e)) shows
 
-          none-held : is_empty (held c Receive) ≡ eqb x.rx 0
+          none_held : is_empty (held c Receive) ≡ eqb x.rx 0
           unfolding entry
-          none-held = sym (empty_length (held c Receive)) ∙ ap (λ (y : Channel). eqb y.rx 0) (sym is)
+          none_held = sym (empty_length (held c Receive)) ∙ ap (λ (y : Channel). eqb y.rx 0) (sym is)
 
-          pub accept-held : 0 < x.rx → Answers (arrival a (length out) n s) t' p' (Wrote 0) out out
+          pub accept_held : 0 < x.rx → Answers (arrival a (length out) n s) t' p' (Wrote 0) out out
           unfolding step
-          accept-held e =
-              quiet_answers _ _ _ t' p' out (sound (arriving (length out) n s)) stored (silent_held a n s (none-held ∙ ne_eqb x.rx 0 (omega arith))) shows
+          accept_held e =
+              quiet_answers _ _ _ t' p' out (sound (arriving (length out) n s)) stored (silent_held a n s (none_held ∙ ne_eqb x.rx 0 (omega arith))) shows
 
           told : 1 ≤ get_or t available_at 0 → x.rx ≤ 0 → arrival_event a n s ≡ arrival_told n (length s)
           unfolding arrival_told appended with_queue queue joined shown entry
@@ -239,14 +239,14 @@ module _ {t p : List ℕ} {n : ChannelNumber} {x : Channel} (u : Usable t p n x)
               let empty : x.rx ≡ 0 = omega arith in
               let more = length-append (held c Receive) s ∙ ap (λ (y : Channel). y.rx + length s) (sym is) in
               let sum : length (held c Receive ++ s) ≡ length s = omega (arith, more, empty) in
-              heard a n s (none-held ∙ eq-eqb x.rx 0 empty) some (listed_is (get_or t available_at 0) e)
+              heard a n s (none_held ∙ eq-eqb x.rx 0 empty) some (listed_is (get_or t available_at 0) e)
               ∙ (λ i. event_bytes 0x09 (status_object n (u.link i) ∷ unflagged 0x37 (capped (sum i) ∷ []) ∷ []))
 
-          pub accept-told :
+          pub accept_told :
               (after : List ℕ) → 1 ≤ get_or t available_at 0 → x.rx ≤ 0 → after ≡ overlaid (arrival_told n (length s)) out →
               Answers (arrival a (length out) n s) t' p' (Wrote 16) out after
           unfolding arrival_told event_bytes written object_bytes status_object status_bytes length_bytes ◌⇒◌else◌ step
-          accept-told after e none o =
+          accept_told after e none o =
               wrote_answers _ _ (arrival_told n (length s)) t' p' out after (sound (arriving (length out) n s))
               (stored ∙ ap (answered _) (told e none)) shows o
 
@@ -262,9 +262,9 @@ module _ {t p : List ℕ} {n : ChannelNumber} {x : Channel} (u : Usable t p n x)
 
   -- the take: R12 by the entry
   module _ (out : List ℕ) (most : ℕ) (once : most ≡ at_once c Send) (r : Bool) (short : r ≡ not (is_stream (carries_of x.carries)) && ltb (length out) most) where
-    short-is : (not (is_stream c.carries) && ltb (length out) (at_once c Send)) ≡ r
+    short_is : (not (is_stream c.carries) && ltb (length out) (at_once c Send)) ≡ r
     unfolding entry
-    short-is =
+    short_is =
         let kind = ap (λ (y : Channel). carries_of y.carries) is ∙ carries_back c.carries in
         (λ i. not (is_stream (sym kind i)) && ltb (length out) (sym once i)) ∙ sym short
 
@@ -274,11 +274,11 @@ module _ {t p : List ℕ} {n : ChannelNumber} {x : Channel} (u : Usable t p n x)
     unfolding taking
     by_size =
         passing t p n u _
-        ∙ (λ i. short-is i ⇒ refusal a Undersized else
+        ∙ (λ i. short_is i ⇒ refusal a Undersized else
         answered (with_chan a n (removed c Send (min (length out) (sym once i)))) (take (min (length out) (sym once i)) (held c Send)))
 
-    pub hand-short : r ≡ true → Answers (taking a (length out) n) t p (Refused Undersized) out out
-    hand-short e = refuse_answers _ t p out _ u.numbered.good (by_size ∙ stop _ _ _ e)
+    pub hand_short : r ≡ true → Answers (taking a (length out) n) t p (Refused Undersized) out out
+    hand_short e = refuse_answers _ t p out _ u.numbered.good (by_size ∙ stop _ _ _ e)
 
     -- the bytes that are handed out lie in the pool, from where those to send begin, and are the first of them
     pub handed :
@@ -299,26 +299,26 @@ module _ {t p : List ℕ} {n : ChannelNumber} {x : Channel} (u : Usable t p n x)
   -- the drop
   module _ (out : List ℕ) (b : 16 ≤ length out) (t' : List ℕ)
       (e : t' ≡ with_entry t n (record { grant = x.grant; link = 2; rx = x.rx; tx = x.tx; ready = x.ready; carries = x.carries })) where
-    shows-drop : Changed t p n (dropped c) t' p
+    shows_drop : Changed t p n (dropped c) t' p
     unfolding dropped
-    shows-drop =
+    shows_drop =
         subst (λ (k : ℕ). Changed t p n (marked c Dropped k) t' p) ready_is (mark_law t p n u.numbered _ t' (marks 2 (omega arith)) e)
 
-    dropping-is : dropping a (length out) n ≡ answered (with_chan a n (dropped c)) (drop_event a n)
+    dropping_is : dropping a (length out) n ≡ answered (with_chan a n (dropped c)) (drop_event a n)
     unfolding dropping
-    dropping-is = skip _ _ _ (le-ltb (length out) 16 b) ∙ passing t p n u _
+    dropping_is = skip _ _ _ (le-ltb (length out) 16 b) ∙ passing t p n u _
 
-    pub drop-quiet : get_or t status_at 0 < 1 → Answers (dropping a (length out) n) t' p (Wrote 0) out out
+    pub drop_quiet : get_or t status_at 0 < 1 → Answers (dropping a (length out) n) t' p (Wrote 0) out out
     unfolding drop_event shown step
-    drop-quiet h =
-        quiet_answers _ _ _ t' p out (sound (dropping_link (length out) n)) dropping-is (skip _ _ _ (listed_not (get_or t status_at 0) h)) shows-drop
+    drop_quiet h =
+        quiet_answers _ _ _ t' p out (sound (dropping_link (length out) n)) dropping_is (skip _ _ _ (listed_not (get_or t status_at 0) h)) shows_drop
 
-    told-drop : 1 ≤ get_or t status_at 0 → drop_event a n ≡ drop_told n
+    told_drop : 1 ≤ get_or t status_at 0 → drop_event a n ≡ drop_told n
     unfolding drop_event drop_told dropped marked shown
-    told-drop h = stop _ _ _ (listed_is (get_or t status_at 0) h)
+    told_drop h = stop _ _ _ (listed_is (get_or t status_at 0) h)
 
     pub drop_told_lem :
         (after : List ℕ) → 1 ≤ get_or t status_at 0 → after ≡ overlaid (drop_told n) out → Answers (dropping a (length out) n) t' p (Wrote 13) out after
     unfolding drop_told event_bytes written object_bytes status_object status_bytes length_bytes ◌⇒◌else◌ step
     drop_told_lem after h o =
-        wrote_answers _ _ (drop_told n) t' p out after (sound (dropping_link (length out) n)) (dropping-is ∙ ap (answered _) (told-drop h)) shows-drop o
+        wrote_answers _ _ (drop_told n) t' p out after (sound (dropping_link (length out) n)) (dropping_is ∙ ap (answered _) (told_drop h)) shows_drop o

@@ -43,20 +43,20 @@ module _ (t : List ℕ) (n : ChannelNumber) where
     grant_is : (entry_in t n).grant ≡ x.grant
     grant_is = ap (λ (y : Channel). y.grant) (sym is)
 
-    link-is : (entry_in t n).link ≡ x.link
-    link-is = ap (λ (y : Channel). y.link) (sym is)
+    link_is : (entry_in t n).link ≡ x.link
+    link_is = ap (λ (y : Channel). y.link) (sym is)
 
-    pub permit-closed : x.grant < 1 → Refuse Unopened ≡ permit_in t n
+    pub permit_closed : x.grant < 1 → Refuse Unopened ≡ permit_in t n
     unfolding permit_in numbered ◌⇒◌else◌
-    permit-closed g = simp (le-leb 1 n.0 l, le-leb n.0 7 h, grant_is, lt-leb 1 x.grant g)
+    permit_closed g = simp (le-leb 1 n.0 l, le-leb n.0 7 h, grant_is, lt-leb 1 x.grant g)
 
-    pub permit-unlinked : 1 ≤ x.grant → (x.link ≡ 1 → ⊥) → Refuse Unlinked ≡ permit_in t n
+    pub permit_unlinked : 1 ≤ x.grant → (x.link ≡ 1 → ⊥) → Refuse Unlinked ≡ permit_in t n
     unfolding permit_in numbered ◌⇒◌else◌
-    permit-unlinked g k = simp (le-leb 1 n.0 l, le-leb n.0 7 h, grant_is, le-leb 1 x.grant g, link-is, ne_eqb x.link 1 k)
+    permit_unlinked g k = simp (le-leb 1 n.0 l, le-leb n.0 7 h, grant_is, le-leb 1 x.grant g, link_is, ne_eqb x.link 1 k)
 
-    pub permit-pass : 1 ≤ x.grant → x.link ≡ 1 → Pass x ≡ permit_in t n
+    pub permit_pass : 1 ≤ x.grant → x.link ≡ 1 → Pass x ≡ permit_in t n
     unfolding permit_in numbered ◌⇒◌else◌
-    permit-pass g k = simp (le-leb 1 n.0 l, le-leb n.0 7 h, le-leb 1 (entry_in t n).grant (rw grant_is g), eq-eqb (entry_in t n).link 1 (link-is ∙ k)) (ap Pass is)
+    permit_pass g k = simp (le-leb 1 n.0 l, le-leb n.0 7 h, le-leb 1 (entry_in t n).grant (rw grant_is g), eq-eqb (entry_in t n).link 1 (link_is ∙ k)) (ap Pass is)
 
 linked_by : (l : Link) → eqb (link_number l) 1 ≡ is_established l
 unfolding is_established
@@ -112,17 +112,17 @@ module _ (t p : List ℕ) (n : ChannelNumber) where
       refused : (x y : Answer) → x ≡ checked y → Answers x t p (Refused why) out out
       refused x y k = refuse_answers x t p out why g (k ∙ subst Verdict (sym e ∙ f) (verdict g) y)
 
-      pub arrival-refused : (s : List ℕ) → 16 ≤ length out → Answers (arrival (shown t p) (length out) n s) t p (Refused why) out out
+      pub arrival_refused : (s : List ℕ) → 16 ≤ length out → Answers (arrival (shown t p) (length out) n s) t p (Refused why) out out
       unfolding arrival
-      arrival-refused s b = refused _ _ (skip _ _ _ (le-ltb (length out) 16 b))
+      arrival_refused s b = refused _ _ (skip _ _ _ (le-ltb (length out) 16 b))
 
-      pub taking-refused : Answers (taking (shown t p) (length out) n) t p (Refused why) out out
+      pub taking_refused : Answers (taking (shown t p) (length out) n) t p (Refused why) out out
       unfolding taking
-      taking-refused = refused _ _ refl
+      taking_refused = refused _ _ refl
 
-      pub dropping-refused : 16 ≤ length out → Answers (dropping (shown t p) (length out) n) t p (Refused why) out out
+      pub dropping_refused : 16 ≤ length out → Answers (dropping (shown t p) (length out) n) t p (Refused why) out out
       unfolding dropping
-      dropping-refused b = refused _ _ (skip _ _ _ (le-ltb (length out) 16 b))
+      dropping_refused b = refused _ _ (skip _ _ _ (le-ltb (length out) 16 b))
 
 -- R1
 module _ (t p : List ℕ) (n : ChannelNumber) (out : List ℕ) (g : GoodIn t p) (h : length out < 16) where

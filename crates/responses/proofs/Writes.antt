@@ -117,24 +117,24 @@ module _ (d : Details) (x n m k : ℕ) (a s z before out after : List ℕ) (h : 
   second_fits = let i = first_end in fits_behind (response d (error x) ++ a) m k before after first_stands (omega arith)
 
   module _ (filled : List ℕ) (f : filled ≡ pasted after m s) where
-    second-stands : Filled ((response d (error x) ++ a) ++ s) (m + k) before filled
-    second-stands =
+    second_stands : Filled ((response d (error x) ++ a) ++ s) (m + k) before filled
+    second_stands =
         let i = first_end in
         more (response d (error x) ++ a) s m (m + k) before after filled first_stands (ap (λ (j : ℕ). m + j) (sym y)) (omega arith) f
 
-    pub third-fits : m + k + length z ≤ length filled
-    third-fits =
+    pub third_fits : m + k + length z ≤ length filled
+    third_fits =
         let i = first_end in
-        fits_behind ((response d (error x) ++ a) ++ s) (m + k) (length z) before filled second-stands (omega arith)
+        fits_behind ((response d (error x) ++ a) ++ s) (m + k) (length z) before filled second_stands (omega arith)
 
-    pub three-stand :
+    pub three_stand :
         (last t : List ℕ) → last ≡ pasted filled (m + k) z → t ≡ response d (error x) ++ (a ++ (s ++ z)) →
         Filled t (m + k + length z) before last
-    three-stand last t g b =
+    three_stand last t g b =
         let i = first_end in
         subst (λ (l : List ℕ). Filled l (m + k + length z) before last)
         (append_assoc (response d (error x) ++ a) s z ∙ append_assoc (response d (error x)) a (s ++ z) ∙ sym b)
-        (more ((response d (error x) ++ a) ++ s) z (m + k) (m + k + length z) before filled last second-stands refl (omega arith) g)
+        (more ((response d (error x) ++ a) ++ s) z (m + k) (m + k + length z) before filled last second_stands refl (omega arith) g)
 
 -- the pieces of an answer to RECEIVE DATA
 pub received_pieces :

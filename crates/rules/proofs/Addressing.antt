@@ -15,14 +15,14 @@ module _ (t : ℕ) (from to : DeviceIdentity) where
   not_card h = simp (ne_eqb from.0 0x81 h)
 
   module _ (h : from.0 ≡ 0x81) (modem : Bool) (m : modem ≡ to_modem t) where
-    pub for-modem : modem ≡ true → eqb to.0 0x82 ≡ addressed t from to
+    pub for_modem : modem ≡ true → eqb to.0 0x82 ≡ addressed t from to
     unfolding addressed ◌⇒◌else◌
-    for-modem e = rw (h, sym m ∙ e)
+    for_modem e = rw (h, sym m ∙ e)
 
-    pub below-channels : modem ≡ false → to.0 < 0x21 → false ≡ addressed t from to
+    pub below_channels : modem ≡ false → to.0 < 0x21 → false ≡ addressed t from to
     unfolding addressed ◌⇒◌else◌
-    below-channels e k = rw (h, sym m ∙ e, lt-leb 0x21 to.0 k)
+    below_channels e k = rw (h, sym m ∙ e, lt-leb 0x21 to.0 k)
 
-    pub from-channels : modem ≡ false → 0x21 ≤ to.0 → leb to.0 0x27 ≡ addressed t from to
+    pub from_channels : modem ≡ false → 0x21 ≤ to.0 → leb to.0 0x27 ≡ addressed t from to
     unfolding addressed ◌⇒◌else◌
-    from-channels e k = rw (h, sym m ∙ e, le-leb 0x21 to.0 k)
+    from_channels e k = rw (h, sym m ∙ e, le-leb 0x21 to.0 k)

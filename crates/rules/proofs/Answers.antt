@@ -52,11 +52,11 @@ sending_last Q a q n s i o d f p g =
 
 refused_stays : (a : State) (r : Answer) → accepted r.outcome ≡ false → ((why : Refusal) → r.outcome ≡ refused why → r.state ≡ a) → r.state ≡ a
 unfolding accepted
-refused_stays a r e f = by-outcome r.outcome refl e
+refused_stays a r e f = by_outcome r.outcome refl e
   where
-    by-outcome : (u : Outcome) → r.outcome ≡ u → accepted u ≡ false → r.state ≡ a
-    by-outcome (wrote s) q e = absurd (true≢false e)
-    by-outcome (refused why) q e = f why q
+    by_outcome : (u : Outcome) → r.outcome ≡ u → accepted u ≡ false → r.state ≡ a
+    by_outcome (wrote s) q e = absurd (true≢false e)
+    by_outcome (refused why) q e = f why q
 
 -- a call that is not accepted changes nothing
 pub unaccepted_stays : (a : State) (c : Call) → accepted (step a c).outcome ≡ false → (step a c).state ≡ a

@@ -374,10 +374,10 @@ module _ (n : ChannelNumber) (from : 1 ≤ n.0) (upto : n.0 ≤ 7) (p : List ℕ
       let now = follows n p (next cs c) from in
       let left = held_told (chan (reached p (next cs c)) n) h' now in
       let roomy : room (chan (reached p (next cs c)) n) Send ≡ h'.grant - held_by h' Send = omega (arith, now.grant, left Send) in
-      (λ d k e. told-count (received d k) e ∙ ap capped (sym (left Receive)), λ k e. told-count (sent k) e ∙ ap capped roomy)
+      (λ d k e. told_count (received d k) e ∙ ap capped (sym (left Receive)), λ k e. told_count (sent k) e ∙ ap capped roomy)
     where
-      told-count : (f : Further) → answer_to p cs terms s ≡ some (done x f) → Counts (chan (reached p (next cs (commanding terms s))) n) (done x f)
-      told-count f e =
+      told_count : (f : Further) → answer_to p cs terms s ≡ some (done x f) → Counts (chan (reached p (next cs (commanding terms s))) n) (done x f)
+      told_count f e =
           let w = answer_meant p cs terms s (done x f) e in
           let c = done_asked a (reading a.profile s) x f (sym w.result) in
           let k = seen_read a.profile s c.0 c.1 c.2 in

@@ -154,10 +154,10 @@ get_set [] i j t h = absurd (omega arith)
 get_set (u ∷ ts) zero zero t h = refl
 get_set (u ∷ ts) zero (suc j) t h = sym (skip _ _ _ (ne_eqb (suc j) 0 (omega arith)))
 get_set (u ∷ ts) (suc i) zero t h = sym (skip _ _ _ (ne_eqb 0 (suc i) (omega arith)))
-get_set (u ∷ ts) (suc i) (suc j) t h = get_set ts i j t (omega arith) ∙ ap (λ (b : Bool). b ⇒ t else get_or ts j idle) (suc-same j i)
+get_set (u ∷ ts) (suc i) (suc j) t h = get_set ts i j t (omega arith) ∙ ap (λ (b : Bool). b ⇒ t else get_or ts j idle) (suc_same j i)
   where
-    suc-same : (j i : ℕ) → eqb j i ≡ eqb (suc j) (suc i)
-    suc-same j i = by (eqb j i) refl
+    suc_same : (j i : ℕ) → eqb j i ≡ eqb (suc j) (suc i)
+    suc_same j i = by (eqb j i) refl
       where
         by : (b : Bool) → eqb j i ≡ b → b ≡ eqb (suc j) (suc i)
         by true e = sym (eq-eqb (suc j) (suc i) (ap suc (eqb-true j i e)))

@@ -113,13 +113,13 @@ open_changed a n c e = chan_changed a n c (open_place a.chans (n.0 - 1) e)
 -- a whole datagram more changes no byte
 pub whole_held : (c : Chan) (v w : Way) (k : ℕ) → held (whole c v k) w ≡ held c w
 unfolding whole with_queue counting queue
-whole_held c v w k = branch (λ (x : Chan). held x w ≡ held c w) _ _ _ (λ _. refl) (λ _. counted-held c v w k)
+whole_held c v w k = branch (λ (x : Chan). held x w ≡ held c w) _ _ _ (λ _. refl) (λ _. counted_held c v w k)
   where
-    counted-held : (c : Chan) (v w : Way) (k : ℕ) → held (with_queue c v (counting (queue c v) k)) w ≡ held c w
-    counted-held c Receive Receive k = refl
-    counted-held c Receive Send k = refl
-    counted-held c Send Receive k = refl
-    counted-held c Send Send k = refl
+    counted_held : (c : Chan) (v w : Way) (k : ℕ) → held (with_queue c v (counting (queue c v) k)) w ≡ held c w
+    counted_held c Receive Receive k = refl
+    counted_held c Receive Send k = refl
+    counted_held c Send Receive k = refl
+    counted_held c Send Send k = refl
 
 arrived_held : (c : Chan) (s : List ℕ) → held (arrived c s) Receive ≡ held c Receive ++ s
 unfolding arrived appended with_queue joined queue

@@ -121,22 +121,22 @@ module _ (a : State) (n : ChannelNumber) (h : Sound a) (place : n.0 - 1 < length
   other d w q f e r = pool_same a n h place d hc.fits f e ∙ ap (λ (l : List ℕ). x ++ (l ++ b)) r ∙ ways c x b w q
 
   module _ (at : ℕ) (e : length x ≡ at) where
-    pub appended-pool :
+    pub appended_pool :
         (l : Link) (k : ℕ) (w : Way) (s : List ℕ) → length s ≤ room c w →
         pasted (pool_of a) (at + offset c.grant w + length (held c w)) s ≡ pool_of (with_chan a n (appended (marked c l k) w s))
     unfolding joined
-    appended-pool l k w s f =
+    appended_pool l k w s f =
         let start = at + offset c.grant w in
         let fit = held_space c.grant (length (held c w) + length s) (room_fits c w (length s) (hc.fits w) f) in
         ap (λ (p : List ℕ). pasted p (start + length (held c w)) s) (whole w)
         ∙ way_put (before c x b w) (held c w) (behind c x b w) start sp (way_before c x b w at hc.fits e) s fit
         ∙ sym (other (appended (marked c l k) w s) w (joined (queue c w) s) (appended_fits c l k s hc.fits w f) (appended_grant c l k s w) (appended_region c l k s w))
 
-    pub removed-pool :
+    pub removed_pool :
         (w : Way) (k : ℕ) → k ≤ at_once c w →
         cut_out (pool_of a) (at + offset c.grant w) k (at + offset c.grant w + length (held c w)) ≡ pool_of (with_chan a n (removed c w k))
     unfolding without
-    removed-pool w k f =
+    removed_pool w k f =
         let start = at + offset c.grant w in
         let d = due_held c hc w in
         let u = once_due c w hc in
@@ -146,15 +146,15 @@ module _ (a : State) (n : ChannelNumber) (h : Sound a) (place : n.0 - 1 < length
         ∙ sym (other (removed c w k) w (without (queue c w) k) (removed_sound c hc w k f).fits (removed_grant c k w) (removed_region c k w))
 
     -- the first bytes held are read from the front of their way
-    pub held-part : (w : Way) (k : ℕ) → k ≤ length (held c w) → part (at + offset c.grant w) (at + offset c.grant w + k) (pool_of a) ≡ take k (held c w)
-    held-part w k f =
+    pub held_part : (w : Way) (k : ℕ) → k ≤ length (held c w) → part (at + offset c.grant w) (at + offset c.grant w + k) (pool_of a) ≡ take k (held c w)
+    held_part w k f =
         let start = at + offset c.grant w in
         ap (λ (p : List ℕ). part start (start + k) p) (whole w)
         ∙ way_part (before c x b w) (held c w) (behind c x b w) start sp (way_before c x b w at hc.fits e) k f
 
     -- the region goes, and the later ones move down
-    pub closed-pool : cut_out (pool_of a) at (2 * sp) (used a n h place) ≡ pool_of (with_chan a n closed)
-    closed-pool =
+    pub closed_pool : cut_out (pool_of a) at (2 * sp) (used a n h place) ≡ pool_of (with_chan a n closed)
+    closed_pool =
         let r = rest a n h place in
         let u = used a n h place in
         let lc = length_region c hc.fits in
@@ -171,10 +171,10 @@ module _ (a : State) (n : ChannelNumber) (h : Sound a) (place : n.0 - 1 < length
         ∙ sym (pool_with a n h place closed (u - 2 * sp) left)
 
     -- an empty region comes, and the later ones move up
-    pub opened-pool :
+    pub opened_pool :
         (g : ℕ) (l : Link) (j : Carries) → c.grant ≡ 0 → used a n h place + 2 * space g ≤ pool_size →
         spread (pool_of a) at (2 * space g) (used a n h place) ≡ pool_of (with_chan a n (fresh g l j))
-    opened-pool g l j o f =
+    opened_pool g l j o f =
         let r = rest a n h place in
         let u = used a n h place in
         let k = 2 * space g in

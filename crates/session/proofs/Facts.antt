@@ -32,11 +32,11 @@ use Rattle.session.specs.Book.{free_at, free_in, ledger_size, entry_at, numbers_
 use Rattle.session.specs.Picture.{space, regions, pool_of, link_number, link_of, carries_number, entry, chan_numbers, ledger_of, base_in, offset, start_in, shown, Shows, GoodIn}
 use Rattle.session.specs.Changed.{Numbered, chan_in, Changed, held_in, due_in, more_in, less_in, Marks, with_events}
 use Rattle.session.proofs.Places.{places_size, places_last}
-use Rattle.session.proofs.Ways.{paste_parts, way_read, way_get, way_more, way_first, way-less, way_front, way_rest, way_parts, way_size, other_lengths}
-use Rattle.session.proofs.Ledgers.{closed_numbers, ledger_size_lem, entry_read, free_read, base_read, list_written, before, behind, before-size, ledger-with, ledger_same, ledger-parts}
+use Rattle.session.proofs.Ways.{paste_parts, way_read, way_get, way_more, way_first, way_less, way_front, way_rest, way_parts, way_size, other_lengths}
+use Rattle.session.proofs.Ledgers.{closed_numbers, ledger_size_lem, entry_read, free_read, base_read, list_written, before, behind, before_size, ledger_with, ledger_same, ledger_parts}
 use Rattle.session.proofs.Regions.{length_regions, front, used, used_parts, used_fits, length_region, held_space, same_queue}
 use Rattle.session.proofs.Views.{number_back, few_lengths}
-use Rattle.session.proofs.Changes.{appended_fits, appended_grant, appended-pool, counted_pool, removed-pool, removed_grant, counted_grant, held-part, closed-pool, opened-pool, marked_pool, due_held}
+use Rattle.session.proofs.Changes.{appended_fits, appended_grant, appended_pool, counted_pool, removed_pool, removed_grant, counted_grant, held_part, closed_pool, opened_pool, marked_pool, due_held}
 
 -- the counts of an entry are those of the channel, for either way
 held_entry : (c : Chan) (w : Way) → held_in (entry c) w ≡ length (held c w)
@@ -156,12 +156,12 @@ pub record Bounds (t p : List ℕ) (n : ChannelNumber) : Type 0 where
   pub link_known : (entry_in t n).link ≤ 2
 
 link_number_known : (l : Link) → link_number l ≤ 2
-link_number_known l = by-link l
+link_number_known l = by_link l
   where
-    by-link : (k : Link) → link_number k ≤ 2
-    by-link NotYet = omega arith
-    by-link Established = omega arith
-    by-link Dropped = omega arith
+    by_link : (k : Link) → link_number k ≤ 2
+    by_link NotYet = omega arith
+    by_link Established = omega arith
+    by_link Dropped = omega arith
 
 -- the kept number is that of the unpromised cells
 pub unpromised_kept : (t p : List ℕ) → GoodIn t p → free_in t ≡ unpromised (shown t p)
@@ -276,8 +276,8 @@ module _ (t p : List ℕ) (n : ChannelNumber) (h : Numbered t p n) where
   unfolding with_entry chan_numbers queue
   entry_written d e r same =
       let x = places c.receive.lengths ++ places c.send.lengths in
-      (λ i. pasted ((table_is ∙ ledger-parts a sound.thirteen sound.eight n place ∙ ap (λ (l : List ℕ). front_of_lem ++ l) (append_assoc (numbers_of_lem (entry c)) x rest_of)) i) (entry_at (n.0 - 1)) (numbers_of_lem (r i)))
-      ∙ paste_parts front_of_lem (numbers_of_lem (entry c)) (x ++ rest_of) (numbers_of_lem (entry d)) (entry_at (n.0 - 1)) (before-size a sound.thirteen sound.eight n place) refl
+      (λ i. pasted ((table_is ∙ ledger_parts a sound.thirteen sound.eight n place ∙ ap (λ (l : List ℕ). front_of_lem ++ l) (append_assoc (numbers_of_lem (entry c)) x rest_of)) i) (entry_at (n.0 - 1)) (numbers_of_lem (r i)))
+      ∙ paste_parts front_of_lem (numbers_of_lem (entry c)) (x ++ rest_of) (numbers_of_lem (entry d)) (entry_at (n.0 - 1)) (before_size a sound.thirteen sound.eight n place) refl
       ∙ ap (λ (l : List ℕ). front_of_lem ++ l) (sym (append_assoc (numbers_of_lem (entry d)) x rest_of))
       ∙ (λ i. front_of_lem ++ ((numbers_of_lem (entry d) ++ (places (sym (same Receive) i) ++ places (sym (same Send) i))) ++ rest_of))
 
@@ -302,34 +302,34 @@ module _ (t p : List ℕ) (n : ChannelNumber) (h : Numbered t p n) where
     abbrev ls : List ℕ
     ls = (queue d w).lengths
 
-    abbrev at-way : ℕ
-    at-way = lengths_at n w
+    abbrev at_way : ℕ
+    at_way = lengths_at n w
 
     in_parts : with_numbers d ≡ way_front front_of_lem d w ++ (places ls ++ way_rest rest_of d w)
     in_parts = way_parts front_of_lem rest_of d w
 
-    front_size : length (way_front front_of_lem d w) ≡ at-way
-    front_size = way_size front_of_lem d (entry_at (n.0 - 1)) w (before-size a sound.thirteen sound.eight n place)
+    front_size : length (way_front front_of_lem d w) ≡ at_way
+    front_size = way_size front_of_lem d (entry_at (n.0 - 1)) w (before_size a sound.thirteen sound.eight n place)
 
     -- the lengths are read
-    lengths-there : lengths_in (with_numbers d) n w ≡ ls
-    lengths-there =
-        ap (λ (u : List ℕ). lengths_from place_count (drop at-way u)) in_parts ∙ way_read (way_front front_of_lem d w) (way_rest rest_of d w) ls at-way front_size (some w) (few w)
+    lengths_there : lengths_in (with_numbers d) n w ≡ ls
+    lengths_there =
+        ap (λ (u : List ℕ). lengths_from place_count (drop at_way u)) in_parts ∙ way_read (way_front front_of_lem d w) (way_rest rest_of d w) ls at_way front_size (some w) (few w)
 
     -- one length more, and fewer bytes of the first
-    more-written : (k : ℕ) → length ls + min 1 k ≤ place_count → with_length (with_numbers d) n w k ≡ with_numbers (with_queue d w (counting (queue d w) k))
+    more_written : (k : ℕ) → length ls + min 1 k ≤ place_count → with_length (with_numbers d) n w k ≡ with_numbers (with_queue d w (counting (queue d w) k))
     unfolding with_length counting another
-    more-written zero h = ap with_numbers (sym (same_queue d w))
-    more-written (suc k) h =
-        (λ i. set (in_parts i) (at-way + length (lengths-there i)) (suc k))
-        ∙ way_more (way_front front_of_lem d w) (way_rest rest_of d w) ls at-way front_size k (omega arith)
+    more_written zero h = ap with_numbers (sym (same_queue d w))
+    more_written (suc k) h =
+        (λ i. set (in_parts i) (at_way + length (lengths_there i)) (suc k))
+        ∙ way_more (way_front front_of_lem d w) (way_rest rest_of d w) ls at_way front_size k (omega arith)
         ∙ sym (other_lengths front_of_lem rest_of d w (another ls (suc k)))
 
-    less-written : (k : ℕ) → less_length (with_numbers d) n w k ≡ with_numbers (with_queue d w (record { bytes = held d w; lengths = lessened ls k }))
+    less_written : (k : ℕ) → less_length (with_numbers d) n w k ≡ with_numbers (with_queue d w (record { bytes = held d w; lengths = lessened ls k }))
     unfolding less_length
-    less-written k =
-        (λ i. ltb k (get_or (in_parts i) at-way 0) ⇒ set (in_parts i) at-way (get_or (in_parts i) at-way 0 - k) else pasted (in_parts i) at-way (part (at-way + 1) (at-way + place_count) (in_parts i) ++ 0 ∷ []))
-        ∙ way-less (way_front front_of_lem d w) (way_rest rest_of d w) ls at-way front_size k (few w)
+    less_written k =
+        (λ i. ltb k (get_or (in_parts i) at_way 0) ⇒ set (in_parts i) at_way (get_or (in_parts i) at_way 0 - k) else pasted (in_parts i) at_way (part (at_way + 1) (at_way + place_count) (in_parts i) ++ 0 ∷ []))
+        ∙ way_less (way_front front_of_lem d w) (way_rest rest_of d w) ls at_way front_size k (few w)
         ∙ sym (other_lengths front_of_lem rest_of d w (lessened ls k))
 
   -- the lengths of the channel itself
@@ -342,13 +342,13 @@ module _ (t p : List ℕ) (n : ChannelNumber) (h : Numbered t p n) where
   -- the first length, and the last place, as the ledger has them
   pub first_read : (w : Way) → get_or t (lengths_at n w) 0 ≡ first (queue c w).lengths
   first_read w =
-      ap (λ (u : List ℕ). get_or u (lengths_at n w) 0) (table_is ∙ ledger-parts a sound.thirteen sound.eight n place ∙ way_parts front_of_lem rest_of c w)
-      ∙ way_first (way_front front_of_lem c w) (way_rest rest_of c w) (queue c w).lengths (lengths_at n w) (way_size front_of_lem c (entry_at (n.0 - 1)) w (before-size a sound.thirteen sound.eight n place))
+      ap (λ (u : List ℕ). get_or u (lengths_at n w) 0) (table_is ∙ ledger_parts a sound.thirteen sound.eight n place ∙ way_parts front_of_lem rest_of c w)
+      ∙ way_first (way_front front_of_lem c w) (way_rest rest_of c w) (queue c w).lengths (lengths_at n w) (way_size front_of_lem c (entry_at (n.0 - 1)) w (before_size a sound.thirteen sound.eight n place))
 
   pub last_read : (w : Way) → ltb 0 (get_or t (lengths_at n w + 15) 0) ≡ leb place_count (length (queue c w).lengths)
   last_read w =
-      ap (λ (u : List ℕ). ltb 0 (get_or u (lengths_at n w + 15) 0)) (table_is ∙ ledger-parts a sound.thirteen sound.eight n place ∙ way_parts front_of_lem rest_of c w)
-      ∙ ap (ltb 0) (way_get (way_front front_of_lem c w) (way_rest rest_of c w) (queue c w).lengths (lengths_at n w) (way_size front_of_lem c (entry_at (n.0 - 1)) w (before-size a sound.thirteen sound.eight n place)) 15 (omega arith))
+      ap (λ (u : List ℕ). ltb 0 (get_or u (lengths_at n w + 15) 0)) (table_is ∙ ledger_parts a sound.thirteen sound.eight n place ∙ way_parts front_of_lem rest_of c w)
+      ∙ ap (ltb 0) (way_get (way_front front_of_lem c w) (way_rest rest_of c w) (queue c w).lengths (lengths_at n w) (way_size front_of_lem c (entry_at (n.0 - 1)) w (before_size a sound.thirteen sound.eight n place)) 15 (omega arith))
       ∙ places_last (queue c w).lengths (own_some w) (own_few w)
 
   -- what the channel carries, by the number that its entry has
@@ -440,85 +440,85 @@ module _ (t p : List ℕ) (n : ChannelNumber) (h : Numbered t p n) where
     abbrev d : Chan
     d = appended (marked c (link_of e.link) e.ready) w s
 
-    joins-entry : f ≡ entry d
-    joins-entry = eᶠ ∙ ap (λ (y : Channel). more_in y w (length s)) (marks_entry e m) ∙ more_entry c (link_of e.link) e.ready s w
+    joins_entry : f ≡ entry d
+    joins_entry = eᶠ ∙ ap (λ (y : Channel). more_in y w (length s)) (marks_entry e m) ∙ more_entry c (link_of e.link) e.ready s w
 
-    joins-lengths : (v : Way) → (queue d v).lengths ≡ (queue c v).lengths
-    joins-lengths v = appended_lengths c (link_of e.link) e.ready s w v
+    joins_lengths : (v : Way) → (queue d v).lengths ≡ (queue c v).lengths
+    joins_lengths v = appended_lengths c (link_of e.link) e.ready s w v
 
-    joins-pool : q ≡ pool_of (with_chan a n d)
-    joins-pool =
+    joins_pool : q ≡ pool_of (with_chan a n d)
+    joins_pool =
         let l = eʰ ∙ marked_held e w m ∙ held_is w in
         let g = eᵃ ∙ ap (λ (y : ℕ). start_in t n y w) (m.grant ∙ grant_is) in
-        eᵖ ∙ (λ i. pasted (pool_is i) (g i + l i) s) ∙ appended-pool a n sound place (base_in t (n.0 - 1)) front_is (link_of e.link) e.ready w s r
+        eᵖ ∙ (λ i. pasted (pool_is i) (g i + l i) s) ∙ appended_pool a n sound place (base_in t (n.0 - 1)) front_is (link_of e.link) e.ready w s r
 
-    joins-grant : d.grant ≡ c.grant
-    joins-grant = appended_grant c (link_of e.link) e.ready s w
+    joins_grant : d.grant ≡ c.grant
+    joins_grant = appended_grant c (link_of e.link) e.ready s w
 
-    joins-carries : d.carries ≡ c.carries
-    joins-carries = appended_carries c (link_of e.link) e.ready s w
+    joins_carries : d.carries ≡ c.carries
+    joins_carries = appended_carries c (link_of e.link) e.ready s w
 
     -- of a stream the entry alone is written
-    pub append-stream : e.carries ≡ 0 → u ≡ with_entry t n f → Changed t p n (whole d w k) u q
+    pub append_stream : e.carries ≡ 0 → u ≡ with_entry t n f → Changed t p n (whole d w k) u q
     unfolding whole
-    append-stream z eᵗ =
-        subst (λ (y : Chan). Changed t p n y u q) (sym (stop _ _ _ (ap is_stream joins-carries ∙ stream_is (sym m.carries ∙ z)))) (changed d f u q eᵗ joins-entry joins-lengths joins-grant joins-pool)
+    append_stream z eᵗ =
+        subst (λ (y : Chan). Changed t p n y u q) (sym (stop _ _ _ (ap is_stream joins_carries ∙ stream_is (sym m.carries ∙ z)))) (changed d f u q eᵗ joins_entry joins_lengths joins_grant joins_pool)
 
     -- of datagrams a length more, too
-    pub append-datagram :
+    pub append_datagram :
         (e.carries ≡ 0 → ⊥) → length (queue c w).lengths + min 1 k ≤ place_count → (v : List ℕ) → v ≡ with_entry t n f → u ≡ with_length v n w k →
         Changed t p n (whole d w k) u q
     unfolding whole
-    append-datagram z fit v eᵛ eᵗ =
-        let kind = ap is_stream joins-carries ∙ datagrams_is (λ y. z (m.carries ∙ y)) in
-        let size = ap (λ (l : List ℕ). length l) (joins-lengths w) in
+    append_datagram z fit v eᵛ eᵗ =
+        let kind = ap is_stream joins_carries ∙ datagrams_is (λ y. z (m.carries ∙ y)) in
+        let size = ap (λ (l : List ℕ). length l) (joins_lengths w) in
         subst (λ (y : Chan). Changed t p n y u q) (sym (skip _ _ _ kind))
         (record {
           ledger =
-              eᵗ ∙ ap (λ (l : List ℕ). with_length l n w k) (eᵛ ∙ entry_written d f joins-entry joins-lengths)
-              ∙ more-written d (λ j. subst Some (sym (joins-lengths j)) (own_some j)) (λ j. subst (λ (l : List ℕ). length l ≤ place_count) (sym (joins-lengths j)) (own_few j)) w k (omega arith)
-              ∙ same_cells (with_queue d w (counting (queue d w) k)) (counted_grant d w k ∙ joins-grant);
-          pool = joins-pool ∙ counted_pool a n sound place d w k (appended_fits c (link_of e.link) e.ready s (chan_sound a n sound).fits w r) joins-grant;
+              eᵗ ∙ ap (λ (l : List ℕ). with_length l n w k) (eᵛ ∙ entry_written d f joins_entry joins_lengths)
+              ∙ more_written d (λ j. subst Some (sym (joins_lengths j)) (own_some j)) (λ j. subst (λ (l : List ℕ). length l ≤ place_count) (sym (joins_lengths j)) (own_few j)) w k (omega arith)
+              ∙ same_cells (with_queue d w (counting (queue d w) k)) (counted_grant d w k ∙ joins_grant);
+          pool = joins_pool ∙ counted_pool a n sound place d w k (appended_fits c (link_of e.link) e.ready s (chan_sound a n sound).fits w r) joins_grant;
         })
 
     -- what the ledger then has of the way's lengths
-    pub joins-read : (v : List ℕ) → v ≡ with_entry t n f → lengths_in v n w ≡ (queue c w).lengths
-    joins-read v eᵛ =
-        ap (λ (l : List ℕ). lengths_in l n w) (eᵛ ∙ entry_written d f joins-entry joins-lengths)
-        ∙ lengths-there d (λ j. subst Some (sym (joins-lengths j)) (own_some j)) (λ j. subst (λ (l : List ℕ). length l ≤ place_count) (sym (joins-lengths j)) (own_few j)) w ∙ joins-lengths w
+    pub joins_read : (v : List ℕ) → v ≡ with_entry t n f → lengths_in v n w ≡ (queue c w).lengths
+    joins_read v eᵛ =
+        ap (λ (l : List ℕ). lengths_in l n w) (eᵛ ∙ entry_written d f joins_entry joins_lengths)
+        ∙ lengths_there d (λ j. subst Some (sym (joins_lengths j)) (own_some j)) (λ j. subst (λ (l : List ℕ). length l ≤ place_count) (sym (joins_lengths j)) (own_few j)) w ∙ joins_lengths w
 
   -- the first bytes of a way go
   module _ (e f : Channel) (w : Way) (u q : List ℕ) (there from k : ℕ) (eᵉ : e ≡ x) (eᵃ : from ≡ start_in t n e.grant w) (r : k ≤ at_once c w)
       (eʰ : there ≡ held_in e w) (eᶠ : f ≡ less_in e w k) (eᵖ : q ≡ cut_out p from k (from + there)) where
-    less-pool : q ≡ pool_of (with_chan a n (removed c w k))
-    less-pool =
+    less_pool : q ≡ pool_of (with_chan a n (removed c w k))
+    less_pool =
         let m = eʰ ∙ ap (λ (y : Channel). held_in y w) eᵉ ∙ held_is w in
         let g = eᵃ ∙ ap (λ (y : Channel). start_in t n y.grant w) eᵉ ∙ ap (λ (y : ℕ). start_in t n y w) grant_is in
-        eᵖ ∙ (λ i. cut_out (pool_is i) (g i) k (g i + m i)) ∙ removed-pool a n sound place (base_in t (n.0 - 1)) front_is w k r
+        eᵖ ∙ (λ i. cut_out (pool_is i) (g i) k (g i + m i)) ∙ removed_pool a n sound place (base_in t (n.0 - 1)) front_is w k r
 
     -- the channel without the bytes, the lengths as they were
-    abbrev kept-lengths : Chan
-    kept-lengths = with_queue (removed c w k) w (record { bytes = held (removed c w k) w; lengths = (queue c w).lengths })
+    abbrev kept_lengths : Chan
+    kept_lengths = with_queue (removed c w k) w (record { bytes = held (removed c w k) w; lengths = (queue c w).lengths })
 
-    kept_entry : f ≡ entry kept-lengths
+    kept_entry : f ≡ entry kept_lengths
     kept_entry = eᶠ ∙ ap (λ (y : Channel). less_in y w k) (eᵉ ∙ entry_is) ∙ less_entry c w k ∙ entry_lengths (removed c w k) w (queue c w).lengths
 
-    kept_same : (v : Way) → (queue kept-lengths v).lengths ≡ (queue c v).lengths
+    kept_same : (v : Way) → (queue kept_lengths v).lengths ≡ (queue c v).lengths
     kept_same v = removed_lengths c w k v
 
-    pub remove-stream : e.carries ≡ 0 → u ≡ with_entry t n f → Changed t p n (removed c w k) u q
-    remove-stream z eᵗ =
+    pub remove_stream : e.carries ≡ 0 → u ≡ with_entry t n f → Changed t p n (removed c w k) u q
+    remove_stream z eᵗ =
         let none = ((chan_sound a n sound).lengths w).none (stream_is (sym (ap (λ (y : Channel). y.carries) eᵉ) ∙ z)) in
-        record { ledger = eᵗ ∙ entry_written kept-lengths f kept_entry kept_same ∙ ap with_numbers (none_lessened c w k none) ∙ same_cells (removed c w k) (removed_grant c k w); pool = less-pool }
+        record { ledger = eᵗ ∙ entry_written kept_lengths f kept_entry kept_same ∙ ap with_numbers (none_lessened c w k none) ∙ same_cells (removed c w k) (removed_grant c k w); pool = less_pool }
 
-    pub remove-datagram : (v : List ℕ) → v ≡ with_entry t n f → u ≡ less_length v n w k → Changed t p n (removed c w k) u q
-    remove-datagram v eᵛ eᵗ =
+    pub remove_datagram : (v : List ℕ) → v ≡ with_entry t n f → u ≡ less_length v n w k → Changed t p n (removed c w k) u q
+    remove_datagram v eᵛ eᵗ =
         record {
           ledger =
-              eᵗ ∙ ap (λ (l : List ℕ). less_length l n w k) (eᵛ ∙ entry_written kept-lengths f kept_entry kept_same)
-              ∙ less-written kept-lengths (λ j. subst Some (sym (kept_same j)) (own_some j)) (λ j. subst (λ (l : List ℕ). length l ≤ place_count) (sym (kept_same j)) (own_few j)) w k
+              eᵗ ∙ ap (λ (l : List ℕ). less_length l n w k) (eᵛ ∙ entry_written kept_lengths f kept_entry kept_same)
+              ∙ less_written kept_lengths (λ j. subst Some (sym (kept_same j)) (own_some j)) (λ j. subst (λ (l : List ℕ). length l ≤ place_count) (sym (kept_same j)) (own_few j)) w k
               ∙ ap with_numbers (lessened_back c w k) ∙ same_cells (removed c w k) (removed_grant c k w);
-          pool = less-pool;
+          pool = less_pool;
         }
 
   -- the cells that are unpromised where the channel goes, or another comes in the place of one that is not open
@@ -541,21 +541,21 @@ module _ (t p : List ℕ) (n : ChannelNumber) (h : Numbered t p n) where
       let six : List ℕ = replicate 6 0 in
       let y = places c.receive.lengths ++ places c.send.lengths in
       let size = length-append (places c.receive.lengths) (places c.send.lengths) in
-      let b = before-size a sound.thirteen sound.eight n place in
+      let b = before_size a sound.thirteen sound.eight n place in
       let fs = length-append front_of_lem six in
       let cleared : w ≡ with_numbers closed =
       eʷ
       ∙ ap (λ (l : List ℕ). pasted l (lengths_at n Receive) (replicate 32 0))
       (eᵛ
-      ∙ (λ i. pasted ((table_is ∙ ledger-parts a sound.thirteen sound.eight n place ∙ ap (λ (l : List ℕ). front_of_lem ++ l) (append_assoc (numbers_of_lem (entry c)) y rest_of)) i) (entry_at (n.0 - 1)) six)
+      ∙ (λ i. pasted ((table_is ∙ ledger_parts a sound.thirteen sound.eight n place ∙ ap (λ (l : List ℕ). front_of_lem ++ l) (append_assoc (numbers_of_lem (entry c)) y rest_of)) i) (entry_at (n.0 - 1)) six)
       ∙ paste_parts front_of_lem (numbers_of_lem (entry c)) (y ++ rest_of) six (entry_at (n.0 - 1)) b refl ∙ sym (append_assoc front_of_lem six (y ++ rest_of)))
       ∙ paste_parts (front_of_lem ++ six) y rest_of (replicate 32 0) (lengths_at n Receive) (omega arith) (omega (arith, size, places_size c.receive.lengths, places_size c.send.lengths))
       ∙ append_assoc front_of_lem six (replicate 32 0 ++ rest_of) ∙ sym (ap (λ (l : List ℕ). front_of_lem ++ (l ++ rest_of)) closed_numbers)
       in
       let free : f + 2 * k ≡ unpromised (with_chan a n closed) = (λ i. eᶠ i + 2 * (eᵏ ∙ ap cells (eᵍ ∙ grant_is)) i) ∙ sym freed in
       record {
-        ledger = eᵗ ∙ ap (λ (l : List ℕ). set l free_at (f + 2 * k)) cleared ∙ ledger-with a sound.thirteen sound.eight n place closed (f + 2 * k) free;
-        pool = eᵖ ∙ (λ i. cut_out (pool_is i) (eᵃ i) (2 * m i) ((eᵉ ∙ sym used_is) i)) ∙ closed-pool a n sound place at front_is;
+        ledger = eᵗ ∙ ap (λ (l : List ℕ). set l free_at (f + 2 * k)) cleared ∙ ledger_with a sound.thirteen sound.eight n place closed (f + 2 * k) free;
+        pool = eᵖ ∙ (λ i. cut_out (pool_is i) (eᵃ i) (2 * m i) ((eᵉ ∙ sym used_is) i)) ∙ closed_pool a n sound place at front_is;
       }
 
   pub open_law :
@@ -571,8 +571,8 @@ module _ (t p : List ℕ) (n : ChannelNumber) (h : Numbered t p n) where
       eᵛ ∙ entry_written (fresh g k j) _ (λ i. record { grant = g; link = eˡ i; rx = 0; tx = 0; ready = 0; carries = eᶻ i }) (by_way _ (sym (none Receive)) (sym (none Send))) in
       let free : f - 2 * m ≡ unpromised (with_chan a n (fresh g k j)) = (λ i. eᶠ i - 2 * eᵐ i) ∙ sym (taken (fresh g k j) o) in
       record {
-        ledger = eᵗ ∙ ap (λ (l : List ℕ). set l free_at (f - 2 * m)) written ∙ ledger-with a sound.thirteen sound.eight n place (fresh g k j) (f - 2 * m) free;
-        pool = eᵖ ∙ (λ i. spread (pool_is i) (eᵃ i) (2 * eˢ i) ((eᵉ ∙ sym used_is) i)) ∙ opened-pool a n sound place at front_is g k j o (omega arith);
+        ledger = eᵗ ∙ ap (λ (l : List ℕ). set l free_at (f - 2 * m)) written ∙ ledger_with a sound.thirteen sound.eight n place (fresh g k j) (f - 2 * m) free;
+        pool = eᵖ ∙ (λ i. spread (pool_is i) (eᵃ i) (2 * eˢ i) ((eᵉ ∙ sym used_is) i)) ∙ opened_pool a n sound place at front_is g k j o (omega arith);
       }
 
   -- another link and another count of ready bytes
@@ -594,7 +594,7 @@ module _ (t p : List ℕ) (n : ChannelNumber) (h : Numbered t p n) where
   -- the first bytes held for a way are read from where it begins
   pub held_read : (w : Way) (k : ℕ) → k ≤ length (held c w) → part (start_in t n x.grant w) (start_in t n x.grant w + k) p ≡ take k (held c w)
   held_read w k f =
-      (λ i. part (at + offset (grant_is i) w) (at + offset (grant_is i) w + k) (pool_is i)) ∙ held-part a n sound place at front_is w k f
+      (λ i. part (at + offset (grant_is i) w) (at + offset (grant_is i) w + k) (pool_is i)) ∙ held_part a n sound place at front_is w k f
 
 -- another event list
 pub list_law : (t p : List ℕ) (e : Events) → GoodIn t p → Shows (with_events (shown t p) e) (with_list t e) p

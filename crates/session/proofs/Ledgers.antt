@@ -204,18 +204,18 @@ module _ (a : State) (thirteen : length a.profile ≡ profile_size) (eight : len
     pub behind : List ℕ
     behind = drop (entry_size * k + entry_size) y
 
-    pub before-size : length before ≡ entry_at k
+    pub before_size : length before ≡ entry_at k
     unfolding before
-    before-size =
+    before_size =
         let e = length-append front (take (entry_size * k) y) in
         let f = length-take-le (entry_size * k) y (let n = blocks_size chan_numbers entry_size numbers_size a.chans in omega arith) in
         omega (arith, front_size)
 
     -- the numbers of another channel there, and the unpromised cells as they were
-    abbrev numbersWith : Chan → List ℕ
-    numbersWith d = before ++ (chan_numbers d ++ behind)
+    abbrev numbers_with : Chan → List ℕ
+    numbers_with d = before ++ (chan_numbers d ++ behind)
 
-    entries_with : (d : Chan) → numbersWith d ≡ a.profile ++ (heads_of a ++ entries_of (set a.chans k d))
+    entries_with : (d : Chan) → numbers_with d ≡ a.profile ++ (heads_of a ++ entries_of (set a.chans k d))
     unfolding before behind
     entries_with d =
         append_assoc front (take (entry_size * k) y) (chan_numbers d ++ drop (entry_size * k + entry_size) y)
@@ -223,14 +223,14 @@ module _ (a : State) (thirteen : length a.profile ≡ profile_size) (eight : len
         ∙ append_assoc a.profile (heads_of a) (entries_of (set a.chans k d))
 
     -- with the cells that are then unpromised it is the ledger with that channel
-    pub ledger-with : (d : Chan) (f : ℕ) → f ≡ unpromised (with_chan a n d) → set (numbersWith d) free_at f ≡ ledger_of (with_chan a n d)
+    pub ledger_with : (d : Chan) (f : ℕ) → f ≡ unpromised (with_chan a n d) → set (numbers_with d) free_at f ≡ ledger_of (with_chan a n d)
     unfolding with_chan ledger_of heads_of
-    ledger-with d f e =
+    ledger_with d f e =
         ap (λ (t : List ℕ). set t free_at f) (entries_with d) ∙ head_written (heads_of a ++ entries_of (set a.chans k d)) 2 free_at f refl
         ∙ (λ i. a.profile ++ (heads_with a.events (e i) a.timers ++ entries_of (set a.chans k d)))
 
     -- a channel of the same grant leaves them
-    pub ledger_same : (d : Chan) → d.grant ≡ (chan a n).grant → numbersWith d ≡ ledger_of (with_chan a n d)
+    pub ledger_same : (d : Chan) → d.grant ≡ (chan a n).grant → numbers_with d ≡ ledger_of (with_chan a n d)
     unfolding with_chan ledger_of heads_of unpromised promised chan
     ledger_same d e =
         let m = promised_set a.chans k d h in
@@ -239,8 +239,8 @@ module _ (a : State) (thirteen : length a.profile ≡ profile_size) (eight : len
         entries_with d
         ∙ (λ i. a.profile ++ (heads_with a.events (256 - same i) a.timers ++ entries_of (set a.chans k d)))
 
-    pub ledger-parts : ledger_of a ≡ before ++ (chan_numbers (chan a n) ++ behind)
+    pub ledger_parts : ledger_of a ≡ before ++ (chan_numbers (chan a n) ++ behind)
     unfolding before behind chan
-    ledger-parts =
+    ledger_parts =
         parts ∙ ap (λ (z : List ℕ). front ++ z) (sym (take-append-drop (entry_size * k) y) ∙ ap (λ (z : List ℕ). take (entry_size * k) y ++ z) (block_parts chan_numbers entry_size numbers_size closed a.chans k h))
         ∙ sym (append_assoc front (take (entry_size * k) y) (chan_numbers (get_or a.chans k closed) ++ drop (entry_size * k + entry_size) y))

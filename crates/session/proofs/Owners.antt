@@ -22,7 +22,7 @@ use Rattle.octets.proofs.Copies.{part_get}
 use Rattle.session.specs.Picture.{space, pool_of, offset, shown, GoodIn}
 use Rattle.session.specs.Cells.{first_cell, Promised, held_place}
 use Rattle.session.proofs.Regions.{front, length_regions, held_space}
-use Rattle.session.proofs.Changes.{held-part}
+use Rattle.session.proofs.Changes.{held_part}
 
 -- the bytes before the first cell of a channel and a way
 pub first_start :
@@ -46,7 +46,7 @@ module _ (a : State) (n : ChannelNumber) (h : Sound a) (low : 1 ≤ n.0) (high :
       let start = at + offset (chan a n).grant w in
       let k = length (held (chan a n) w) in
       ap (λ (j : ℕ). get_or (pool_of a) (j + i) 0) (first_start a n w) ∙ sym (part_get start (start + k) i (pool_of a) (omega arith))
-      ∙ ap (λ (l : List ℕ). get_or l i 0) (held-part a n h place at front_cells w k (omega arith)) ∙ get_or-take k (held (chan a n) w) i 0 f
+      ∙ ap (λ (l : List ℕ). get_or l i 0) (held_part a n h place at front_cells w k (omega arith)) ∙ get_or-take k (held (chan a n) w) i 0 f
 
   -- and the cell in which it stands is promised to its channel and way
   held_promised : (w : Way) (i : ℕ) → i < length (held (chan a n) w) → Promised a n w (held_place a n w i / cell_size)

@@ -60,9 +60,9 @@ module _ (a : State) (h : Sound a) where
         ∙ block_number timer_numbers timer_size timer_size_lem idle idle_zeros a.timers k j l
 
     -- the time left, and the time that it was started with
-    pub left-read : time_at (ledger_of a) (timer_at k) ≡ left_of (timer a n)
+    pub left_read : time_at (ledger_of a) (timer_at k) ≡ left_of (timer a n)
     unfolding timer_numbers
-    left-read =
+    left_read =
         λ i.
         record {
           hours = number_read 0 (timer_at k) (omega arith) (omega arith) i;
@@ -70,9 +70,9 @@ module _ (a : State) (h : Sound a) where
           seconds = number_read 2 (timer_at k + 2) (omega arith) refl i;
         }
 
-    pub started-read : time_at (ledger_of a) (timer_at k + 3) ≡ started_of (timer a n)
+    pub started_read : time_at (ledger_of a) (timer_at k + 3) ≡ started_of (timer a n)
     unfolding timer_numbers
-    started-read =
+    started_read =
         λ i.
         record {
           hours = number_read 3 (timer_at k + 3) (omega arith) refl i;
@@ -87,8 +87,8 @@ module _ (a : State) (h : Sound a) where
     abbrev rest : List ℕ
     rest = drop (timer_size * k + timer_size) all ++ behind
 
-    before-size : length before ≡ timer_at k
-    before-size =
+    before_size : length before ≡ timer_at k
+    before_size =
         let e = length-append front (take (timer_size * k) all) in
         let size = blocks_size timer_numbers timer_size timer_size_lem a.timers in
         let f = length-take-le (timer_size * k) all (omega (arith, size, place)) in
@@ -103,9 +103,9 @@ module _ (a : State) (h : Sound a) where
         ∙ ap (λ (l : List ℕ). l ++ behind) (block_set timer_numbers timer_size timer_size_lem a.timers k t place))
         ∙ parts (timers_of (set a.timers k t))
 
-    ledger-parts : ledger_of a ≡ before ++ (timer_numbers (timer a n) ++ rest)
+    ledger_parts : ledger_of a ≡ before ++ (timer_numbers (timer a n) ++ rest)
     unfolding timer
-    ledger-parts =
+    ledger_parts =
         ledger_is
         ∙ ap (λ (l : List ℕ). front ++ (l ++ behind)) (sym (take-append-drop (timer_size * k) all)
         ∙ ap (λ (l : List ℕ). take (timer_size * k) all ++ l) (block_parts timer_numbers timer_size timer_size_lem idle a.timers k place))
@@ -114,16 +114,16 @@ module _ (a : State) (h : Sound a) where
         ∙ sym (append_assoc front (take (timer_size * k) all) (timer_numbers (get_or a.timers k idle) ++ rest))
 
     -- another timer there, and one that differs in the time left alone
-    pub timer-written : (t : Timer) → pasted (ledger_of a) (timer_at k) (timer_numbers t) ≡ ledger_of (with_timer a n t)
-    timer-written t =
-        (λ i. pasted (ledger-parts i) (timer_at k) (timer_numbers t))
-        ∙ paste_parts before (timer_numbers (timer a n)) (timer_numbers t) rest (timer_at k) before-size (timer_size_lem (timer a n) ∙ sym (timer_size_lem t))
+    pub timer_written : (t : Timer) → pasted (ledger_of a) (timer_at k) (timer_numbers t) ≡ ledger_of (with_timer a n t)
+    timer_written t =
+        (λ i. pasted (ledger_parts i) (timer_at k) (timer_numbers t))
+        ∙ paste_parts before (timer_numbers (timer a n)) (timer_numbers t) rest (timer_at k) before_size (timer_size_lem (timer a n) ∙ sym (timer_size_lem t))
         ∙ with_numbers t
 
-    pub left-written : (l : Time) (t : Timer) → left_of t ≡ l → started_of t ≡ started_of (timer a n) → pasted (ledger_of a) (timer_at k) (time_numbers l) ≡ ledger_of (with_timer a n t)
+    pub left_written : (l : Time) (t : Timer) → left_of t ≡ l → started_of t ≡ started_of (timer a n) → pasted (ledger_of a) (timer_at k) (time_numbers l) ≡ ledger_of (with_timer a n t)
     unfolding timer_numbers
-    left-written l t e f =
+    left_written l t e f =
         let was = timer a n in
-        (λ i. pasted (ledger-parts i) (timer_at k) (time_numbers l))
-        ∙ paste_parts before (time_numbers (left_of was)) (time_numbers l) (time_numbers (started_of was) ++ rest) (timer_at k) before-size refl
+        (λ i. pasted (ledger_parts i) (timer_at k) (time_numbers l))
+        ∙ paste_parts before (time_numbers (left_of was)) (time_numbers l) (time_numbers (started_of was) ++ rest) (timer_at k) before_size refl
         ∙ (λ i. before ++ (time_numbers (sym e i) ++ (time_numbers (sym f i) ++ rest))) ∙ with_numbers t

@@ -71,18 +71,18 @@ module _ (c : Chan) (h : SoundChan c) (w : List ℕ) where
   ways_apart = append_assoc (pad sp (held c Receive)) (pad sp (held c Send)) w
 
   module _ (z : List ℕ) where
-    lengths-apart : (places c.receive.lengths ++ places c.send.lengths) ++ z ≡ places c.receive.lengths ++ (places c.send.lengths ++ z)
-    lengths-apart = append_assoc (places c.receive.lengths) (places c.send.lengths) z
+    lengths_apart : (places c.receive.lengths ++ places c.send.lengths) ++ z ≡ places c.receive.lengths ++ (places c.send.lengths ++ z)
+    lengths_apart = append_assoc (places c.receive.lengths) (places c.send.lengths) z
 
-    received-back : lengths_from place_count ((places c.receive.lengths ++ places c.send.lengths) ++ z) ≡ c.receive.lengths
+    received_back : lengths_from place_count ((places c.receive.lengths ++ places c.send.lengths) ++ z) ≡ c.receive.lengths
     unfolding queue
-    received-back =
-        ap (lengths_from place_count) lengths-apart ∙ places_read c.receive.lengths (places c.send.lengths ++ z) (h.lengths Receive).some (few_lengths c h Receive)
+    received_back =
+        ap (lengths_from place_count) lengths_apart ∙ places_read c.receive.lengths (places c.send.lengths ++ z) (h.lengths Receive).some (few_lengths c h Receive)
 
     sent_back : lengths_from place_count (drop place_count ((places c.receive.lengths ++ places c.send.lengths) ++ z)) ≡ c.send.lengths
     unfolding queue
     sent_back =
-        ap (λ (l : List ℕ). lengths_from place_count (drop place_count l)) lengths-apart
+        ap (λ (l : List ℕ). lengths_from place_count (drop place_count l)) lengths_apart
         ∙ ap (lengths_from place_count) (drop_at (places c.receive.lengths) (places c.send.lengths ++ z) place_count (places_size c.receive.lengths))
         ∙ places_read c.send.lengths z (h.lengths Send).some (few_lengths c h Send)
 
@@ -98,7 +98,7 @@ module _ (c : Chan) (h : SoundChan c) (w : List ℕ) where
         grant = c.grant;
         link = link_back c.link i;
         carries = carries_back c.carries i;
-        receive = record { bytes = r i; lengths = received-back z i };
+        receive = record { bytes = r i; lengths = received_back z i };
         send = record { bytes = s i; lengths = sent_back z i };
         ready = c.ready;
       }

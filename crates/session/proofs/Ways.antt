@@ -74,10 +74,10 @@ module _ (f g ls : List ℕ) (at : ℕ) (e : length f ≡ at) where
       (λ i. take (m i) (drop (q i) t)) ∙ ap (take 15) (drop-append-add f (places ls ++ g) 1 ∙ drop-append-le 1 (places ls) g (omega arith))
       ∙ take_at (drop 1 (places ls)) g 15 (let d = length-drop 1 (places ls) in omega arith)
 
-  pub way-less :
+  pub way_less :
       (k : ℕ) → length ls ≤ place_count →
       (ltb k (get_or t at 0) ⇒ set t at (get_or t at 0 - k) else pasted t at (part (at + 1) (at + place_count) t ++ 0 ∷ [])) ≡ f ++ (places (lessened ls k) ++ g)
-  way-less k h =
+  way_less k h =
       let n = places_size ls in
       let x : get_or t at 0 ≡ get_or (places ls) 0 0 = ap (λ (j : ℕ). get_or t j 0) (sym (add-zero at)) ∙ way_get 0 (omega arith) in
       let shorter = ap (λ (j : ℕ). set t j (get_or t at 0 - k)) (sym (add-zero at)) ∙ way_set 0 (get_or t at 0 - k) (omega arith) in

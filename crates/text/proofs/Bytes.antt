@@ -47,21 +47,21 @@ module _ (l : List ℕ) (i : ℕ) (p : Pairs l i) where
       sym (p.same ∙ ap (λ (r : List ℕ). readable (bytes_of r)) (drop-cons l i 0 h ∙ ap (λ (r : List ℕ). get_or l i 0 ∷ r) (drop_of_length-le l last)))
 
   module _ (h : 2 ≤ length l - i) where
-    by-pair : readable (bytes_of l) ≡ (is_digit (get_or l i 0) && is_digit (get_or l (i + 1) 0)) && readable (bytes_of (drop (i + 2) l))
+    by_pair : readable (bytes_of l) ≡ (is_digit (get_or l i 0) && is_digit (get_or l (i + 1) 0)) && readable (bytes_of (drop (i + 2) l))
     unfolding bytes_of
-    by-pair = p.same ∙ ap (λ (r : List ℕ). readable (bytes_of r)) (two_at l i (omega arith)) ∙ readable_pair _ _ (bytes_of (drop (i + 2) l))
+    by_pair = p.same ∙ ap (λ (r : List ℕ). readable (bytes_of r)) (two_at l i (omega arith)) ∙ readable_pair _ _ (bytes_of (drop (i + 2) l))
 
     -- by what the code found of the two
     module _ (a : Bool) (u : a ≡ is_digit (get_or l i 0)) where
       pub no_first : not a ≡ true → false ≡ readable (bytes_of l)
-      no_first f = sym (by-pair ∙ rw (sym u ∙ not-true a f))
+      no_first f = sym (by_pair ∙ rw (sym u ∙ not-true a f))
 
       module _ (f : not a ≡ false) (b : Bool) (v : b ≡ is_digit (get_or l (i + 1) 0)) where
         pub no_second : not b ≡ true → false ≡ readable (bytes_of l)
-        no_second g = sym (by-pair ∙ rw (sym u ∙ not-false a f, sym v ∙ not-true b g))
+        no_second g = sym (by_pair ∙ rw (sym u ∙ not-false a f, sym v ∙ not-true b g))
 
-        pub pairs-more : not b ≡ false → Pairs l (i + 2)
-        pairs-more g = record { within = omega arith; same = by-pair ∙ rw (sym u ∙ not-false a f, sym v ∙ not-false b g) }
+        pub pairs_more : not b ≡ false → Pairs l (i + 2)
+        pairs_more g = record { within = omega arith; same = by_pair ∙ rw (sym u ∙ not-false a f, sym v ∙ not-false b g) }
 
 -- the parts of a byte that was read
 read_pair :

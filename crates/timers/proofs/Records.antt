@@ -30,7 +30,7 @@ use Rattle.octets.specs.Parts.{pasted, overlaid}
 use Rattle.session.specs.Book.{timer_at, ledger_size}
 use Rattle.session.specs.Picture.{time_at, time_numbers, timer_numbers, pool_of, shown, Shows, GoodIn}
 use Rattle.session.specs.Calls.{Answers}
-use Rattle.session.proofs.Timers.{left-read, started-read, timer-written}
+use Rattle.session.proofs.Timers.{left_read, started_read, timer_written}
 use Rattle.session.proofs.Answers.{refuse_answers, wrote_answers}
 use Rattle.responses.specs.Filled.{response, Filled}
 use Rattle.own.specs.Replies.{told}
@@ -69,16 +69,16 @@ module _ (t p : List ℕ) (g : GoodIn t p) (n : ℕ) (low : 1 ≤ n) (high : n �
   a = shown t p
 
   pub left_is : time_at t (timer_at (n - 1)) ≡ left_of (timer a n)
-  left_is = ap (λ (u : List ℕ). time_at u (timer_at (n - 1))) g.shows.ledger ∙ left-read a g.sound n low high
+  left_is = ap (λ (u : List ℕ). time_at u (timer_at (n - 1))) g.shows.ledger ∙ left_read a g.sound n low high
 
   pub started_is : time_at t (timer_at (n - 1) + 3) ≡ started_of (timer a n)
-  started_is = ap (λ (u : List ℕ). time_at u (timer_at (n - 1) + 3)) g.shows.ledger ∙ started-read a g.sound n low high
+  started_is = ap (λ (u : List ℕ). time_at u (timer_at (n - 1) + 3)) g.shows.ledger ∙ started_read a g.sound n low high
 
   -- another timer there
   pub shows_with : (x : Timer) (u : List ℕ) → u ≡ pasted t (timer_at (n - 1)) (timer_numbers x) → Shows (with_timer a n x) u p
   unfolding pool_of with_timer
   shows_with x u e =
-      record { ledger = e ∙ ap (λ (v : List ℕ). pasted v (timer_at (n - 1)) (timer_numbers x)) g.shows.ledger ∙ timer-written a g.sound n low high x; pool = g.shows.pool }
+      record { ledger = e ∙ ap (λ (v : List ℕ). pasted v (timer_at (n - 1)) (timer_numbers x)) g.shows.ledger ∙ timer_written a g.sound n low high x; pool = g.shows.pool }
 
 -- the numbers that were put, at the place and with the times that the code has found
 pub start_put :
@@ -99,31 +99,31 @@ module _ (t p : List ℕ) (g : GoodIn t p) (d : Details) (n : ℕ) (i : Bool) (k
     abbrev starts : List ℕ → Type 0
     starts u = Answers (told d (starting_timer b n v i)) u p (Wrote k) before after
 
-    pub start-number : is_timer n ≡ false → unread → starts t
+    pub start_number : is_timer n ≡ false → unread → starts t
     unfolding starting_timer
-    start-number e w = left_answers d (starting_timer b n v i) (error 0x32) t p k before after (stop _ _ _ (ap not e)) g w
+    start_number e w = left_answers d (starting_timer b n v i) (error 0x32) t p k before after (stop _ _ _ (ap not e)) g w
 
-    pub start-digits : is_timer n ≡ true → every is_digits v ≡ false → unread → starts t
+    pub start_digits : is_timer n ≡ true → every is_digits v ≡ false → unread → starts t
     unfolding starting_timer
-    start-digits e f w = left_answers d (starting_timer b n v i) (error 0x32) t p k before after (skip _ _ _ (ap not e) ∙ stop _ _ _ (ap not f)) g w
+    start_digits e f w = left_answers d (starting_timer b n v i) (error 0x32) t p k before after (skip _ _ _ (ap not e) ∙ stop _ _ _ (ap not f)) g w
 
-    pub start-day : is_timer n ≡ true → every is_digits v ≡ true → of_day (time_in v) ≡ false → unread → starts t
+    pub start_day : is_timer n ≡ true → every is_digits v ≡ true → of_day (time_in v) ≡ false → unread → starts t
     unfolding starting_timer
-    start-day e f h w =
+    start_day e f h w =
         left_answers d (starting_timer b n v i) (error 0x32) t p k before after (skip _ _ _ (ap not e) ∙ skip _ _ _ (ap not f) ∙ stop _ _ _ (ap not h)) g w
 
-    pub start-zero : is_timer n ≡ true → every is_digits v ≡ true → of_day (time_in v) ≡ true → is_zero (time_in v) ≡ true → unread → starts t
+    pub start_zero : is_timer n ≡ true → every is_digits v ≡ true → of_day (time_in v) ≡ true → is_zero (time_in v) ≡ true → unread → starts t
     unfolding starting_timer
-    start-zero e f h z w =
+    start_zero e f h z w =
         left_answers d (starting_timer b n v i) (error 0x32) t p k before after
         (skip _ _ _ (ap not e) ∙ skip _ _ _ (ap not f) ∙ skip _ _ _ (ap not h) ∙ stop _ _ _ z) g w
 
-    pub start-done :
+    pub start_done :
         (x : ℕ) (u : List ℕ) → is_timer n ≡ true → every is_digits v ≡ true → of_day (time_in v) ≡ true → is_zero (time_in v) ≡ false →
         u ≡ pasted t (timer_at (n - 1)) (time_numbers (time_in v) ++ time_numbers (time_in v)) → x ≡ plain i → Filled (response d (done x (started n))) k before after →
         starts u
     unfolding starting_timer is_time timer_numbers left_of started_of
-    start-done x u e f h z s m w =
+    start_done x u e f h z s m w =
         let r = running (time_in v) (time_in v) in
         let fine = both (of_day (time_in v)) _ h (ap not z) in
         told_answers d (starting_timer b n v i) (with_timer b n r) (done (plain i) (started n)) u p k before after
@@ -139,14 +139,14 @@ module _ (t p : List ℕ) (g : GoodIn t p) (d : Details) (n : ℕ) (i : Bool) (k
     abbrev manages : List ℕ → Type 0
     manages u = Answers (told d (managing_timer b q n i)) u p (Wrote k) before after
 
-    pub manage-none : action_of q ≡ 3 → unread → manages t
+    pub manage_none : action_of q ≡ 3 → unread → manages t
     unfolding managing_timer
-    manage-none e w = left_answers d (managing_timer b q n i) (error 0x32) t p k before after (stop _ _ _ (eq-eqb (action_of q) 3 e)) g w
+    manage_none e w = left_answers d (managing_timer b q n i) (error 0x32) t p k before after (stop _ _ _ (eq-eqb (action_of q) 3 e)) g w
 
     module _ (acts : action_of q ≡ 3 → ⊥) where
-      pub manage-number : is_timer n ≡ false → unread → manages t
+      pub manage_number : is_timer n ≡ false → unread → manages t
       unfolding managing_timer
-      manage-number e w =
+      manage_number e w =
           left_answers d (managing_timer b q n i) (error 0x32) t p k before after (skip _ _ _ (ne_eqb (action_of q) 3 acts) ∙ stop _ _ _ (ap not e)) g w
 
       module _ (e : is_timer n ≡ true) (l : Time) (eˡ : l ≡ time_at t (timer_at (n - 1))) where
@@ -157,13 +157,13 @@ module _ (t p : List ℕ) (g : GoodIn t p) (d : Details) (n : ℕ) (i : Bool) (k
         unfolding managing_timer
         checked = skip _ _ _ (ne_eqb (action_of q) 3 acts) ∙ skip _ _ _ (ap not e)
 
-        pub manage-idle : is_zero l ≡ true → Filled (response d (error 0x24)) k before after → manages t
-        manage-idle z w =
+        pub manage_idle : is_zero l ≡ true → Filled (response d (error 0x24)) k before after → manages t
+        manage_idle z w =
             left_answers d (managing_timer b q n i) (error 0x24) t p k before after
             (checked ∙ told_none b q n i (timer b n) (timer_sound b n g.sound) (sym (ap is_zero found) ∙ z)) g w
 
-        pub left-fits : is_zero l ≡ false → of_day l ≡ true
-        left-fits z = ap of_day found ∙ left_day (timer b n) (timer_sound b n g.sound) (sym (ap is_zero found) ∙ z)
+        pub left_fits : is_zero l ≡ false → of_day l ≡ true
+        left_fits z = ap of_day found ∙ left_day (timer b n) (timer_sound b n g.sound) (sym (ap is_zero found) ∙ z)
 
         module _ (z : is_zero l ≡ false) (x : ℕ) (m : x ≡ plain i) (w : Filled (response d (done x (leaves n l))) k before after) where
           tells : tells_left b q n i (timer b n) ≡ reply (eqb (action_of q) 1 ⇒ with_timer b n idle else b) (done (plain i) (leaves n (left_of (timer b n))))
@@ -172,15 +172,15 @@ module _ (t p : List ℕ) (g : GoodIn t p) (d : Details) (n : ℕ) (i : Bool) (k
           filled : Filled (response d (done (plain i) (leaves n (left_of (timer b n))))) k before after
           filled = subst (λ (y : List ℕ). Filled y k before after) (λ j. response d (done (m j) (leaves n (found j)))) w
 
-          pub manage-stop : action_of q ≡ 1 → (u : List ℕ) → u ≡ pasted t (timer_at (n - 1)) (time_numbers no_time ++ time_numbers no_time) → manages u
+          pub manage_stop : action_of q ≡ 1 → (u : List ℕ) → u ≡ pasted t (timer_at (n - 1)) (time_numbers no_time ++ time_numbers no_time) → manages u
           unfolding timer_numbers left_of started_of
-          manage-stop s u f =
+          manage_stop s u f =
               told_answers d (managing_timer b q n i) (with_timer b n idle) (done (plain i) (leaves n (left_of (timer b n)))) u p k before after
               (checked ∙ tells ∙ ap (λ (y : State). reply y (done (plain i) (leaves n (left_of (timer b n))))) (stop _ _ _ (eq-eqb (action_of q) 1 s)))
               (with_timer_sound b n idle g.sound tt) (shows_with t p g n (timer_low n e) (timer_high n e) idle u f) filled
 
-          pub manage-ask : (action_of q ≡ 1 → ⊥) → manages t
-          manage-ask s =
+          pub manage_ask : (action_of q ≡ 1 → ⊥) → manages t
+          manage_ask s =
               left_answers d (managing_timer b q n i) (done (plain i) (leaves n (left_of (timer b n)))) t p k before after
               (checked ∙ tells ∙ ap (λ (y : State). reply y (done (plain i) (leaves n (left_of (timer b n))))) (skip _ _ _ (ne_eqb (action_of q) 1 s))) g filled
 
@@ -202,28 +202,28 @@ module _ (t p : List ℕ) (g : GoodIn t p) (out : List ℕ) where
     envelope_none z = refuse_answers (enveloping e (length out)) t p out NoneWaits g (skip _ _ _ (le-ltb (length out) 14 l) ∙ stop _ _ _ (eq-eqb _ timer_count (sym w ∙ z)))
 
     module _ (some : k ≡ timer_count → ⊥) where
-      pub waiting-below : k < timer_count
-      waiting-below = let x = before_waiting_lem e.timers in omega (arith, w, x, some, g.sound.eight)
+      pub waiting_below : k < timer_count
+      waiting_below = let x = before_waiting_lem e.timers in omega (arith, w, x, some, g.sound.eight)
 
       at_place : k + 1 - 1 ≡ k
       at_place = omega arith
 
       pub from_is : time_at t (timer_at k + 3) ≡ started_of (timer e (k + 1))
-      from_is = ap (λ (j : ℕ). time_at t (timer_at j + 3)) (sym at_place) ∙ started_is t p g (k + 1) (omega arith) (omega (arith, waiting-below))
+      from_is = ap (λ (j : ℕ). time_at t (timer_at j + 3)) (sym at_place) ∙ started_is t p g (k + 1) (omega arith) (omega (arith, waiting_below))
 
-      pub from-day : of_day (time_at t (timer_at k + 3)) ≡ true
-      from-day = ap of_day from_is ∙ started_day (timer e (k + 1)) (timer_sound e (k + 1) g.sound)
+      pub from_day : of_day (time_at t (timer_at k + 3)) ≡ true
+      from_day = ap of_day from_is ∙ started_day (timer e (k + 1)) (timer_sound e (k + 1) g.sound)
 
-      pub envelope-done :
+      pub envelope_done :
           (u after : List ℕ) → u ≡ pasted t (timer_at k) (time_numbers no_time ++ time_numbers no_time) → after ≡ overlaid (envelope_bytes (k + 1) (time_at t (timer_at k + 3))) out →
           told_by (Wrote 14) u after
       unfolding enveloping timer_numbers left_of started_of step
-      envelope-done u after s b =
+      envelope_done u after s b =
           let n = k + 1 in
           let bytes = envelope_bytes n (started_of (timer e n)) in
           subst (λ (m : ℕ). told_by (Wrote m) u after) (envelope_told n (started_of (timer e n)))
           (wrote_answers (enveloping e (length out)) (with_timer e n idle) bytes u p out after (step_sound e (timing (envelope (length out))) g.sound)
           (skip _ _ _ (le-ltb (length out) 14 l) ∙ skip _ _ _ (ne_eqb _ timer_count (λ z. some (w ∙ z)))
           ∙ ap (λ (j : ℕ). answered (with_timer e (j + 1) idle) (envelope_bytes (j + 1) (started_of (timer e (j + 1))))) (sym w))
-          (shows_with t p g n (omega arith) (omega (arith, waiting-below)) idle u (s ∙ ap (λ (j : ℕ). pasted t (timer_at j) (time_numbers no_time ++ time_numbers no_time)) (sym at_place)))
+          (shows_with t p g n (omega arith) (omega (arith, waiting_below)) idle u (s ∙ ap (λ (j : ℕ). pasted t (timer_at j) (time_numbers no_time ++ time_numbers no_time)) (sym at_place)))
           (b ∙ ap (λ (x : Time). overlaid (envelope_bytes n x) out) from_is))

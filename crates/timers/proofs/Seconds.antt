@@ -21,7 +21,7 @@ use Rattle.session.specs.Book.{timer_at, ledger_size}
 use Rattle.session.proofs.Ledgers.{ledger_size_lem}
 use Rattle.session.specs.Picture.{time_at, ledger_of, pool_of, shown, GoodIn, time_numbers}
 use Rattle.session.specs.Calls.{Answers}
-use Rattle.session.proofs.Timers.{left-read, left-written}
+use Rattle.session.proofs.Timers.{left_read, left_written}
 use Rattle.session.proofs.Answers.{quiet_answers}
 use Rattle.timers.specs.Ticks.{ticked_at, waits_at}
 use Rattle.timers.proofs.ByTimes.{ticked_none, ticked_left, waits_by}
@@ -44,12 +44,12 @@ pub tick_is : (a : State) → Sound a → (n : ℕ) → 1 ≤ n → n ≤ timer_
 unfolding ticked_at
 tick_is a h n low high =
     let x = timer a n in
-    let read = left-read a h n low high in
+    let read = left_read a h n low high in
     branch (λ (t : List ℕ). t ≡ ledger_of (with_timer a n (ticked x))) (is_zero (time_at (ledger_of a) (timer_at (n - 1)))) _ _
     (λ z. sym (ap ledger_of (ap (with_timer a n) (ticked_none x (timer_sound a n h) (sym (ap is_zero read) ∙ z)) ∙ same_timer a n)))
     (λ z.
     let w = ticked_left x (sym (ap is_zero read) ∙ z) in
-    left-written a h n low high _ (ticked x) (w.0 ∙ ap less_second (sym read)) w.1)
+    left_written a h n low high _ (ticked x) (w.0 ∙ ap less_second (sym read)) w.1)
 
 -- what the code leaves of the numbers at a place
 module _ (t : List ℕ) (at : ℕ) {l : Time} {z : Bool} (eˡ : l ≡ time_at t at) (eᶻ : z ≡ is_zero l) where
@@ -57,9 +57,9 @@ module _ (t : List ℕ) (at : ℕ) {l : Time} {z : Bool} (eˡ : l ≡ time_at t 
   unfolding ticked_at
   tick_zero e = sym (stop _ _ _ (ap is_zero (sym eˡ) ∙ sym eᶻ ∙ e))
 
-  pub tick-less : z ≡ false → {m : Time} {u : List ℕ} → m ≡ less_second l → u ≡ pasted t at (time_numbers m) → u ≡ ticked_at t at
+  pub tick_less : z ≡ false → {m : Time} {u : List ℕ} → m ≡ less_second l → u ≡ pasted t at (time_numbers m) → u ≡ ticked_at t at
   unfolding ticked_at
-  tick-less e f s =
+  tick_less e f s =
       s ∙ ap (λ (x : Time). pasted t at (time_numbers x)) (f ∙ ap less_second eˡ) ∙ sym (skip _ _ _ (ap is_zero (sym eˡ) ∙ sym eᶻ ∙ e))
 
 -- a second for the first k timers

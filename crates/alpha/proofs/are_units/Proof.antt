@@ -4,7 +4,7 @@ use Prim.Native.Nat.{◌-◌}
 use mathlib.Core.Path.{◌∙◌}
 use native.Mathlib.Omega.{arith}
 use lib.ListN.{length}
-use Rattle.alpha.proofs.Lines.{Uniting, uniting_none, uniting_short, uniting_last, uniting-not, uniting-joined, uniting-more}
+use Rattle.alpha.proofs.Lines.{Uniting, uniting_none, uniting_short, uniting_last, uniting_not, uniting_joined, uniting_more}
 use Rattle.alpha.proofs.are_units.Statement.{statement}
 use Rattle.alpha.proofs.are_units.Tie as tie
 
@@ -18,21 +18,21 @@ returns : tie.Need-returns invariant-loop decreases-loop
 returns c =
     let d : tie.After-are-digits invariant-loop decreases-loop = search in
     let l : tie.At-loop invariant-loop decreases-loop = search in
-    uniting-not _ _ l.loop.inv (omega arith) _ d.are-digits.ensures c.if1.true
+    uniting_not _ _ l.loop.inv (omega arith) _ d.are-digits.ensures c.if1.true
 
 returns-2 : tie.Need-returns-2 invariant-loop decreases-loop
 returns-2 c =
     let f : tie.Else1 invariant-loop decreases-loop = search in
     let d : tie.After-are-digits invariant-loop decreases-loop = search in
     let l : tie.At-loop invariant-loop decreases-loop = search in
-    uniting-joined _ _ l.loop.inv (omega arith) _ d.are-digits.ensures f.if1.left c.if2.true
+    uniting_joined _ _ l.loop.inv (omega arith) _ d.are-digits.ensures f.if1.left c.if2.true
 
 loop-again : tie.Need-loop-preserved invariant-loop decreases-loop
 loop-again c =
     let f : tie.Else1 invariant-loop decreases-loop = search in
     let d : tie.After-are-digits invariant-loop decreases-loop = search in
     let l : tie.At-loop invariant-loop decreases-loop = search in
-    uniting-more _ _ l.loop.inv (omega arith) _ d.are-digits.ensures f.if1.left c.if2.false
+    uniting_more _ _ l.loop.inv (omega arith) _ d.are-digits.ensures f.if1.left c.if2.false
 
 returns-4 : tie.Need-returns-4 invariant-loop decreases-loop
 returns-4 c =

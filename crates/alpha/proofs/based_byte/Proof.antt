@@ -2,7 +2,7 @@
 -- Assumes nothing.
 use borrow.Author.Rules.{rules}
 use native.Mathlib.Omega.{arith}
-use Rattle.alpha.proofs.Layings.{byte_code, byte_low, byte_high, byte-based}
+use Rattle.alpha.proofs.Layings.{byte_code, byte_low, byte_high, byte_based}
 use Rattle.alpha.proofs.based_byte.Statement.{statement}
 use Rattle.alpha.proofs.based_byte.Tie as tie
 
@@ -39,7 +39,7 @@ returns-2 c =
     let t : tie.After-enum-told = search in
     let x : tie.After-code-of = search in
     let s : tie.Start = search in
-    byte-based _ _ s.pre.1 _ x.code_of_lem.ensures t.enum_told.given.1
+    byte_based _ _ s.pre.1 _ x.code_of_lem.ensures t.enum_told.given.1
 
 pub based_byte_spec : {M : Type 1} → statement M
 based_byte_spec =

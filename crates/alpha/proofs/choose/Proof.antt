@@ -2,7 +2,7 @@
 -- Assumes nothing.
 use borrow.Author.Rules.{rules}
 use native.Mathlib.Omega.{arith}
-use Rattle.alpha.proofs.Surveys.{choose_many, choose-low, choose-block, choose-named, choose-even, choose-base, choose-last}
+use Rattle.alpha.proofs.Surveys.{choose_many, choose_low, choose_block, choose_named, choose_even, choose_base, choose_last}
 use Rattle.alpha.proofs.choose.Statement.{statement}
 use Rattle.alpha.proofs.choose.Tie as tie
 
@@ -12,7 +12,7 @@ cast-t9 c =
     let b : tie.After-block-fits = search in
     let x : tie.After-excess = search in
     let p : tie.After-first-form = search in
-    omega (arith, choose-named _ _ _ p.first-form.ensures (omega arith) _ x.excess.ensures (omega arith) _ b.block-fits.ensures t.if3.taken)
+    omega (arith, choose_named _ _ _ p.first-form.ensures (omega arith) _ x.excess.ensures (omega arith) _ b.block-fits.ensures t.if3.taken)
 
 returns-3 : tie.Need-returns-3
 returns-3 c =
@@ -20,7 +20,7 @@ returns-3 c =
     let b : tie.After-block-fits = search in
     let x : tie.After-excess = search in
     let p : tie.After-first-form = search in
-    choose-block _ _ _ p.first-form.ensures (omega arith) _ x.excess.ensures (omega arith) _ b.block-fits.ensures t.if3.taken
+    choose_block _ _ _ p.first-form.ensures (omega arith) _ x.excess.ensures (omega arith) _ b.block-fits.ensures t.if3.taken
 
 returns-4 : tie.Need-returns-4
 returns-4 c =
@@ -28,7 +28,7 @@ returns-4 c =
     let b : tie.After-block-fits = search in
     let x : tie.After-excess = search in
     let p : tie.After-first-form = search in
-    choose-even _ _ _ p.first-form.ensures (omega arith) _ x.excess.ensures (omega arith) _ b.block-fits.ensures t.if3.left (omega arith)
+    choose_even _ _ _ p.first-form.ensures (omega arith) _ x.excess.ensures (omega arith) _ b.block-fits.ensures t.if3.left (omega arith)
 
 returns-5 : tie.Need-returns-5
 returns-5 c =
@@ -37,7 +37,7 @@ returns-5 c =
     let b : tie.After-block-fits = search in
     let x : tie.After-excess = search in
     let p : tie.After-first-form = search in
-    choose-base _ _ _ p.first-form.ensures (omega arith) _ x.excess.ensures (omega arith) _ b.block-fits.ensures t.if3.left (omega arith) _ h.base-of.ensures (omega arith)
+    choose_base _ _ _ p.first-form.ensures (omega arith) _ x.excess.ensures (omega arith) _ b.block-fits.ensures t.if3.left (omega arith) _ h.base-of.ensures (omega arith)
 
 returns-6 : tie.Need-returns-6
 returns-6 c =
@@ -46,7 +46,7 @@ returns-6 c =
     let b : tie.After-block-fits = search in
     let x : tie.After-excess = search in
     let p : tie.After-first-form = search in
-    choose-last _ _ _ p.first-form.ensures (omega arith) _ x.excess.ensures (omega arith) _ b.block-fits.ensures t.if3.left (omega arith) _ h.base-of.ensures (omega arith)
+    choose_last _ _ _ p.first-form.ensures (omega arith) _ x.excess.ensures (omega arith) _ b.block-fits.ensures t.if3.left (omega arith) _ h.base-of.ensures (omega arith)
 
 pub choose_spec : {M : Type 1} → statement M
 choose_spec =
@@ -55,7 +55,7 @@ choose_spec =
     (λ c κs. search rules)
     (λ c. search choose_many)
     (λ c κs. search rules)
-    (λ c. search choose-low)
+    (λ c. search choose_low)
     (λ c κs. search rules)
     cast-t9
     returns-3

@@ -4,7 +4,7 @@ use borrow.Author.Rules.{rules}
 use native.Mathlib.Omega.{arith}
 use Prim.Native.Nat.{◌≤◌}
 use lib.ListN.{length}
-use Rattle.alpha.proofs.Marks.{reads_none, reads_pairs, reads-block, reads-base, reads_default, block_long, base_long, fills_as, laid_as, laid_none}
+use Rattle.alpha.proofs.Marks.{reads_none, reads_pairs, reads_block, reads_base, reads_default, block_long, base_long, fills_as, laid_as, laid_none}
 use Rattle.alpha.proofs.fill.Statement.{statement}
 use Rattle.alpha.proofs.fill.Tie as tie
 
@@ -49,7 +49,7 @@ fill-counted-requires c κs =
     let t : tie.Then3 = search in
     let e : tie.Else1 = search in
     let s : tie.Start = search in
-    fills_as (reads-block _ e.if1.left t.if3.taken _ _ (block t) w.wide.ensures.0 p.block-pointer.ensures) s.pre
+    fills_as (reads_block _ e.if1.left t.if3.taken _ _ (block t) w.wide.ensures.0 p.block-pointer.ensures) s.pre
 
 returns-3 : tie.Need-returns-3
 returns-3 c =
@@ -58,7 +58,7 @@ returns-3 c =
     let w : tie.After-wide = search in
     let t : tie.Then3 = search in
     let e : tie.Else1 = search in
-    laid_as _ (reads-block _ e.if1.left t.if3.taken _ _ (block t) w.wide.ensures.0 p.block-pointer.ensures) f.fill-counted.ensures
+    laid_as _ (reads_block _ e.if1.left t.if3.taken _ _ (block t) w.wide.ensures.0 p.block-pointer.ensures) f.fill-counted.ensures
 
 fill-counted-requires-2 : tie.Need-fill-counted-requires-2
 fill-counted-requires-2 c κs =
@@ -67,7 +67,7 @@ fill-counted-requires-2 c κs =
     let t : tie.Then4 = search in
     let e : tie.Else1 = search in
     let s : tie.Start = search in
-    fills_as (reads-base _ e.if1.left t.if4.taken _ _ (base t) w.wide2.ensures.0 p.base-pointer.ensures) s.pre
+    fills_as (reads_base _ e.if1.left t.if4.taken _ _ (base t) w.wide2.ensures.0 p.base-pointer.ensures) s.pre
 
 returns-4 : tie.Need-returns-4
 returns-4 c =
@@ -76,7 +76,7 @@ returns-4 c =
     let w : tie.After-wide2 = search in
     let t : tie.Then4 = search in
     let e : tie.Else1 = search in
-    laid_as _ (reads-base _ e.if1.left t.if4.taken _ _ (base t) w.wide2.ensures.0 p.base-pointer.ensures) f.fill-counted2.ensures
+    laid_as _ (reads_base _ e.if1.left t.if4.taken _ _ (base t) w.wide2.ensures.0 p.base-pointer.ensures) f.fill-counted2.ensures
 
 fill-default-requires : tie.Need-fill-default-requires
 fill-default-requires c κs =

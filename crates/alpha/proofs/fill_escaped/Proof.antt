@@ -6,7 +6,7 @@ use native.Mathlib.Omega.{arith}
 use borrow.Author.Rules.{rules}
 use lib.ListN.{length, get_or}
 use Rattle.alpha.specs.Alphabet.{table, unit_of}
-use Rattle.alpha.proofs.Defaults.{Filling, filling_none, filling_same, filling_end, filling-padding, filling-low, filling-code, filling-behind, filling-assigned, filling-extended}
+use Rattle.alpha.proofs.Defaults.{Filling, filling_none, filling_same, filling_end, filling_padding, filling_low, filling_code, filling_behind, filling_assigned, filling_extended}
 use Rattle.alpha.proofs.fill_escaped.Statement.{statement}
 use Rattle.alpha.proofs.fill_escaped.Tie as tie
 
@@ -25,13 +25,13 @@ returns : tie.Need-returns invariant-loop decreases-loop
 returns c =
     let t : tie.Then1 invariant-loop decreases-loop = search in
     let l : tie.At-loop invariant-loop decreases-loop = search in
-    filling-padding _ _ _ _ _ l.loop.inv.1 (omega arith) t.if1.taken
+    filling_padding _ _ _ _ _ l.loop.inv.1 (omega arith) t.if1.taken
 
 shared-slice-read-extension : tie.Need-shared-slice-read-extension invariant-loop decreases-loop
 shared-slice-read-extension c =
     let e : tie.Then2 invariant-loop decreases-loop = search in
     let l : tie.At-loop invariant-loop decreases-loop = search in
-    filling-behind _ _ _ _ _ l.loop.inv.1 (omega arith) e.if2.taken
+    filling_behind _ _ _ _ _ l.loop.inv.1 (omega arith) e.if2.taken
 
 returns-2 : tie.Need-returns-2 invariant-loop decreases-loop
 returns-2 c =
@@ -39,7 +39,7 @@ returns-2 c =
     let x : tie.After-extension invariant-loop decreases-loop = search in
     let e : tie.Then2 invariant-loop decreases-loop = search in
     let l : tie.At-loop invariant-loop decreases-loop = search in
-    absurd (filling-assigned _ _ _ _ _ l.loop.inv.1 (omega arith) e.if2.taken _ x.extension.ensures t.enum_told.given.1)
+    absurd (filling_assigned _ _ _ _ _ l.loop.inv.1 (omega arith) e.if2.taken _ x.extension.ensures t.enum_told.given.1)
 
 slice-write-out : tie.Need-slice-write-out invariant-loop decreases-loop
 slice-write-out c =
@@ -47,7 +47,7 @@ slice-write-out c =
     let x : tie.After-extension invariant-loop decreases-loop = search in
     let e : tie.Then2 invariant-loop decreases-loop = search in
     let l : tie.At-loop invariant-loop decreases-loop = search in
-    (filling-extended _ _ _ _ _ l.loop.inv.1 (omega arith) e.if2.taken _ x.extension.ensures _ u.unit.given.1).0
+    (filling_extended _ _ _ _ _ l.loop.inv.1 (omega arith) e.if2.taken _ x.extension.ensures _ u.unit.given.1).0
 
 mul-out : tie.Need-overflow-mul-out invariant-loop decreases-loop
 mul-out c = omega (arith, slice-write-out c)
@@ -58,26 +58,26 @@ loop-again c =
     let x : tie.After-extension invariant-loop decreases-loop = search in
     let e : tie.Then2 invariant-loop decreases-loop = search in
     let l : tie.At-loop invariant-loop decreases-loop = search in
-    (l.loop.inv.0, (filling-extended _ _ _ _ _ l.loop.inv.1 (omega arith) e.if2.taken _ x.extension.ensures _ u.unit.given.1).1)
+    (l.loop.inv.0, (filling_extended _ _ _ _ _ l.loop.inv.1 (omega arith) e.if2.taken _ x.extension.ensures _ u.unit.given.1).1)
 
 less : tie.Need-loop-smaller invariant-loop decreases-loop
 less c =
     let e : tie.Then2 invariant-loop decreases-loop = search in
     let l : tie.At-loop invariant-loop decreases-loop = search in
-    omega (arith, filling-behind _ _ _ _ _ l.loop.inv.1 (omega arith) e.if2.taken)
+    omega (arith, filling_behind _ _ _ _ _ l.loop.inv.1 (omega arith) e.if2.taken)
 
 add-i : tie.Need-overflow-add-i invariant-loop decreases-loop
 add-i c =
     let e : tie.Then2 invariant-loop decreases-loop = search in
     let l : tie.At-loop invariant-loop decreases-loop = search in
-    omega (arith, filling-behind _ _ _ _ _ l.loop.inv.1 (omega arith) e.if2.taken)
+    omega (arith, filling_behind _ _ _ _ _ l.loop.inv.1 (omega arith) e.if2.taken)
 
 element-copy-out-out : tie.Need-element-copy-out-out invariant-loop decreases-loop
 element-copy-out-out c =
     let w : tie.After-wide invariant-loop decreases-loop = search in
     let p : tie.Else1 invariant-loop decreases-loop = search in
     let l : tie.At-loop invariant-loop decreases-loop = search in
-    omega (arith, w.wide.ensures.0, filling-low _ _ _ _ _ l.loop.inv.1 (omega arith) p.if1.left)
+    omega (arith, w.wide.ensures.0, filling_low _ _ _ _ _ l.loop.inv.1 (omega arith) p.if1.left)
 
 mul-out-2 : tie.Need-overflow-mul-out-2 invariant-loop decreases-loop
 mul-out-2 c = let w : tie.After-wide invariant-loop decreases-loop = search in omega (arith, w.wide.ensures.1)
@@ -90,7 +90,7 @@ loop-again-2 c =
     let p : tie.Else1 invariant-loop decreases-loop = search in
     let l : tie.At-loop invariant-loop decreases-loop = search in (
       l.loop.inv.0,
-      (filling-code _ _ _ _ _ l.loop.inv.1 (omega arith) p.if1.left e.if2.left _ (λ i. get_or (l.loop.inv.0 i) (w.wide.ensures.0 i) 0)).1,
+      (filling_code _ _ _ _ _ l.loop.inv.1 (omega arith) p.if1.left e.if2.left _ (λ i. get_or (l.loop.inv.0 i) (w.wide.ensures.0 i) 0)).1,
     )
 
 slice-write-out-2 : tie.Need-slice-write-out-2 invariant-loop decreases-loop
@@ -99,7 +99,7 @@ slice-write-out-2 c =
     let e : tie.Else2 invariant-loop decreases-loop = search in
     let p : tie.Else1 invariant-loop decreases-loop = search in
     let l : tie.At-loop invariant-loop decreases-loop = search in
-    (filling-code _ _ _ _ _ l.loop.inv.1 (omega arith) p.if1.left e.if2.left _ refl).0
+    (filling_code _ _ _ _ _ l.loop.inv.1 (omega arith) p.if1.left e.if2.left _ refl).0
 
 mul-out-3 : tie.Need-overflow-mul-out-3 invariant-loop decreases-loop
 mul-out-3 c = omega (arith, slice-write-out-2 c)

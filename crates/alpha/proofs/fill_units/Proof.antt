@@ -2,7 +2,7 @@
 -- Assumes nothing.
 use Prim.Native.Nat.{◌-◌}
 use native.Mathlib.Omega.{arith}
-use Rattle.alpha.proofs.Lines.{United, united_none, united_same, united-place, united-digits, united-room, united-more, united_all}
+use Rattle.alpha.proofs.Lines.{United, united_none, united_same, united_place, united_digits, united_room, united_more, united_all}
 use Rattle.alpha.proofs.fill_units.Statement.{statement}
 use Rattle.alpha.proofs.fill_units.Tie as tie
 
@@ -15,18 +15,18 @@ decreases-loop line out₀ n i₀ out i = n - i
 unit-at-requires : tie.Need-unit-at-requires invariant-loop decreases-loop
 unit-at-requires c κs =
     let l : tie.At-loop invariant-loop decreases-loop = search in
-    (united-place _ _ _ _ l.loop.inv (omega arith), united-digits _ _ _ _ l.loop.inv (omega arith))
+    (united_place _ _ _ _ l.loop.inv (omega arith), united_digits _ _ _ _ l.loop.inv (omega arith))
 
 slice-write-out : tie.Need-slice-write-out invariant-loop decreases-loop
 slice-write-out c =
     let l : tie.At-loop invariant-loop decreases-loop = search in
-    united-room _ _ _ _ l.loop.inv (omega arith)
+    united_room _ _ _ _ l.loop.inv (omega arith)
 
 loop-again : tie.Need-loop-preserved invariant-loop decreases-loop
 loop-again c =
     let u : tie.After-unit-at invariant-loop decreases-loop = search in
     let l : tie.At-loop invariant-loop decreases-loop = search in
-    united-more _ _ _ _ l.loop.inv (omega arith) _ u.unit-at.ensures
+    united_more _ _ _ _ l.loop.inv (omega arith) _ u.unit-at.ensures
 
 pub fill_units_spec : {M : Type 1} → statement M
 fill_units_spec =

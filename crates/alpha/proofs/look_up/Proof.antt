@@ -4,7 +4,7 @@ use Prim.Native.Nat.{◌-◌}
 use mathlib.Core.Path.{◌≡◌}
 use native.Mathlib.Omega.{arith}
 use Rattle.alpha.specs.Alphabet.{table}
-use Rattle.alpha.proofs.Tables.{Looks, looks_none, looks_end, looks-found, looks-more}
+use Rattle.alpha.proofs.Tables.{Looks, looks_none, looks_end, looks_found, looks_more}
 use Rattle.alpha.proofs.look_up.Statement.{statement}
 use Rattle.alpha.proofs.look_up.Tie as tie
 
@@ -18,13 +18,13 @@ returns : tie.Need-returns invariant-loop decreases-loop
 returns c =
     let t : tie.Then1 invariant-loop decreases-loop = search in
     let l : tie.At-loop invariant-loop decreases-loop = search in
-    looks-found _ _ l.loop.inv.1 _ l.loop.inv.0 (omega arith) t.if1.taken
+    looks_found _ _ l.loop.inv.1 _ l.loop.inv.0 (omega arith) t.if1.taken
 
 loop-again : tie.Need-loop-preserved invariant-loop decreases-loop
 loop-again c =
     let t : tie.Else1 invariant-loop decreases-loop = search in
     let l : tie.At-loop invariant-loop decreases-loop = search in
-    (l.loop.inv.0, looks-more _ _ l.loop.inv.1 _ l.loop.inv.0 (omega arith) t.if1.left)
+    (l.loop.inv.0, looks_more _ _ l.loop.inv.1 _ l.loop.inv.0 (omega arith) t.if1.left)
 
 returns-2 : tie.Need-returns-2 invariant-loop decreases-loop
 returns-2 c =

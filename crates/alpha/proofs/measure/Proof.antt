@@ -4,7 +4,7 @@ use borrow.Author.Rules.{rules}
 use native.Mathlib.Omega.{arith}
 use mathlib.Core.Path.{ap, ◌∙◌}
 use Rattle.alpha.specs.Passes.{size_of}
-use Rattle.alpha.proofs.Marks.{reads_none, reads_pairs, reads-block-short, reads-block, reads-base-short, reads-base, reads_default}
+use Rattle.alpha.proofs.Marks.{reads_none, reads_pairs, reads_block_short, reads_block, reads_base_short, reads_base, reads_default}
 use Rattle.alpha.proofs.measure.Statement.{statement}
 use Rattle.alpha.proofs.measure.Tie as tie
 
@@ -23,7 +23,7 @@ unfolding size_of
 returns-3 c =
     let t : tie.Then3 = search in
     let e : tie.Else1 = search in
-    ap size_of (reads-block-short _ e.if1.left t.if3.taken c.if4.true)
+    ap size_of (reads_block_short _ e.if1.left t.if3.taken c.if4.true)
 
 returns-4 : tie.Need-returns-4
 returns-4 c =
@@ -31,14 +31,14 @@ returns-4 c =
     let w : tie.After-wide = search in
     let t : tie.Then3 = search in
     let e : tie.Else1 = search in
-    c.measure-based.ensures ∙ ap size_of (reads-block _ e.if1.left t.if3.taken _ _ (omega arith) w.wide.ensures.0 p.block-pointer.ensures)
+    c.measure-based.ensures ∙ ap size_of (reads_block _ e.if1.left t.if3.taken _ _ (omega arith) w.wide.ensures.0 p.block-pointer.ensures)
 
 returns-5 : tie.Need-returns-5
 unfolding size_of
 returns-5 c =
     let t : tie.Then5 = search in
     let e : tie.Else1 = search in
-    ap size_of (reads-base-short _ e.if1.left t.if5.taken c.if6.true)
+    ap size_of (reads_base_short _ e.if1.left t.if5.taken c.if6.true)
 
 returns-6 : tie.Need-returns-6
 returns-6 c =
@@ -46,7 +46,7 @@ returns-6 c =
     let w : tie.After-wide2 = search in
     let t : tie.Then5 = search in
     let e : tie.Else1 = search in
-    c.measure-based2.ensures ∙ ap size_of (reads-base _ e.if1.left t.if5.taken _ _ (omega arith) w.wide2.ensures.0 p.base-pointer.ensures)
+    c.measure-based2.ensures ∙ ap size_of (reads_base _ e.if1.left t.if5.taken _ _ (omega arith) w.wide2.ensures.0 p.base-pointer.ensures)
 
 returns-7 : tie.Need-returns-7
 returns-7 c =

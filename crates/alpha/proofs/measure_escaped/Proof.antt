@@ -4,7 +4,7 @@ use Prim.Native.Nat.{◌-◌}
 use native.Mathlib.Omega.{arith}
 use borrow.Author.Rules.{rules}
 use lib.ListN.{length}
-use Rattle.alpha.proofs.Defaults.{Measures, measures_none, measures_end, measures-padding, measures-other, measures-code, measures-dangling, measures-unassigned, measures-extended}
+use Rattle.alpha.proofs.Defaults.{Measures, measures_none, measures_end, measures_padding, measures_other, measures_code, measures_dangling, measures_unassigned, measures_extended}
 use Rattle.alpha.proofs.measure_escaped.Statement.{statement}
 use Rattle.alpha.proofs.measure_escaped.Tie as tie
 
@@ -20,7 +20,7 @@ loop-again c =
     let x : tie.After-extension invariant-loop decreases-loop = search in
     let e : tie.Then2 invariant-loop decreases-loop = search in
     let l : tie.At-loop invariant-loop decreases-loop = search in
-    measures-extended _ _ _ l.loop.inv (omega arith) e.if2.taken (omega arith) _ x.extension.ensures _ t.enum_told.given.1
+    measures_extended _ _ _ l.loop.inv (omega arith) e.if2.taken (omega arith) _ x.extension.ensures _ t.enum_told.given.1
 
 returns-3 : tie.Need-returns-3 invariant-loop decreases-loop
 returns-3 c =
@@ -28,7 +28,7 @@ returns-3 c =
     let x : tie.After-extension invariant-loop decreases-loop = search in
     let e : tie.Then2 invariant-loop decreases-loop = search in
     let l : tie.At-loop invariant-loop decreases-loop = search in
-    measures-unassigned _ _ _ l.loop.inv (omega arith) e.if2.taken (omega arith) _ x.extension.ensures t.enum-told2.given.1
+    measures_unassigned _ _ _ l.loop.inv (omega arith) e.if2.taken (omega arith) _ x.extension.ensures t.enum-told2.given.1
 
 pub measure_escaped_spec : {M : Type 1} → statement M
 measure_escaped_spec =
@@ -38,9 +38,9 @@ measure_escaped_spec =
     decreases-loop
     (λ c. measures_none _)
     (λ c. omega arith)
-    (λ c. search measures-padding)
+    (λ c. search measures_padding)
     (λ c. omega arith)
-    (λ c. search measures-dangling)
+    (λ c. search measures_dangling)
     (λ c. omega arith)
     (λ c. omega arith)
     (λ c κs. tt)
@@ -51,9 +51,9 @@ measure_escaped_spec =
     loop-again
     (λ c. search rules)
     returns-3
-    (λ c. search measures-other)
+    (λ c. search measures_other)
     (λ c. let l : tie.At-loop invariant-loop decreases-loop = search in omega (arith, l.loop.inv.few))
     (λ c. omega arith)
     (λ c. omega arith)
-    (λ c. search measures-code)
+    (λ c. search measures_code)
     (λ c. search measures_end))

@@ -1,7 +1,7 @@
 -- `alpha::read` meets its contract: by the size of the text.
 -- Assumes nothing.
 use borrow.Author.Rules.{rules}
-use Rattle.alpha.proofs.Marks.{ended_malformed, ended-short, ended-fills, ended-units}
+use Rattle.alpha.proofs.Marks.{ended_malformed, ended_short, ended_fills, ended_units}
 use Rattle.alpha.proofs.read.Statement.{statement}
 use Rattle.alpha.proofs.read.Tie as tie
 
@@ -14,14 +14,14 @@ returns-2 : tie.Need-returns-2
 returns-2 c =
     let n : tie.After-n = search in
     let m : tie.After-measure = search in
-    ended-short _ _ m.measure.ensures _ _ n.n.given.1 c.if1.true
+    ended_short _ _ m.measure.ensures _ _ n.n.given.1 c.if1.true
 
 fill-requires : tie.Need-fill-requires
 fill-requires c κs =
     let e : tie.Else1 = search in
     let n : tie.After-n = search in
     let m : tie.After-measure = search in
-    ended-fills _ _ m.measure.ensures _ _ n.n.given.1 e.if1.left
+    ended_fills _ _ m.measure.ensures _ _ n.n.given.1 e.if1.left
 
 returns-3 : tie.Need-returns-3
 returns-3 c =
@@ -29,7 +29,7 @@ returns-3 c =
     let e : tie.Else1 = search in
     let n : tie.After-n = search in
     let m : tie.After-measure = search in
-    ended-units _ _ m.measure.ensures _ _ n.n.given.1 _ e.if1.left f.fill.ensures
+    ended_units _ _ m.measure.ensures _ _ n.n.given.1 _ e.if1.left f.fill.ensures
 
 pub read_spec : {M : Type 1} → statement M
 read_spec =

@@ -2,7 +2,7 @@
 -- Assumes nothing.
 use borrow.Author.Rules.{rules}
 use native.Mathlib.Omega.{arith}
-use Rattle.alpha.proofs.Lines.{told_blank, told-dashes, told_long, told_unread, told-fits, told-units}
+use Rattle.alpha.proofs.Lines.{told_blank, told_dashes, told_long, told_unread, told_fits, told_units}
 use Rattle.alpha.proofs.read_units.Statement.{statement}
 use Rattle.alpha.proofs.read_units.Tie as tie
 
@@ -10,7 +10,7 @@ returns-2 : tie.Need-returns-2
 returns-2 c =
     let d : tie.After-is-dashes = search in
     let e : tie.Else1 = search in
-    told-dashes _ _ e.if1.left _ d.is-dashes.ensures c.if2.true
+    told_dashes _ _ e.if1.left _ d.is-dashes.ensures c.if2.true
 
 returns-3 : tie.Need-returns-3
 returns-3 c =
@@ -35,7 +35,7 @@ fill-units-requires c κs =
     let d : tie.After-is-dashes = search in
     let e : tie.Else1 = search in
     let s : tie.Start = search in
-    let w = told-fits s.args.line.now s.args.out.now e.if1.left _ d.is-dashes.ensures f.if2.left (omega arith) _ u.are-units.ensures g.if4.left s.pre in
+    let w = told_fits s.args.line.now s.args.out.now e.if1.left _ d.is-dashes.ensures f.if2.left (omega arith) _ u.are-units.ensures g.if4.left s.pre in
     (omega arith, w.0, w.1)
 
 returns-5 : tie.Need-returns-5
@@ -46,7 +46,7 @@ returns-5 c =
     let f : tie.Else2 = search in
     let d : tie.After-is-dashes = search in
     let e : tie.Else1 = search in
-    told-units _ _ e.if1.left _ d.is-dashes.ensures f.if2.left (omega arith) _ u.are-units.ensures g.if4.left _ w.fill-units.ensures
+    told_units _ _ e.if1.left _ d.is-dashes.ensures f.if2.left (omega arith) _ u.are-units.ensures g.if4.left _ w.fill-units.ensures
 
 pub read_units_spec : {M : Type 1} → statement M
 read_units_spec =

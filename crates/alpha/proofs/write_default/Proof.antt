@@ -6,7 +6,7 @@ use native.Mathlib.Omega.{arith}
 use borrow.Author.Rules.{rules}
 use lib.ListN.{length, length-set}
 use Rattle.alpha.specs.Alphabet.{table}
-use Rattle.alpha.proofs.Layings.{Laying, laying_none, laying_same, laying_end, laying-code, laying-coded, laying-extended}
+use Rattle.alpha.proofs.Layings.{Laying, laying_none, laying_same, laying_end, laying_code, laying_coded, laying_extended}
 use Rattle.alpha.proofs.write_default.Statement.{statement}
 use Rattle.alpha.proofs.write_default.Tie as tie
 
@@ -26,7 +26,7 @@ slice-write-out c =
     let k : tie.After-code invariant-loop decreases-loop = search in
     let x : tie.After-code-of invariant-loop decreases-loop = search in
     let l : tie.At-loop invariant-loop decreases-loop = search in
-    (laying-code _ _ _ _ _ l.loop.inv.1 (omega arith) _ x.code_of_lem.ensures _ k.code.given.1).0
+    (laying_code _ _ _ _ _ l.loop.inv.1 (omega arith) _ x.code_of_lem.ensures _ k.code.given.1).0
 
 add-n : tie.Need-overflow-add-n invariant-loop decreases-loop
 add-n c = omega (arith, slice-write-out c)
@@ -36,7 +36,7 @@ loop-again c =
     let k : tie.After-code invariant-loop decreases-loop = search in
     let x : tie.After-code-of invariant-loop decreases-loop = search in
     let l : tie.At-loop invariant-loop decreases-loop = search in
-    (l.loop.inv.0, (laying-code _ _ _ _ _ l.loop.inv.1 (omega arith) _ x.code_of_lem.ensures _ k.code.given.1).1)
+    (l.loop.inv.0, (laying_code _ _ _ _ _ l.loop.inv.1 (omega arith) _ x.code_of_lem.ensures _ k.code.given.1).1)
 
 returns : tie.Need-returns invariant-loop decreases-loop
 returns c =
@@ -45,7 +45,7 @@ returns c =
     let t : tie.After-enum-told invariant-loop decreases-loop = search in
     let x : tie.After-code-of invariant-loop decreases-loop = search in
     let l : tie.At-loop invariant-loop decreases-loop = search in
-    absurd (laying-coded _ _ _ _ _ l.loop.inv.1 (omega arith) _ x.code_of_lem.ensures t.enum_told.given.1 _ y.extension-code.ensures z.enum-told2.given.1)
+    absurd (laying_coded _ _ _ _ _ l.loop.inv.1 (omega arith) _ x.code_of_lem.ensures t.enum_told.given.1 _ y.extension-code.ensures z.enum-told2.given.1)
 
 slice-write-out-2 : tie.Need-slice-write-out-2 invariant-loop decreases-loop
 slice-write-out-2 c =
@@ -54,7 +54,7 @@ slice-write-out-2 c =
     let t : tie.After-enum-told invariant-loop decreases-loop = search in
     let x : tie.After-code-of invariant-loop decreases-loop = search in
     let l : tie.At-loop invariant-loop decreases-loop = search in
-    omega (arith, (laying-extended _ _ _ _ _ l.loop.inv.1 (omega arith) _ x.code_of_lem.ensures t.enum_told.given.1 _ y.extension-code.ensures _ k.code2.given.1).0)
+    omega (arith, (laying_extended _ _ _ _ _ l.loop.inv.1 (omega arith) _ x.code_of_lem.ensures t.enum_told.given.1 _ y.extension-code.ensures _ k.code2.given.1).0)
 
 add-out : tie.Need-overflow-add-out invariant-loop decreases-loop
 add-out c = omega (arith, slice-write-out-2 c)
@@ -66,7 +66,7 @@ slice-write-out-3 c =
     let t : tie.After-enum-told invariant-loop decreases-loop = search in
     let x : tie.After-code-of invariant-loop decreases-loop = search in
     let l : tie.At-loop invariant-loop decreases-loop = search in
-    simp length-set (laying-extended _ _ _ _ _ l.loop.inv.1 (omega arith) _ x.code_of_lem.ensures t.enum_told.given.1 _ y.extension-code.ensures _ k.code2.given.1).0
+    simp length-set (laying_extended _ _ _ _ _ l.loop.inv.1 (omega arith) _ x.code_of_lem.ensures t.enum_told.given.1 _ y.extension-code.ensures _ k.code2.given.1).0
 
 add-n-2 : tie.Need-overflow-add-n-2 invariant-loop decreases-loop
 add-n-2 c =
@@ -75,7 +75,7 @@ add-n-2 c =
     let t : tie.After-enum-told invariant-loop decreases-loop = search in
     let x : tie.After-code-of invariant-loop decreases-loop = search in
     let l : tie.At-loop invariant-loop decreases-loop = search in
-    omega (arith, (laying-extended _ _ _ _ _ l.loop.inv.1 (omega arith) _ x.code_of_lem.ensures t.enum_told.given.1 _ y.extension-code.ensures _ k.code2.given.1).0)
+    omega (arith, (laying_extended _ _ _ _ _ l.loop.inv.1 (omega arith) _ x.code_of_lem.ensures t.enum_told.given.1 _ y.extension-code.ensures _ k.code2.given.1).0)
 
 loop-again-2 : tie.Need-loop-preserved-2 invariant-loop decreases-loop
 loop-again-2 c =
@@ -84,7 +84,7 @@ loop-again-2 c =
     let t : tie.After-enum-told invariant-loop decreases-loop = search in
     let x : tie.After-code-of invariant-loop decreases-loop = search in
     let l : tie.At-loop invariant-loop decreases-loop = search in
-    (l.loop.inv.0, (laying-extended _ _ _ _ _ l.loop.inv.1 (omega arith) _ x.code_of_lem.ensures t.enum_told.given.1 _ y.extension-code.ensures _ k.code2.given.1).1)
+    (l.loop.inv.0, (laying_extended _ _ _ _ _ l.loop.inv.1 (omega arith) _ x.code_of_lem.ensures t.enum_told.given.1 _ y.extension-code.ensures _ k.code2.given.1).1)
 
 pub write_default_spec : {M : Type 1} → statement M
 write_default_spec =

@@ -1,6 +1,6 @@
 -- `bench::print_reply` meets its contract: by the first byte.
 -- Assumes nothing.
-use Rattle.bench.proofs.Records.{empty_reply, heard_reply, record-reply, other-reply}
+use Rattle.bench.proofs.Records.{empty_reply, heard_reply, record_reply, other_reply}
 use borrow.Author.Rules.{rules}
 use Rattle.bench.proofs.print_reply.Statement.{statement}
 use Rattle.bench.proofs.print_reply.Tie as tie
@@ -18,7 +18,7 @@ print_reply_spec =
     (λ c. search heard_reply)
     (λ c κs. search rules)
     (λ c. search rules)
-    (λ c. search record-reply)
+    (λ c. search record_reply)
     (λ c κs. search rules)
     (λ c. search rules)
-    (λ c. search other-reply))
+    (λ c. search other_reply))

@@ -3,7 +3,7 @@
 use Prim.Native.Nat.{ℕ, ◌+◌}
 use mathlib.Core.Path.{ap}
 use native.Mathlib.Omega.{arith}
-use Rattle.bench.proofs.Records.{opening_short, opening_unfit, opening-without, opening-with}
+use Rattle.bench.proofs.Records.{opening_short, opening_unfit, opening_without, opening_with}
 use borrow.Author.Rules.{rules}
 use Rattle.bench.proofs.read_opening.Statement.{statement}
 use Rattle.bench.proofs.read_opening.Tie as tie
@@ -14,7 +14,7 @@ returns-2 c =
     let i : tie.Then2 = search in
     let w : tie.After-wide = search in
     let s : tie.Start = search in
-    opening-without s.args.frame.now _ (ap (λ (k : ℕ). 8 + k) w.wide.ensures.0) _ p.pair.ensures i.if2.taken
+    opening_without s.args.frame.now _ (ap (λ (k : ℕ). 8 + k) w.wide.ensures.0) _ p.pair.ensures i.if2.taken
 
 returns-3 : tie.Need-returns-3
 returns-3 c =
@@ -31,7 +31,7 @@ returns-4 c =
     let i : tie.Else3 = search in
     let w : tie.After-wide = search in
     let s : tie.Start = search in
-    opening-with s.args.frame.now _ (ap (λ (k : ℕ). 8 + k) w.wide.ensures.0) _ p.pair2.ensures _ q.pair3.ensures i.if3.left
+    opening_with s.args.frame.now _ (ap (λ (k : ℕ). 8 + k) w.wide.ensures.0) _ p.pair2.ensures _ q.pair3.ensures i.if3.left
 
 pub read_opening_spec : {M : Type 1} → statement M
 read_opening_spec =

@@ -1,6 +1,6 @@
 -- `bench::read_values` meets its contract: a law for each type.
 -- Assumes nothing.
-use Rattle.bench.proofs.Records.{events_asked, opening_asked, receive_unfit, receive_asked, data_asked, bare-unfit, bare-asked}
+use Rattle.bench.proofs.Records.{events_asked, opening_asked, receive_unfit, receive_asked, data_asked, bare_unfit, bare_asked}
 use borrow.Author.Rules.{rules}
 use Rattle.bench.proofs.read_values.Statement.{statement}
 use Rattle.bench.proofs.read_values.Tie as tie
@@ -18,6 +18,6 @@ read_values_spec =
     (λ c. search rules)
     (λ c. search receive_asked)
     (λ c. search data_asked)
-    (λ c. search bare-unfit)
+    (λ c. search bare_unfit)
     (λ c κs. search rules)
-    (λ c. search bare-asked))
+    (λ c. search bare_asked))

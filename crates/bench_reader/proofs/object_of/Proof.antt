@@ -2,7 +2,7 @@
 -- Assumes nothing.
 use native.Mathlib.Omega.{arith}
 use borrow.Author.Rules.{rules}
-use Rattle.bench_reader.proofs.Standing.{at_fault, tag_inside, other_tag, that-tag}
+use Rattle.bench_reader.proofs.Standing.{at_fault, tag_inside, other_tag, that_tag}
 use Rattle.bench_reader.proofs.object_of.Statement.{statement}
 use Rattle.bench_reader.proofs.object_of.Tie as tie
 
@@ -18,7 +18,7 @@ that c =
     let n : tie.After-start = search in
     let o : tie.After-object = search in
     let s : tie.Start = search in
-    that-tag _ _ _ o.object.ensures n.start.given.1 (omega (arith, s.fits)) s.pre c.if1.false
+    that_tag _ _ _ o.object.ensures n.start.given.1 (omega (arith, s.fits)) s.pre c.if1.false
 
 pub object_of_spec : {M : Type 1} → statement M
 object_of_spec =

@@ -3,7 +3,7 @@
 use Prim.Native.Nat.{◌≤◌}
 use native.Mathlib.Omega.{arith}
 use borrow.Author.Rules.{rules}
-use Rattle.bench_reader.proofs.Following.{data_missed, data-long, count-missed, count-place, count_fits}
+use Rattle.bench_reader.proofs.Following.{data_missed, data_long, count_missed, count_place, count_fits}
 use Rattle.bench_reader.proofs.read_received.Statement.{statement}
 use Rattle.bench_reader.proofs.read_received.Tie as tie
 
@@ -13,10 +13,10 @@ read_received_spec =
     (tie.spec
     (λ c κs. search rules) (λ c. search rules) (λ c. search rules)
     (λ c. search data_missed)
-    (λ c. search data-long)
+    (λ c. search data_long)
     (λ c κs. search rules) (λ c. search rules) (λ c. search rules)
-    (λ c. search count-missed)
-    (λ c κs e. search count-place)
+    (λ c. search count_missed)
+    (λ c κs e. search count_place)
     (λ c.
     let k : tie.After-known-told2 = search in
     let r : tie.After-left = search in

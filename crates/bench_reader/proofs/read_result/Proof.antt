@@ -2,7 +2,7 @@
 -- Assumes nothing.
 use borrow.Author.Rules.{rules}
 use Rattle.bench_reader.proofs.Standing.{byte_missed}
-use Rattle.bench_reader.proofs.Ruling.{success_fits, error-fits, result-unfit}
+use Rattle.bench_reader.proofs.Ruling.{success_fits, error_fits, result_unfit}
 use Rattle.bench_reader.proofs.read_result.Statement.{statement}
 use Rattle.bench_reader.proofs.read_result.Tie as tie
 
@@ -17,6 +17,6 @@ read_result_spec =
     (λ c κs. search rules)
     (λ c. search success_fits)
     (λ c κs. search rules)
-    (λ c. search result-unfit)
+    (λ c. search result_unfit)
     (λ c κs _. tt)
-    (λ c. search error-fits))
+    (λ c. search error_fits))

@@ -1,7 +1,7 @@
 -- `bench_reader::read_timer` meets its contract: the timer, by what was done with it.
 -- Assumes nothing.
 use borrow.Author.Rules.{rules}
-use Rattle.bench_reader.proofs.Timing.{timer-missed, timer-zero, timer-beyond, timer-started, timer-unasked, timer-left}
+use Rattle.bench_reader.proofs.Timing.{timer_missed, timer_zero, timer_beyond, timer_started, timer_unasked, timer_left}
 use Rattle.bench_reader.proofs.read_timer.Statement.{statement}
 use Rattle.bench_reader.proofs.read_timer.Tie as tie
 
@@ -10,11 +10,11 @@ read_timer_spec =
     tie.close
     (tie.spec
     (λ c κs. search rules) (λ c. search rules) (λ c. search rules)
-    (λ c. search timer-missed)
-    (λ c. search timer-zero)
-    (λ c. search timer-beyond)
+    (λ c. search timer_missed)
+    (λ c. search timer_zero)
+    (λ c. search timer_beyond)
     (λ c κs _. tt)
-    (λ c. search timer-started)
-    (λ c. search timer-unasked)
+    (λ c. search timer_started)
+    (λ c. search timer_unasked)
     (λ c κs. search rules)
-    (λ c. search timer-left))
+    (λ c. search timer_left))

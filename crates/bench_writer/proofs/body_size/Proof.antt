@@ -23,7 +23,7 @@ fits c =
 
 events : tie.Need-returns-2
 unfolding body_objects body_of
-events c = rw c.before.enum-told2.given.1 (c.object-size.ensures ∙ value_size 0x19 _)
+events c = rw c.before.enum-told2.given.1 (c.object_size_lem.ensures ∙ value_size 0x19 _)
 
 opening : tie.Need-returns-3
 unfolding body_proper body_of

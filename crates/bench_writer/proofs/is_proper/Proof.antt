@@ -21,7 +21,7 @@ is_proper_spec =
     (λ c. search rules)
     (λ c. rw c.before.before.asking.given.1 c.is-bare.ensures)
     (λ c. rw c.enum_told.given.1)
-    (λ c. rw c.before.before.asking2.given.1 c.fits-bearer.ensures)
+    (λ c. rw c.before.before.asking2.given.1 c.fits_bearer_lem.ensures)
     (λ c. rw c.enum-told2.given.1)
     (λ c. rw c.enum-told3.given.1)
     (λ c. rw c.enum-told4.given.1))

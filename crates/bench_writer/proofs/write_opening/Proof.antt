@@ -4,7 +4,7 @@ use borrow.Author.Rules.{rules}
 use Rattle.rules.specs.Written.{pair_bytes}
 use Rattle.rules.specs.Frames.{object_bytes}
 use Rattle.rules.specs.Checks.{◌⇒◌else◌}
-use Rattle.bench_writer.proofs.Writes.{level-room, opening-wrote}
+use Rattle.bench_writer.proofs.Writes.{level_room, opening_wrote}
 use Rattle.bench_writer.proofs.write_opening.Statement.{statement}
 use Rattle.bench_writer.proofs.write_opening.Tie as tie
 
@@ -15,7 +15,7 @@ room c κs =
     let q : tie.After-put2 = search in
     let p : tie.After-put = search in
     let s : tie.Start = search in
-    level-room _ _ _ s.args.level _ _ s.pre p.put.ensures q.put2.ensures o.write-object.ensures
+    level_room _ _ _ s.args.level _ _ s.pre p.put.ensures q.put2.ensures o.write-object.ensures
 
 returns : tie.Need-returns
 unfolding object_bytes pair_bytes ◌⇒◌else◌
@@ -25,7 +25,7 @@ returns c =
     let q : tie.After-put2 = search in
     let p : tie.After-put = search in
     let s : tie.Start = search in
-    opening-wrote _ _ _ s.args.level _ _ s.pre p.put.ensures q.put2.ensures o.write-object.ensures l.write-level.ensures
+    opening_wrote _ _ _ s.args.level _ _ s.pre p.put.ensures q.put2.ensures o.write-object.ensures l.write-level.ensures
 
 pub write_opening_spec : {M : Type 1} → statement M
 write_opening_spec =

@@ -1,7 +1,7 @@
 -- `command::bearer_fits` meets its contract: each answer is that of the law for its case.
 -- Assumes nothing.
 use borrow.Author.Rules.{rules}
-use Rattle.command.proofs.Lengths.{bearer_none, bearer_two, bearer_three, bearer-any}
+use Rattle.command.proofs.Lengths.{bearer_none, bearer_two, bearer_three, bearer_any}
 use Rattle.command.proofs.bearer_fits.Statement.{statement}
 use Rattle.command.proofs.bearer_fits.Tie as tie
 
@@ -13,4 +13,4 @@ bearer_fits_spec =
     (λ c. search rules)
     (λ c. search bearer_two)
     (λ c. search bearer_three)
-    (λ c. search bearer-any))
+    (λ c. search bearer_any))

@@ -2,7 +2,7 @@
 -- Assumes nothing.
 use borrow.Author.Rules.{rules}
 use Rattle.objects.proofs.Reading.{object_told, object_missed}
-use Rattle.command.proofs.Opening.{none_read, faulty_read, stranger_number, stranger-length, first-within, leads}
+use Rattle.command.proofs.Opening.{none_read, faulty_read, stranger_number, stranger_length, first_within, leads}
 use Rattle.command.proofs.first_object.Statement.{statement}
 use Rattle.command.proofs.first_object.Tie as tie
 
@@ -19,7 +19,7 @@ length-wrong c =
     let n : tie.After-number = search in
     let o : tie.After-object = search in
     let e : tie.Else1 = search in
-    stranger-length e.if1.left (object_told n.number.given.1 o.object.ensures) f.if2.left c.if3.true
+    stranger_length e.if1.left (object_told n.number.given.1 o.object.ensures) f.if2.left c.if3.true
 
 details-at-requires : tie.Need-details-at-requires
 details-at-requires c κs =
@@ -27,7 +27,7 @@ details-at-requires c κs =
     let n : tie.After-number = search in
     let o : tie.After-object = search in
     let e : tie.Else1 = search in
-    first-within e.if1.left (object_told n.number.given.1 o.object.ensures) f.if2.left c.if3.false
+    first_within e.if1.left (object_told n.number.given.1 o.object.ensures) f.if2.left c.if3.false
 
 told : tie.Need-returns-4
 told c =

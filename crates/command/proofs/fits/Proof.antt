@@ -2,7 +2,7 @@
 -- Assumes nothing.
 use mathlib.Core.Path.{◌∙◌}
 use borrow.Author.Rules.{rules}
-use Rattle.command.proofs.Lengths.{fits-three, fits-two, fits_one, fits-bearer, fits-any}
+use Rattle.command.proofs.Lengths.{fits_three, fits_two, fits_one, fits_bearer_lem, fits_any}
 use Rattle.command.proofs.fits.Statement.{statement}
 use Rattle.command.proofs.fits.Tie as tie
 
@@ -11,8 +11,8 @@ fits_spec =
     tie.close
     (tie.spec
     (λ c κs. search rules)
-    (λ c. search fits-three)
-    (λ c. search fits-two)
+    (λ c. search fits_three)
+    (λ c. search fits_two)
     (λ c. search fits_one)
-    (λ c. c.bearer_fits_lem.ensures ∙ search fits-bearer)
-    (λ c. search fits-any))
+    (λ c. c.bearer_fits_lem.ensures ∙ search fits_bearer_lem)
+    (λ c. search fits_any))

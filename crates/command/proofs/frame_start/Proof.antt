@@ -2,7 +2,7 @@
 -- Assumes nothing.
 use borrow.Author.Rules.{rules}
 use Rattle.objects.proofs.Reading.{length_told, length_within, length_missed}
-use Rattle.command.proofs.Framing.{frame_empty, frame_other, frame_unsized, frame-count, frame_right}
+use Rattle.command.proofs.Framing.{frame_empty, frame_other, frame_unsized, frame_count, frame_right}
 use Rattle.command.proofs.frame_start.Statement.{statement}
 use Rattle.command.proofs.frame_start.Tie as tie
 
@@ -26,4 +26,4 @@ frame_start_spec =
     (λ c. search (frame_unsized, length_missed))
     (λ c. search length_within)
     right
-    (λ c. let l : tie.After-len = search in let m : tie.After-length-at = search in frame-count _ _ _ (length_told l.len.given.1 m.length_at.ensures) c.if3.false))
+    (λ c. let l : tie.After-len = search in let m : tie.After-length-at = search in frame_count _ _ _ (length_told l.len.given.1 m.length_at.ensures) c.if3.false))

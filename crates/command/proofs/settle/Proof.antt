@@ -3,7 +3,7 @@
 use Prim.Native.Nat.{◌-◌}
 use native.Mathlib.Omega.{arith}
 use borrow.Author.Rules.{rules}
-use Rattle.command.proofs.Settling.{devices_within, own_behind, own_within, settle_wrong, settle-asked}
+use Rattle.command.proofs.Settling.{devices_within, own_behind, own_within, settle_wrong, settle_asked}
 use Rattle.command.proofs.settle.Statement.{statement}
 use Rattle.command.proofs.settle.Tie as tie
 
@@ -12,7 +12,7 @@ settled c =
     let e : tie.Else1 = search in
     let f : tie.After-is-addressed = search in
     let s : tie.Start = search in
-    settle-asked s.pre f.is-addressed.ensures e.if1.left
+    settle_asked s.pre f.is-addressed.ensures e.if1.left
 
 pub settle_spec : {M : Type 1} → statement M
 settle_spec =

@@ -3,7 +3,7 @@
 use mathlib.Core.Path.{sym, ◌∙◌}
 use native.Mathlib.Omega.{arith}
 use Rattle.text.proofs.Bounds.{frame_read, frame_unread}
-use Rattle.csim.proofs.Telling.{short_frame, bytes_double, padded_told, frame-told, unread-told}
+use Rattle.csim.proofs.Telling.{short_frame, bytes_double, padded_told, frame_told_lem, unread_told}
 use borrow.Author.Rules.{rules}
 use Rattle.csim.proofs.import_counted.Statement.{statement}
 use Rattle.csim.proofs.import_counted.Tie as tie
@@ -38,7 +38,7 @@ returns-2 c =
     let z : tie.Else1 = search in
     let p : tie.After-is-padded = search in
     let s : tie.Start = search in
-    frame-told _ _ _ _ _ _ _ p.is-padded.ensures z.if1.left s.pre.1 (frame_read _ _ _ _ _ f.read-frame.ensures n.n.given.1).bytes w.import-frame.ensures
+    frame_told_lem _ _ _ _ _ _ _ p.is-padded.ensures z.if1.left s.pre.1 (frame_read _ _ _ _ _ f.read-frame.ensures n.n.given.1).bytes w.import-frame.ensures
 
 returns-3 : tie.Need-returns-3
 returns-3 c =
@@ -48,7 +48,7 @@ returns-3 c =
     let z : tie.Else1 = search in
     let p : tie.After-is-padded = search in
     let s : tie.Start = search in
-    unread-told _ _ _ _ _ _ _ p.is-padded.ensures z.if1.left s.pre.1 (frame_unread _ _ f.read-frame.ensures.0 n.enum_told.given.1) w.print-refusal2.ensures
+    unread_told _ _ _ _ _ _ _ p.is-padded.ensures z.if1.left s.pre.1 (frame_unread _ _ f.read-frame.ensures.0 n.enum_told.given.1) w.print-refusal2.ensures
 
 pub import_counted_spec : {M : Type 1} → statement M
 import_counted_spec =

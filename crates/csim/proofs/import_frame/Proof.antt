@@ -1,6 +1,6 @@
 -- `csim::import_frame` meets its contract: by its header.
 -- Assumes nothing.
-use Rattle.csim.proofs.Telling.{as_profile, as-response, as-envelope, unheaded}
+use Rattle.csim.proofs.Telling.{as_profile, as_response, as_envelope, unheaded}
 use borrow.Author.Rules.{rules}
 use Rattle.csim.proofs.import_frame.Statement.{statement}
 use Rattle.csim.proofs.import_frame.Tie as tie
@@ -16,11 +16,11 @@ import_frame_spec =
     (λ c κs. search rules)
     (λ c κs. search rules)
     (λ c. search rules)
-    (λ c. search as-response)
+    (λ c. search as_response)
     (λ c κs. search rules)
     (λ c κs. search rules)
     (λ c. search rules)
-    (λ c. search as-envelope)
+    (λ c. search as_envelope)
     (λ c κs. search rules)
     (λ c. search rules)
     (λ c. search unheaded))

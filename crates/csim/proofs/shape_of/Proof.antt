@@ -3,7 +3,7 @@
 use Prim.Native.Nat.{◌+◌, ◌≤◌}
 use native.Mathlib.Omega.{arith}
 use lib.ListN.{length}
-use Rattle.csim.proofs.Shapes.{unopened, opened_long, uncounted, count_within, unquoted, quoted-long, unended, unclosed, closed}
+use Rattle.csim.proofs.Shapes.{unopened, opened_long, uncounted, count_within, unquoted, quoted_long, unended, unclosed, closed}
 use borrow.Author.Rules.{rules}
 use Rattle.csim.proofs.shape_of.Statement.{statement}
 use Rattle.csim.proofs.shape_of.Tie as tie
@@ -30,7 +30,7 @@ add-if4 c =
     let d : tie.After-count-digits = search in
     let f : tie.Else1 = search in
     let b : tie.After-leads = search in
-    omega (arith, quoted-long _ _ b.leads.ensures f.if1.left _ d.count-digits.ensures n.if2.left _ q.leads2.ensures g.if3.left)
+    omega (arith, quoted_long _ _ b.leads.ensures f.if1.left _ d.count-digits.ensures n.if2.left _ q.leads2.ensures g.if3.left)
 
 pub shape_of_spec : {M : Type 1} → statement M
 shape_of_spec =

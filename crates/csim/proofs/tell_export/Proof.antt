@@ -1,7 +1,7 @@
 -- `csim::tell_export` meets its contract: by its word.
 -- Assumes nothing.
 use mathlib.Core.Path.{sym, ◌∙◌}
-use Rattle.csim.proofs.Telling.{export_long, export-profile, export-response, export-envelope, unnamed}
+use Rattle.csim.proofs.Telling.{export_long, export_profile, export_response, export_envelope, unnamed}
 use borrow.Author.Rules.{rules}
 use Rattle.csim.proofs.tell_export.Statement.{statement}
 use Rattle.csim.proofs.tell_export.Tie as tie
@@ -40,15 +40,15 @@ tell_export_spec =
     (λ c κs. search rules)
     export-behind-requires
     (λ c. search rules)
-    (λ c. search export-profile)
+    (λ c. search export_profile)
     (λ c κs. search rules)
     export-behind-requires-2
     (λ c. search rules)
-    (λ c. search export-response)
+    (λ c. search export_response)
     (λ c κs. search rules)
     export-behind-requires-3
     (λ c. search rules)
-    (λ c. search export-envelope)
+    (λ c. search export_envelope)
     (λ c κs. search rules)
     (λ c. search rules)
     (λ c. search unnamed))

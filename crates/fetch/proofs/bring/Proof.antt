@@ -6,7 +6,7 @@ use native.Mathlib.Omega.{arith}
 use lib.ListN.{length}
 use lib.Seq.{length-take-le}
 use Rattle.fetch.specs.Gathers.{is_lacking}
-use Rattle.fetch.proofs.Bringing.{Bringing, bring_none, bring-more, bring-short, bring-fits, bring-stop, bring-end}
+use Rattle.fetch.proofs.Bringing.{Bringing, bring_none, bring_more, bring_short, bring_fits, bring_stop, bring_end}
 use borrow.Author.Rules.{rules}
 use Rattle.fetch.proofs.bring.Statement.{statement}
 use Rattle.fetch.proofs.bring.Tie as tie
@@ -27,7 +27,7 @@ put-part-requires c κs =
     let k = e.least.ensures in
     let w = l.loop.inv.within in
     let z = l.loop.inv.size in
-    let f = (bring-fits _ _ _ s.pre.0 _ _ l.loop.inv _ (sym t.stage_of.ensures ∙ n.n.given.1)).0 in (omega arith, omega (arith, k, w), omega (arith, k, z, f))
+    let f = (bring_fits _ _ _ s.pre.0 _ _ l.loop.inv _ (sym t.stage_of.ensures ∙ n.n.given.1)).0 in (omega arith, omega (arith, k, w), omega (arith, k, z, f))
 
 loop-less : tie.Need-loop-smaller invariant-loop decreases-loop
 loop-less c =
@@ -37,7 +37,7 @@ loop-less c =
     let l : tie.At-loop invariant-loop decreases-loop = search in
     let s : tie.Start invariant-loop decreases-loop = search in
     let k = e.least.ensures in
-    let f = (bring-fits _ _ _ s.pre.0 _ _ l.loop.inv _ (sym t.stage_of.ensures ∙ n.n.given.1)).1 in omega (arith, k, f)
+    let f = (bring_fits _ _ _ s.pre.0 _ _ l.loop.inv _ (sym t.stage_of.ensures ∙ n.n.given.1)).1 in omega (arith, k, f)
 
 loop-again : tie.Need-loop-preserved invariant-loop decreases-loop
 loop-again c =
@@ -48,7 +48,7 @@ loop-again c =
     let l : tie.At-loop invariant-loop decreases-loop = search in
     let s : tie.Start invariant-loop decreases-loop = search in
     let k = e.least.ensures in
-    bring-more _ _ _ s.pre.0 _ _ l.loop.inv _ _ _ (sym t.stage_of.ensures ∙ n.n.given.1) (omega (arith, k)) p.put-part.ensures
+    bring_more _ _ _ s.pre.0 _ _ l.loop.inv _ _ _ (sym t.stage_of.ensures ∙ n.n.given.1) (omega (arith, k)) p.put-part.ensures
 
 returns : tie.Need-returns invariant-loop decreases-loop
 unfolding is_lacking
@@ -56,7 +56,7 @@ returns c =
     let t : tie.After-stage-of invariant-loop decreases-loop = search in
     let l : tie.At-loop invariant-loop decreases-loop = search in
     let s : tie.Start invariant-loop decreases-loop = search in
-    bring-stop _ _ _ s.pre.0 _ _ l.loop.inv (ap is_lacking (sym t.stage_of.ensures ∙ c.enum_told.given.1))
+    bring_stop _ _ _ s.pre.0 _ _ l.loop.inv (ap is_lacking (sym t.stage_of.ensures ∙ c.enum_told.given.1))
 
 returns-2 : tie.Need-returns-2 invariant-loop decreases-loop
 unfolding is_lacking
@@ -64,14 +64,14 @@ returns-2 c =
     let t : tie.After-stage-of invariant-loop decreases-loop = search in
     let l : tie.At-loop invariant-loop decreases-loop = search in
     let s : tie.Start invariant-loop decreases-loop = search in
-    bring-stop _ _ _ s.pre.0 _ _ l.loop.inv (ap is_lacking (sym t.stage_of.ensures ∙ c.enum-told2.given.1))
+    bring_stop _ _ _ s.pre.0 _ _ l.loop.inv (ap is_lacking (sym t.stage_of.ensures ∙ c.enum-told2.given.1))
 
 returns-3 : tie.Need-returns-3 invariant-loop decreases-loop
 returns-3 c =
     let l : tie.At-loop invariant-loop decreases-loop = search in
     let s : tie.Start invariant-loop decreases-loop = search in
     let w = l.loop.inv.within in
-    bring-end _ _ _ s.pre.0 _ _ l.loop.inv (omega (arith, c.loop-test.false))
+    bring_end _ _ _ s.pre.0 _ _ l.loop.inv (omega (arith, c.loop-test.false))
 
 pub bring_spec : {M : Type 1} → statement M
 bring_spec =
@@ -83,7 +83,7 @@ bring_spec =
     (λ c. let l : tie.At-loop invariant-loop decreases-loop = search in let f = l.loop.inv.fits in omega (arith, f))
     (λ c. let l : tie.At-loop invariant-loop decreases-loop = search in let f = l.loop.inv.fits in let z = l.loop.inv.size in omega (arith, f, z))
     (λ c. let l : tie.At-loop invariant-loop decreases-loop = search in let f = l.loop.inv.fits in let z = l.loop.inv.size in sym (length-take-le _ _ (omega (arith, f, z))))
-    (λ c κs. let l : tie.At-loop invariant-loop decreases-loop = search in let s : tie.Start invariant-loop decreases-loop = search in bring-short _ _ _ s.pre.0 _ _ l.loop.inv)
+    (λ c κs. let l : tie.At-loop invariant-loop decreases-loop = search in let s : tie.Start invariant-loop decreases-loop = search in bring_short _ _ _ s.pre.0 _ _ l.loop.inv)
     (λ c. search rules)
     (λ c. search rules)
     (λ c κs. search rules)

@@ -4,7 +4,7 @@ use native.Mathlib.Omega.{arith}
 use Rattle.fetch.specs.Gathers.{gathered_in}
 use Rattle.fetch.proofs.Records.{gathers_stand, stands_size}
 use Rattle.fetch.proofs.Bringing.{brought_count}
-use Rattle.fetch.proofs.Concluding.{fetch_short, fetch-stands, fetch-told}
+use Rattle.fetch.proofs.Concluding.{fetch_short, fetch_stands, fetch_told}
 use borrow.Author.Rules.{rules}
 use Rattle.fetch.proofs.fetch_in.Statement.{statement}
 use Rattle.fetch.proofs.fetch_in.Tie as tie
@@ -14,14 +14,14 @@ unfolding gathered_in
 add-conclude c =
     let g : tie.After-bring = search in
     let s : tie.Start = search in
-    let f = (fetch-stands _ _ s.pre.1 _ _ g.bring.ensures.0 g.bring.ensures.1).fits in omega (arith, f)
+    let f = (fetch_stands _ _ s.pre.1 _ _ g.bring.ensures.0 g.bring.ensures.1).fits in omega (arith, f)
 
 conclude-requires : tie.Need-conclude-requires
 unfolding gathered_in
 conclude-requires c κs =
     let g : tie.After-bring = search in
     let s : tie.Start = search in
-    (s.pre.0, fetch-stands _ _ s.pre.1 _ _ g.bring.ensures.0 g.bring.ensures.1)
+    (s.pre.0, fetch_stands _ _ s.pre.1 _ _ g.bring.ensures.0 g.bring.ensures.1)
 
 returns-2 : tie.Need-returns-2
 unfolding gathered_in
@@ -30,7 +30,7 @@ returns-2 c =
     let g : tie.After-bring = search in
     let e : tie.Else1 = search in
     let s : tie.Start = search in
-    fetch-told _ _ s.pre.1 _ _ g.bring.ensures.0 g.bring.ensures.1 _ _ _ _ _ _ _ _ e.if1.left k.conclude.ensures
+    fetch_told _ _ s.pre.1 _ _ g.bring.ensures.0 g.bring.ensures.1 _ _ _ _ _ _ _ _ e.if1.left k.conclude.ensures
 
 pub fetch_in_spec : {M : Type 1} → statement M
 fetch_in_spec =

@@ -1,6 +1,6 @@
 -- `fetch::lacking` meets its contract: each return is that of the law for its case.
 -- Assumes nothing.
-use Rattle.fetch.proofs.Heads.{lacks_none, lacks-long, lacks-some}
+use Rattle.fetch.proofs.Heads.{lacks_none, lacks_long, lacks_some}
 use borrow.Author.Rules.{rules}
 use Rattle.fetch.proofs.lacking.Statement.{statement}
 use Rattle.fetch.proofs.lacking.Tie as tie
@@ -12,5 +12,5 @@ lacking_spec =
     (λ c. search lacks_none)
     (λ c. search rules)
     (λ c. search rules)
-    (λ c. search lacks-long)
-    (λ c. search lacks-some))
+    (λ c. search lacks_long)
+    (λ c. search lacks_some))

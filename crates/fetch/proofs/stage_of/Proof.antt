@@ -2,7 +2,7 @@
 -- Assumes nothing.
 use mathlib.Core.Path.{sym, ◌∙◌}
 use Rattle.objects.proofs.Reading.{length_told, length_within, length_missed}
-use Rattle.fetch.proofs.Heads.{stage_none, stage_other, stage-to-come, stage-unsized, stage-sized}
+use Rattle.fetch.proofs.Heads.{stage_none, stage_other, stage_to_come, stage_unsized, stage_sized}
 use borrow.Author.Rules.{rules}
 use Rattle.fetch.proofs.stage_of.Statement.{statement}
 use Rattle.fetch.proofs.stage_of.Tie as tie
@@ -13,7 +13,7 @@ to-come c =
     let l : tie.After-length-to-come = search in
     let f : tie.Else2 = search in
     let e : tie.Else1 = search in
-    stage-to-come _ e.if1.left f.if2.left (sym i.if3.taken ∙ l.length-to-come.ensures)
+    stage_to_come _ e.if1.left f.if2.left (sym i.if3.taken ∙ l.length-to-come.ensures)
 
 sized : tie.Need-returns-4
 sized c =
@@ -24,7 +24,7 @@ sized c =
     let f : tie.Else2 = search in
     let e : tie.Else1 = search in
     c.lacking.ensures
-    ∙ stage-sized _ e.if1.left f.if2.left (sym i.if3.left ∙ l.length-to-come.ensures) _ _ (length_told n.len.given.1 m.length_at.ensures)
+    ∙ stage_sized _ e.if1.left f.if2.left (sym i.if3.left ∙ l.length-to-come.ensures) _ _ (length_told n.len.given.1 m.length_at.ensures)
 
 unsized : tie.Need-returns-5
 unsized c =
@@ -33,7 +33,7 @@ unsized c =
     let l : tie.After-length-to-come = search in
     let f : tie.Else2 = search in
     let e : tie.Else1 = search in
-    stage-unsized _ e.if1.left f.if2.left (sym i.if3.left ∙ l.length-to-come.ensures) (length_missed _ _ c.enum_told.given.1 m.length_at.ensures)
+    stage_unsized _ e.if1.left f.if2.left (sym i.if3.left ∙ l.length-to-come.ensures) (length_missed _ _ c.enum_told.given.1 m.length_at.ensures)
 
 pub stage_of_spec : {M : Type 1} → statement M
 stage_of_spec =

@@ -3,7 +3,7 @@
 use native.Mathlib.Omega.{arith}
 use Rattle.rules.specs.Run.{step}
 use Rattle.rules.specs.Results.{response_cap, event_cap}
-use Rattle.lines.proofs.Telling.{call_replies, unread_replies, front_size, arrival_bounded, take_bounded, command-spoken, arrival-spoken, take-spoken, drop-spoken, nothing_spoken}
+use Rattle.lines.proofs.Telling.{call_replies, unread_replies, front_size, arrival_bounded, take_bounded, command_spoken, arrival_spoken, take_spoken, drop_spoken, nothing_spoken}
 use borrow.Author.Rules.{rules}
 use Rattle.lines.proofs.call.Statement.{statement}
 use Rattle.lines.proofs.call.Tie as tie
@@ -29,7 +29,7 @@ returns c =
     let e : tie.After-enum-told = search in
     let r : tie.After-read-call = search in
     let s : tie.Start = search in
-    call_replies _ _ s.pre.0 _ _ _ _ _ _ _ _ (command-spoken _ _ r.read-call.ensures s.args.reply.now s.pre.1 e.enum_told.given.1) q.command-in.ensures
+    call_replies _ _ s.pre.0 _ _ _ _ _ _ _ _ (command_spoken _ _ r.read-call.ensures s.args.reply.now s.pre.1 e.enum_told.given.1) q.command-in.ensures
 
 returns-2 : tie.Need-returns-2
 unfolding step
@@ -38,7 +38,7 @@ returns-2 c =
     let e : tie.After-n = search in
     let r : tie.After-read-call = search in
     let s : tie.Start = search in
-    call_replies _ _ s.pre.0 _ _ _ _ _ _ _ _ (arrival-spoken _ _ r.read-call.ensures s.args.reply.now s.pre.1 _ e.n.given.1) q.arrival-in.ensures
+    call_replies _ _ s.pre.0 _ _ _ _ _ _ _ _ (arrival_spoken _ _ r.read-call.ensures s.args.reply.now s.pre.1 _ e.n.given.1) q.arrival-in.ensures
 
 returns-3 : tie.Need-returns-3
 unfolding step
@@ -47,7 +47,7 @@ returns-3 c =
     let e : tie.After-n2 = search in
     let r : tie.After-read-call = search in
     let s : tie.Start = search in
-    call_replies _ _ s.pre.0 _ _ _ _ _ _ _ _ (take-spoken _ _ r.read-call.ensures s.args.reply.now s.pre.1 _ _ e.n2.given.1) q.taking-in.ensures
+    call_replies _ _ s.pre.0 _ _ _ _ _ _ _ _ (take_spoken _ _ r.read-call.ensures s.args.reply.now s.pre.1 _ _ e.n2.given.1) q.taking-in.ensures
 
 returns-4 : tie.Need-returns-4
 unfolding step
@@ -56,7 +56,7 @@ returns-4 c =
     let e : tie.After-n3 = search in
     let r : tie.After-read-call = search in
     let s : tie.Start = search in
-    call_replies _ _ s.pre.0 _ _ _ _ _ _ _ _ (drop-spoken _ _ r.read-call.ensures s.args.reply.now s.pre.1 _ e.n3.given.1) q.dropping-in.ensures
+    call_replies _ _ s.pre.0 _ _ _ _ _ _ _ _ (drop_spoken _ _ r.read-call.ensures s.args.reply.now s.pre.1 _ e.n3.given.1) q.dropping-in.ensures
 
 returns-5 : tie.Need-returns-5
 returns-5 c =

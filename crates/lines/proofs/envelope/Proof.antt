@@ -5,7 +5,7 @@ use native.Mathlib.Omega.{arith}
 use borrow.Author.Rules.{rules}
 use Rattle.rules.specs.Run.{step}
 use Rattle.lines.proofs.Telling.{front_size}
-use Rattle.lines.proofs.Timing.{envelope-one, envelope-sized, envelope_none}
+use Rattle.lines.proofs.Timing.{envelope_one, envelope_sized, envelope_none}
 use Rattle.lines.proofs.envelope.Statement.{statement}
 use Rattle.lines.proofs.envelope.Tie as tie
 
@@ -15,7 +15,7 @@ returns c =
     let r : tie.After-envelope-in = search in
     let i : tie.Then1 = search in
     let s : tie.Start = search in
-    envelope-one _ _ s.pre.0 s.args.frame.now s.args.reply.now _ _ _ _ _ r.envelope-in.ensures i.if1.taken (sym (front_size 14 s.args.reply.now s.pre.1 (omega arith)))
+    envelope_one _ _ s.pre.0 s.args.frame.now s.args.reply.now _ _ _ _ _ r.envelope-in.ensures i.if1.taken (sym (front_size 14 s.args.reply.now s.pre.1 (omega arith)))
 
 returns-2 : tie.Need-returns-2
 returns-2 c =
@@ -30,7 +30,7 @@ returns-3 c =
     let r : tie.After-envelope-in2 = search in
     let j : tie.Else2 = search in
     let s : tie.Start = search in
-    envelope-sized _ _ s.pre.0 s.args.frame.now s.args.reply.now _ _ _ _ _ r.envelope-in2.ensures j.if2.left
+    envelope_sized _ _ s.pre.0 s.args.frame.now s.args.reply.now _ _ _ _ _ r.envelope-in2.ensures j.if2.left
     (sym (front_size _ s.args.reply.now s.pre.1 (let k : tie.After-shared-slice-known2 = search in omega (arith, k.shared-slice-known2.given 1))))
 
 pub envelope_spec : {M : Type 1} → statement M

@@ -3,7 +3,7 @@
 use native.Mathlib.Omega.{arith}
 use Prim.Native.Nat.{◌+◌}
 use borrow.Author.Rules.{rules}
-use Rattle.mending.proofs.Reading.{length_none, length-short, length-other, second_none, long-short, long_length_lem}
+use Rattle.mending.proofs.Reading.{length_none, length_short, length_other, second_none, long_short, long_length_lem}
 use Rattle.mending.proofs.length_at.Statement.{statement}
 use Rattle.mending.proofs.length_at.Tie as tie
 
@@ -20,14 +20,14 @@ length_at_spec =
     (λ c. search rules)
     (λ c. search rules)
     (λ c. search rules)
-    (λ c. search length-short)
-    (λ c. search length-other)
+    (λ c. search length_short)
+    (λ c. search length_other)
     (λ c. search rules)
     (λ c. search second_none)
     (λ c. search rules)
     (λ c. search rules)
     (λ c. search rules)
-    (λ c. search long-short)
+    (λ c. search long_short)
     cast-long
     (λ c. search rules)
     (λ c. search long_length_lem))

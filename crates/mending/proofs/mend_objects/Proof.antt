@@ -7,7 +7,7 @@ use lib.ListN.{length, drop}
 use borrow.Author.Rules.{rules}
 use Rattle.mending.specs.Mends.{Mended, mend_from}
 use Rattle.mending.proofs.Reading.{object_told, object_missed}
-use Rattle.mending.proofs.Left.{Left, left_whole, left_none, bytes_room, end_bytes, tag-put, kept_put, object_room, object_left}
+use Rattle.mending.proofs.Left.{Left, left_whole, left_none, bytes_room, end_bytes, tag_put, kept_put, object_room, object_left}
 use Rattle.mending.proofs.mend_objects.Statement.{statement}
 use Rattle.mending.proofs.mend_objects.Tie as tie
 
@@ -27,7 +27,7 @@ put-tag c κs =
     let n : tie.After-sized invariant-loop decreases-loop = search in
     let o : tie.After-object-at invariant-loop decreases-loop = search in
     let l : tie.At-loop invariant-loop decreases-loop = search in
-    tag-put (object_told n.sized.given.1 o.object-at.ensures) l.loop.inv
+    tag_put (object_told n.sized.given.1 o.object-at.ensures) l.loop.inv
 
 sub-tagged : tie.Need-overflow-sub-tagged invariant-loop decreases-loop
 sub-tagged c =

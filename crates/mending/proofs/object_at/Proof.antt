@@ -2,7 +2,7 @@
 -- Assumes nothing.
 use borrow.Author.Rules.{rules}
 use Rattle.objects.proofs.Reading.{tag_told, tag_missed}
-use Rattle.mending.proofs.Reading.{length_told, length_within, length_missed, object_untagged, object-unsized, object-cut, object-stands}
+use Rattle.mending.proofs.Reading.{length_told, length_within, length_missed, object_untagged, object_unsized, object_cut, object_stands}
 use Rattle.mending.proofs.object_at.Statement.{statement}
 use Rattle.mending.proofs.object_at.Tie as tie
 
@@ -12,7 +12,7 @@ cut c =
     let m : tie.After-length-at = search in
     let t : tie.After-sized = search in
     let r : tie.After-tag-at = search in
-    object-cut _ _ (tag_told t.sized.given.1 r.tag_at.ensures) (length_told l.len.given.1 m.length_at.ensures) c.if1.true
+    object_cut _ _ (tag_told t.sized.given.1 r.tag_at.ensures) (length_told l.len.given.1 m.length_at.ensures) c.if1.true
 
 stands : tie.Need-returns-3
 stands c =
@@ -21,13 +21,13 @@ stands c =
     let t : tie.After-sized = search in
     let r : tie.After-tag-at = search in
     let e : tie.Else1 = search in
-    object-stands _ _ (tag_told t.sized.given.1 r.tag_at.ensures) (length_told l.len.given.1 m.length_at.ensures) e.if1.left
+    object_stands _ _ (tag_told t.sized.given.1 r.tag_at.ensures) (length_told l.len.given.1 m.length_at.ensures) e.if1.left
 
 unsized : tie.Need-returns-4
 unsized c =
     let t : tie.After-sized = search in
     let r : tie.After-tag-at = search in
-    object-unsized _ _ (tag_told t.sized.given.1 r.tag_at.ensures) (search length_missed)
+    object_unsized _ _ (tag_told t.sized.given.1 r.tag_at.ensures) (search length_missed)
 
 pub object_at_spec : {M : Type 1} → statement M
 object_at_spec =

@@ -3,7 +3,7 @@
 use native.Mathlib.Omega.{arith}
 use borrow.Author.Rules.{rules}
 use Rattle.mending.proofs.Left.{front_size}
-use Rattle.mending.proofs.Lines.{none-left-told, too-long-told, frame-few, outer-few, changes-few, mended-told}
+use Rattle.mending.proofs.Lines.{none_left_told, too_long_told, frame_few, outer_few, changes_few, mended_told}
 use Rattle.mending.proofs.print_behind.Statement.{statement}
 use Rattle.mending.proofs.print_behind.Tie as tie
 
@@ -13,7 +13,7 @@ none_left c =
     let i : tie.Then1 = search in
     let o : tie.After-mend-objects = search in
     let s : tie.Start = search in
-    none-left-told s.pre.0 o.mend-objects.ensures i.if1.taken w.print-refusal.ensures
+    none_left_told s.pre.0 o.mend-objects.ensures i.if1.taken w.print-refusal.ensures
 
 too_long : tie.Need-returns-2
 too_long c =
@@ -21,7 +21,7 @@ too_long c =
     let i : tie.Then2 = search in
     let o : tie.After-mend-objects = search in
     let s : tie.Start = search in
-    too-long-told s.pre.0 o.mend-objects.ensures i.if2.taken w.print-refusal2.ensures
+    too_long_told s.pre.0 o.mend-objects.ensures i.if2.taken w.print-refusal2.ensures
 
 objects-front : tie.Need-slice-aggregate-print-frame
 objects-front c =
@@ -42,7 +42,7 @@ outer-room c κs =
     let e : tie.Else1 = search in
     let o : tie.After-mend-objects = search in
     let s : tie.Start = search in
-    omega (arith, frame-few s.pre.0 o.mend-objects.ensures e.if1.left f.if2.left, p.print-frame.ensures.place, s.pre.2)
+    omega (arith, frame_few s.pre.0 o.mend-objects.ensures e.if1.left f.if2.left, p.print-frame.ensures.place, s.pre.2)
 
 changes-room : tie.Need-print-changes-requires
 changes-room c κs =
@@ -52,9 +52,9 @@ changes-room c κs =
     let e : tie.Else1 = search in
     let o : tie.After-mend-objects = search in
     let s : tie.Start = search in
-    let few = frame-few s.pre.0 o.mend-objects.ensures e.if1.left f.if2.left in
-    let few₂ = outer-few s.pre.0 o.mend-objects.ensures e.if1.left f.if2.left in
-    let few₃ = changes-few s.pre.0 o.mend-objects.ensures e.if1.left f.if2.left in
+    let few = frame_few s.pre.0 o.mend-objects.ensures e.if1.left f.if2.left in
+    let few₂ = outer_few s.pre.0 o.mend-objects.ensures e.if1.left f.if2.left in
+    let few₃ = changes_few s.pre.0 o.mend-objects.ensures e.if1.left f.if2.left in
     (s.pre.1, omega (arith, p.print-frame.ensures.place, q.print-outer.ensures.place, s.pre.2))
 
 feed_room : tie.Need-print-char-requires
@@ -66,9 +66,9 @@ feed_room c κs =
     let e : tie.Else1 = search in
     let o : tie.After-mend-objects = search in
     let s : tie.Start = search in
-    let few = frame-few s.pre.0 o.mend-objects.ensures e.if1.left f.if2.left in
-    let few₂ = outer-few s.pre.0 o.mend-objects.ensures e.if1.left f.if2.left in
-    let few₃ = changes-few s.pre.0 o.mend-objects.ensures e.if1.left f.if2.left in
+    let few = frame_few s.pre.0 o.mend-objects.ensures e.if1.left f.if2.left in
+    let few₂ = outer_few s.pre.0 o.mend-objects.ensures e.if1.left f.if2.left in
+    let few₃ = changes_few s.pre.0 o.mend-objects.ensures e.if1.left f.if2.left in
     omega (arith, p.print-frame.ensures.place, q.print-outer.ensures.place, w.print-changes.ensures.place, s.pre.2)
 
 returns : tie.Need-returns-3
@@ -81,7 +81,7 @@ returns c =
     let e : tie.Else1 = search in
     let o : tie.After-mend-objects = search in
     let s : tie.Start = search in
-    mended-told s.pre.0 o.mend-objects.ensures e.if1.left f.if2.left s.pre.2 p.print-frame.ensures q.print-outer.ensures
+    mended_told s.pre.0 o.mend-objects.ensures e.if1.left f.if2.left s.pre.2 p.print-frame.ensures q.print-outer.ensures
     w.print-changes.ensures d.print-char.ensures
 
 pub print_behind_spec : {M : Type 1} → statement M

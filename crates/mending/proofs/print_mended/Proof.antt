@@ -2,7 +2,7 @@
 -- Assumes nothing.
 use borrow.Author.Rules.{rules}
 use Rattle.mending.proofs.Reading.{length_told, length_missed}
-use Rattle.mending.proofs.Lines.{blank_told, other_told, unsized-told, sized-told}
+use Rattle.mending.proofs.Lines.{blank_told, other_told, unsized_told, sized_told}
 use Rattle.mending.proofs.print_mended.Statement.{statement}
 use Rattle.mending.proofs.print_mended.Tie as tie
 
@@ -33,7 +33,7 @@ behind c =
     let l : tie.After-length-at = search in
     let f : tie.Else2 = search in
     let e : tie.Else1 = search in
-    sized-told _ e.if1.left f.if2.left (length_told n.said.given.1 l.length_at.ensures) w.print-behind.ensures
+    sized_told _ e.if1.left f.if2.left (length_told n.said.given.1 l.length_at.ensures) w.print-behind.ensures
 
 unsized : tie.Need-returns-4
 unsized c =
@@ -42,7 +42,7 @@ unsized c =
     let l : tie.After-length-at = search in
     let f : tie.Else2 = search in
     let e : tie.Else1 = search in
-    unsized-told _ e.if1.left f.if2.left (length_missed _ _ n.enum_told.given.1 l.length_at.ensures) w.print-refusal3.ensures
+    unsized_told _ e.if1.left f.if2.left (length_missed _ _ n.enum_told.given.1 l.length_at.ensures) w.print-refusal3.ensures
 
 pub print_mended_spec : {M : Type 1} → statement M
 print_mended_spec =

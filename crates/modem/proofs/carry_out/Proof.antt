@@ -7,7 +7,7 @@ use Rattle.objects.proofs.Alike.{part_size}
 use Rattle.rules.specs.Checks.{some_of, member}
 use Rattle.rules.specs.Reading.{to_modem}
 use Rattle.command.specs.declared.Handler.TheVariants.{Close, Receive, Send}
-use Rattle.modem.proofs.Obeying.{bare-answers, events-answers, open-answers, close-answers, receive-answers, send-answers, start-answers, manage-answers, one_byte, start_byte, start_time, manage_byte, opens, numbered}
+use Rattle.modem.proofs.Obeying.{bare_answers, events_answers, open_answers, close_answers, receive_answers, send_answers, start_answers, manage_answers, one_byte, start_byte, start_time, manage_byte, opens, numbered}
 use borrow.Author.Rules.{rules}
 use Rattle.modem.proofs.carry_out.Statement.{statement}
 use Rattle.modem.proofs.carry_out.Tie as tie
@@ -58,14 +58,14 @@ returns c =
     let r : tie.After-tell = search in
     let e : tie.After-enum-told = search in
     let s : tie.Start = search in
-    bare-answers _ _ _ s.args.q s.pre.0 s.pre.1 _ _ _ _ _ e.enum_told.given.1 r.tell.ensures
+    bare_answers _ _ _ s.args.q s.pre.0 s.pre.1 _ _ _ _ _ e.enum_told.given.1 r.tell.ensures
 
 returns-2 : tie.Need-returns-2
 returns-2 c =
     let r : tie.After-list-events = search in
     let e : tie.After-enum-told2 = search in
     let s : tie.Start = search in
-    events-answers _ _ _ s.args.q s.pre.0 s.pre.1 _ _ _ _ _ e.enum-told2.given.1 r.list-events.ensures
+    events_answers _ _ _ s.args.q s.pre.0 s.pre.1 _ _ _ _ _ e.enum-told2.given.1 r.list-events.ensures
 
 returns-3 : tie.Need-returns-3
 returns-3 c =
@@ -74,7 +74,7 @@ returns-3 c =
     let z : tie.After-size-at = search in
     let e : tie.After-enum-told3 = search in
     let s = start e in
-    open-answers _ _ _ s.args.q s.pre.0 s.pre.1 _ _ _ _ _ e.enum-told3.given.1 z.size-at.ensures w.protocol-at.ensures r.open.ensures
+    open_answers _ _ _ s.args.q s.pre.0 s.pre.1 _ _ _ _ _ e.enum-told3.given.1 z.size-at.ensures w.protocol-at.ensures r.open.ensures
 
 returns-4 : tie.Need-returns-4
 returns-4 c =
@@ -82,7 +82,7 @@ returns-4 c =
     let e : tie.After-enum-told4 = search in
     let n : tie.After-channel = search in
     let s : tie.Start = search in
-    close-answers _ _ _ s.args.q s.pre.0 s.pre.1 _ _ _ _ _ _ n.channel.ensures e.enum-told4.given.1 r.close.ensures
+    close_answers _ _ _ s.args.q s.pre.0 s.pre.1 _ _ _ _ _ _ n.channel.ensures e.enum-told4.given.1 r.close.ensures
 
 returns-5 : tie.Need-returns-5
 returns-5 c =
@@ -90,7 +90,7 @@ returns-5 c =
     let e : tie.After-enum-told5 = search in
     let n : tie.After-channel = search in
     let s : tie.Start = search in
-    receive-answers _ _ _ s.args.q s.pre.0 s.pre.1 _ _ _ _ _ _ n.channel.ensures e.enum-told5.given.1 r.receive.ensures
+    receive_answers _ _ _ s.args.q s.pre.0 s.pre.1 _ _ _ _ _ _ n.channel.ensures e.enum-told5.given.1 r.receive.ensures
 
 returns-6 : tie.Need-returns-6
 returns-6 c =
@@ -98,7 +98,7 @@ returns-6 c =
     let e : tie.After-enum-told6 = search in
     let n : tie.After-channel = search in
     let s : tie.Start = search in
-    send-answers _ _ _ s.args.q s.pre.0 s.pre.1 _ _ _ _ _ _ n.channel.ensures e.enum-told6.given.1 r.send.ensures
+    send_answers _ _ _ s.args.q s.pre.0 s.pre.1 _ _ _ _ _ _ n.channel.ensures e.enum-told6.given.1 r.send.ensures
 
 start-read : tie.Need-shared-slice-read-start-timer
 start-read c =
@@ -126,14 +126,14 @@ returns-7 c =
     let r : tie.After-start-timer = search in
     let e : tie.After-enum-told7 = search in
     let s : tie.Start = search in
-    start-answers _ _ _ s.args.q s.pre.0 s.pre.1 _ _ _ _ _ e.enum-told7.given.1 refl r.start-timer.ensures
+    start_answers _ _ _ s.args.q s.pre.0 s.pre.1 _ _ _ _ _ e.enum-told7.given.1 refl r.start-timer.ensures
 
 returns-8 : tie.Need-returns-8
 returns-8 c =
     let r : tie.After-manage-timer = search in
     let e : tie.After-enum-told8 = search in
     let s : tie.Start = search in
-    manage-answers _ _ _ s.args.q s.pre.0 s.pre.1 _ _ _ _ _ e.enum-told8.given.1 r.manage-timer.ensures
+    manage_answers _ _ _ s.args.q s.pre.0 s.pre.1 _ _ _ _ _ e.enum-told8.given.1 r.manage-timer.ensures
 
 pub carry_out_spec : {M : Type 1} → statement M
 carry_out_spec =

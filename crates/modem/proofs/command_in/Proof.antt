@@ -8,7 +8,7 @@ use Rattle.command.specs.Requests.{Frames}
 use Rattle.session.proofs.Answers.{refuse_answers}
 use Rattle.own.proofs.Replies.{left_answers}
 use Rattle.modem.proofs.Obeying.{as_obeyed}
-use Rattle.modem.proofs.Commanding.{short_refused, empty_refused, long_refused, unframed, framed-obeyed}
+use Rattle.modem.proofs.Commanding.{short_refused, empty_refused, long_refused, unframed, framed_obeyed}
 use borrow.Author.Rules.{rules}
 use Rattle.modem.proofs.command_in.Statement.{statement}
 use Rattle.modem.proofs.command_in.Tie as tie
@@ -36,7 +36,7 @@ returns-4 c =
     let i2 : tie.Else2 = search in
     let i1 : tie.Else1 = search in
     let s : tie.Start = search in
-    as_obeyed _ _ _ _ _ _ _ (framed-obeyed _ _ _ i1.if1.left i2.if2.left i3.if3.left _ (subst (λ (r : Framed). Frames r s.args.s.now) v.start.given.1 f.frame-start.ensures)) o.obey.ensures
+    as_obeyed _ _ _ _ _ _ _ (framed_obeyed _ _ _ i1.if1.left i2.if2.left i3.if3.left _ (subst (λ (r : Framed). Frames r s.args.s.now) v.start.given.1 f.frame-start.ensures)) o.obey.ensures
 
 returns-5 : tie.Need-returns-5
 unfolding zeros

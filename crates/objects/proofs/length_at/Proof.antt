@@ -3,7 +3,7 @@
 use Prim.Native.Nat.{◌+◌}
 use native.Mathlib.Omega.{arith}
 use borrow.Author.Rules.{rules}
-use Rattle.objects.proofs.Reading.{length_none, length-short, length-other, long-none, long-low, long_length_lem}
+use Rattle.objects.proofs.Reading.{length_none, length_short, length_other, long_none, long_low, long_length_lem}
 use Rattle.objects.proofs.length_at.Statement.{statement}
 use Rattle.objects.proofs.length_at.Tie as tie
 
@@ -15,12 +15,12 @@ length_at_spec =
     (λ c. search rules)
     (λ c. search rules)
     (λ c. search rules)
-    (λ c. search length-short)
-    (λ c. search length-other)
+    (λ c. search length_short)
+    (λ c. search length_other)
     (λ c. search rules)
-    (λ c. search long-none)
+    (λ c. search long_none)
     (λ c. search rules)
-    (λ c. search long-low)
+    (λ c. search long_low)
     (λ c. let s : tie.Start = search in omega (arith, c.before.shared-slice-known2.given (s.args.at + 1)))
     (λ c. search rules)
     (λ c. search long_length_lem))

@@ -3,7 +3,7 @@
 use Prim.Native.Nat.{◌+◌}
 use native.Mathlib.Omega.{arith}
 use borrow.Author.Rules.{rules}
-use Rattle.objects.proofs.Reading.{second_none, third_none, long-zero, long-read}
+use Rattle.objects.proofs.Reading.{second_none, third_none, long_zero, long_read}
 use Rattle.objects.proofs.long_tag_at.Statement.{statement}
 use Rattle.objects.proofs.long_tag_at.Tie as tie
 
@@ -22,6 +22,6 @@ long_tag_at_spec =
     (λ c. search rules)
     (λ c. let s : tie.Start = search in omega (arith, c.shared-slice-known2.given (s.args.at + 1)))
     (λ c. let s : tie.Start = search in omega (arith, c.shared-slice-known2.given (s.args.at + 1)))
-    (λ c. search long-zero)
+    (λ c. search long_zero)
     (λ c. search rules)
-    (λ c. search long-read))
+    (λ c. search long_read))

@@ -2,7 +2,7 @@
 -- Assumes nothing.
 use native.Mathlib.Omega.{arith}
 use Rattle.session.proofs.Facts.{good_table}
-use Rattle.opening.proofs.Checks.{bearer_there, bearer_few, few_channels, numbered, unopened, grant-fits, unserved, uncarried, sizeless, numberless, cellless, open_done}
+use Rattle.opening.proofs.Checks.{bearer_there, bearer_few, few_channels, numbered, unopened, grant_fits, unserved, uncarried, sizeless, numberless, cellless, open_done}
 use borrow.Author.Rules.{rules}
 use Rattle.opening.proofs.open.Statement.{statement}
 use Rattle.opening.proofs.open.Tie as tie
@@ -107,7 +107,7 @@ open-channel-requires c κs =
     let v : tie.After-serves = search in
     let s = start v in (
       numbered _ _ s.pre.0 _ _ n.channels-of.ensures k.open-before.ensures i4.if4.left,
-      (unopened _ _ s.pre.0 _ _ n.channels-of.ensures k.open-before.ensures i4.if4.left, grant-fits _ _ s.pre.0 _ f.free-cells.ensures s.args.size _ w.grant.ensures),
+      (unopened _ _ s.pre.0 _ _ n.channels-of.ensures k.open-before.ensures i4.if4.left, grant_fits _ _ s.pre.0 _ f.free-cells.ensures s.args.size _ w.grant.ensures),
     )
 
 tell-opened-requires : tie.Need-tell-opened-requires

@@ -2,7 +2,7 @@
 -- Assumes nothing.
 use Prim.Native.Nat.{◌-◌}
 use native.Mathlib.Omega.{arith}
-use Rattle.opening.proofs.Unused.{Seen, seen_none, seen_more, seen-stop, seen_all}
+use Rattle.opening.proofs.Unused.{Seen, seen_none, seen_more, seen_stop, seen_all}
 use Rattle.opening.proofs.open_before.Statement.{statement}
 use Rattle.opening.proofs.open_before.Tie as tie
 
@@ -18,7 +18,7 @@ returns c =
     let b : tie.In-loop invariant-loop decreases-loop = search in
     let l : tie.At-loop invariant-loop decreases-loop = search in
     let s : tie.Start invariant-loop decreases-loop = search in
-    seen-stop s.args.ledger.now _ l.loop.k _ l.loop.inv b.loop-test.taken e.entry.ensures c.if1.true
+    seen_stop s.args.ledger.now _ l.loop.k _ l.loop.inv b.loop-test.taken e.entry.ensures c.if1.true
 
 loop-again : tie.Need-loop-preserved invariant-loop decreases-loop
 loop-again c =

@@ -3,7 +3,7 @@
 use Rattle.session.specs.declared.Channel.{Channel}
 use mathlib.Core.Path.{ap}
 use Rattle.session.proofs.Facts.{bounds}
-use Rattle.own.proofs.Replies.{close-unopened, close_done}
+use Rattle.own.proofs.Replies.{close_unopened, close_done}
 use borrow.Author.Rules.{rules}
 use Rattle.own.proofs.close.Statement.{statement}
 use Rattle.own.proofs.close.Tie as tie
@@ -14,7 +14,7 @@ returns c =
     let p : tie.After-tell-problem = search in
     let e : tie.After-entry = search in
     let s : tie.Start = search in
-    close-unopened _ _ _ s.pre.0 _ e.entry.ensures s.args.d s.args.ignored _ _ _ i.if1.taken p.tell-problem.ensures
+    close_unopened _ _ _ s.pre.0 _ e.entry.ensures s.args.d s.args.ignored _ _ _ i.if1.taken p.tell-problem.ensures
 
 returns-2 : tie.Need-returns-2
 returns-2 c =

@@ -4,7 +4,7 @@ use native.Mathlib.Omega.{arith}
 use Rattle.rules.specs.declared.Way.TheVariants.{Receive}
 use Rattle.session.specs.Changed.{held_in}
 use Rattle.session.proofs.Facts.{bounds, held_within}
-use Rattle.own.proofs.Replies.{receive-unopened, handed-few, handed-once, receive_done}
+use Rattle.own.proofs.Replies.{receive_unopened, handed_few, handed_once, receive_done}
 use borrow.Author.Rules.{rules}
 use Rattle.own.proofs.receive.Statement.{statement}
 use Rattle.own.proofs.receive.Tie as tie
@@ -15,7 +15,7 @@ returns c =
     let p : tie.After-tell-problem = search in
     let e : tie.After-entry = search in
     let s : tie.Start = search in
-    receive-unopened _ _ _ s.pre.0 _ e.entry.ensures s.args.d s.args.request s.args.ignored _ _ _ i.if1.taken p.tell-problem.ensures
+    receive_unopened _ _ _ s.pre.0 _ e.entry.ensures s.args.d s.args.request s.args.ignored _ _ _ i.if1.taken p.tell-problem.ensures
 
 sub-capped : tie.Need-overflow-sub-capped
 sub-capped c =
@@ -24,7 +24,7 @@ sub-capped c =
     let v : tie.After-at-once = search in
     let e : tie.After-entry = search in
     let s : tie.Start = search in
-    let f = handed-few _ _ _ s.pre.0 _ e.entry.ensures s.args.request _ _ _ k.least2.ensures m.least.ensures v.at_once.ensures in
+    let f = handed_few _ _ _ s.pre.0 _ e.entry.ensures s.args.request _ _ _ k.least2.ensures m.least.ensures v.at_once.ensures in
     omega arith
 
 tell-received-requires : tie.Need-tell-received-requires
@@ -36,7 +36,7 @@ tell-received-requires c κs =
     let v : tie.After-at-once = search in
     let e : tie.After-entry = search in
     let s : tie.Start = search in
-    let f = handed-few _ _ _ s.pre.0 _ e.entry.ensures s.args.request _ _ _ k.least2.ensures m.least.ensures v.at_once.ensures in
+    let f = handed_few _ _ _ s.pre.0 _ e.entry.ensures s.args.request _ _ _ k.least2.ensures m.least.ensures v.at_once.ensures in
     (omega (arith, s.pre.1), held_within _ _ _ s.pre.0 _ Receive _ _ e.entry.ensures o.start_of_lem.ensures f.1)
 
 remove-requires : tie.Need-remove-requires
@@ -47,7 +47,7 @@ remove-requires c κs =
     let v : tie.After-at-once = search in
     let e : tie.After-entry = search in
     let s : tie.Start = search in
-    ((s.pre.0, e.entry.ensures, o.start_of_lem.ensures), handed-once _ _ _ s.pre.0 _ e.entry.ensures s.args.request _ _ _ k.least2.ensures m.least.ensures v.at_once.ensures)
+    ((s.pre.0, e.entry.ensures, o.start_of_lem.ensures), handed_once _ _ _ s.pre.0 _ e.entry.ensures s.args.request _ _ _ k.least2.ensures m.least.ensures v.at_once.ensures)
 
 returns-2 : tie.Need-returns-2
 returns-2 c =

@@ -5,7 +5,7 @@ use mathlib.Core.Path.{ap}
 use mathlib.Core.List.{[]}
 use Rattle.session.specs.declared.Channel.{Channel}
 use Rattle.session.proofs.Facts.{bounds}
-use Rattle.own.proofs.Sends.{send_unopened, send_dropped, send-overfull, send-crowded, send_fits, sent_marks, send-place, send-done}
+use Rattle.own.proofs.Sends.{send_unopened, send_dropped, send_overfull, send_crowded, send_fits, sent_marks, send_place, send_done}
 use borrow.Author.Rules.{rules}
 use Rattle.own.proofs.send.Statement.{statement}
 use Rattle.own.proofs.send.Tie as tie
@@ -46,7 +46,7 @@ returns-3 c =
     let i : tie.Else1 = search in
     let e : tie.After-entry = search in
     let s : tie.Start = search in
-    send-overfull _ _ _ s.pre.0 _ e.entry.ensures s.args.d s.args.bytes.now s.args.ignored _ _ _ _ i.if1.left g.is-dropped.ensures j.if2.left k.if3.taken p.tell-problem3.ensures
+    send_overfull _ _ _ s.pre.0 _ e.entry.ensures s.args.d s.args.bytes.now s.args.ignored _ _ _ _ i.if1.left g.is-dropped.ensures j.if2.left k.if3.taken p.tell-problem3.ensures
 
 returns-4 : tie.Need-returns-4
 returns-4 c =
@@ -59,7 +59,7 @@ returns-4 c =
     let i : tie.Else1 = search in
     let e : tie.After-entry = search in
     let s : tie.Start = search in
-    send-crowded _ _ _ s.pre.0 _ e.entry.ensures s.args.d s.args.bytes.now s.args.ignored _ _ _ _ i.if1.left g.is-dropped.ensures j.if2.left
+    send_crowded _ _ _ s.pre.0 _ e.entry.ensures s.args.d s.args.bytes.now s.args.ignored _ _ _ _ i.if1.left g.is-dropped.ensures j.if2.left
     _ k.if3.left z.lacks-place.ensures o.if4.taken p.tell-problem4.ensures
 
 sent-whole-requires : tie.Need-sent-whole-requires
@@ -88,7 +88,7 @@ append-requires c κs =
       (s.pre.0, sent_marks _ _ _ s.pre.0 _ e.entry.ensures _ _ _ v.sent-entry.ensures),
       (
         send_fits _ _ _ s.pre.0 _ e.entry.ensures _ k.if3.left,
-        send-place _ _ _ s.pre.0 _ e.entry.ensures s.args.d s.args.bytes.now s.args.ignored 0 [] [] _ i.if1.left g.is-dropped.ensures j.if2.left k.if3.left
+        send_place _ _ _ s.pre.0 _ e.entry.ensures s.args.d s.args.bytes.now s.args.ignored 0 [] [] _ i.if1.left g.is-dropped.ensures j.if2.left k.if3.left
             _ z.lacks-place.ensures o.if4.left _ l.sent-whole.ensures,
       ),
     )
@@ -109,7 +109,7 @@ returns-5 c =
     let i : tie.Else1 = search in
     let e : tie.After-entry = search in
     let s : tie.Start = search in
-    send-done _ _ _ s.pre.0 _ e.entry.ensures s.args.d s.args.bytes.now s.args.ignored _ _ _ _ i.if1.left g.is-dropped.ensures j.if2.left k.if3.left _ z.lacks-place.ensures o.if4.left _ _ _ _ _ _
+    send_done _ _ _ s.pre.0 _ e.entry.ensures s.args.d s.args.bytes.now s.args.ignored _ _ _ _ i.if1.left g.is-dropped.ensures j.if2.left k.if3.left _ z.lacks-place.ensures o.if4.left _ _ _ _ _ _
     v.sent-entry.ensures q.sent-whole.ensures r.append.ensures m.plain.ensures l.capped.ensures w.tell-sent.ensures
 
 pub send_spec : {M : Type 1} → statement M

@@ -1,7 +1,7 @@
 -- `radio::accept` meets its contract: each return is that of the law for its case.
 -- Assumes nothing.
 use native.Mathlib.Omega.{arith}
-use Rattle.radio.proofs.Ends.{marks_own, accept_fits, accept_room, accept_count, accept_place, accept-overfull, accept-empty, accept-crowded, accept-unlisted, accept-held, accept-told}
+use Rattle.radio.proofs.Ends.{marks_own, accept_fits, accept_room, accept_count, accept_place, accept_overfull, accept_empty, accept_crowded, accept_unlisted, accept_held, accept_told}
 use borrow.Author.Rules.{rules}
 use Rattle.radio.proofs.accept.Statement.{statement}
 use Rattle.radio.proofs.accept.Tie as tie
@@ -29,7 +29,7 @@ returns-6 c =
     let e : tie.Else2 = search in
     let r : tie.Else1 = search in
     let s = start r in
-    accept-told s.pre.0 s.args.bytes.now _ s.pre.1 r.if1.left e.if2.left _ i.is-crowded.ensures f.if3.left
+    accept_told s.pre.0 s.args.bytes.now _ s.pre.1 r.if1.left e.if2.left _ i.is-crowded.ensures f.if3.left
     _ _ o.append.ensures _ l.if4.left h.if5.left w.tell-arrival.ensures
 
 pub accept_spec : {M : Type 1} → statement M
@@ -40,13 +40,13 @@ accept_spec =
     (λ c. search rules)
     (λ c. search rules)
     (λ c. let s : tie.Start = search in omega (arith, accept_fits s.pre.0))
-    (λ c. search accept-overfull)
-    (λ c. search accept-empty)
+    (λ c. search accept_overfull)
+    (λ c. search accept_empty)
     (λ c κs. search rules)
-    (λ c. search accept-crowded)
+    (λ c. search accept_crowded)
     append-requires
-    (λ c. search accept-unlisted)
-    (λ c. search accept-held)
+    (λ c. search accept_unlisted)
+    (λ c. search accept_held)
     (λ c κs. search rules)
     (λ c. search rules)
     returns-6)

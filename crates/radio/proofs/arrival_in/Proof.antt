@@ -1,7 +1,7 @@
 -- `radio::arrival_in` meets its contract: R1, the permit, and the arrival on a channel that may be used.
 -- Assumes nothing.
 use Rattle.session.proofs.Facts.{good_table}
-use Rattle.radio.proofs.Permits.{usable, arrival_short, arrival-refused}
+use Rattle.radio.proofs.Permits.{usable, arrival_short, arrival_refused}
 use borrow.Author.Rules.{rules}
 use Rattle.radio.proofs.arrival_in.Statement.{statement}
 use Rattle.radio.proofs.arrival_in.Tie as tie
@@ -17,4 +17,4 @@ arrival_in_spec =
     (λ c. search rules)
     (λ c. search rules)
     (λ c. search rules)
-    (λ c. search arrival-refused))
+    (λ c. search arrival_refused))

@@ -1,7 +1,7 @@
 -- `radio::dropping_in` meets its contract: R1, the permit, and the drop on a channel that may be used.
 -- Assumes nothing.
 use Rattle.session.proofs.Facts.{good_table}
-use Rattle.radio.proofs.Permits.{usable, dropping_short, dropping-refused}
+use Rattle.radio.proofs.Permits.{usable, dropping_short, dropping_refused}
 use borrow.Author.Rules.{rules}
 use Rattle.radio.proofs.dropping_in.Statement.{statement}
 use Rattle.radio.proofs.dropping_in.Tie as tie
@@ -17,4 +17,4 @@ dropping_in_spec =
     (λ c. search rules)
     (λ c. search rules)
     (λ c. search rules)
-    (λ c. search dropping-refused))
+    (λ c. search dropping_refused))

@@ -2,7 +2,7 @@
 -- Assumes nothing.
 use native.Mathlib.Omega.{arith}
 use Rattle.session.proofs.Facts.{good_table, bounds}
-use Rattle.radio.proofs.Ends.{send_lies, hand_once, hand-short, handed}
+use Rattle.radio.proofs.Ends.{send_lies, hand_once, hand_short, handed}
 use borrow.Author.Rules.{rules}
 use Rattle.radio.proofs.hand_over.Statement.{statement}
 use Rattle.radio.proofs.hand_over.Tie as tie
@@ -51,7 +51,7 @@ hand_over_spec =
     (tie.spec
     (λ c κs. search rules)
     (λ c κs. search rules)
-    (λ c. search hand-short)
+    (λ c. search hand_short)
     (λ c κs. search rules)
     (λ c κs. (search rules, search rules, search good_table))
     add-put-part

@@ -1,7 +1,7 @@
 -- `radio::taking_in` meets its contract: the permit, and the take on a channel that may be used.
 -- Assumes nothing.
 use Rattle.session.proofs.Facts.{good_table}
-use Rattle.radio.proofs.Permits.{usable, taking-refused}
+use Rattle.radio.proofs.Permits.{usable, taking_refused}
 use borrow.Author.Rules.{rules}
 use Rattle.radio.proofs.taking_in.Statement.{statement}
 use Rattle.radio.proofs.taking_in.Tie as tie
@@ -16,4 +16,4 @@ taking_in_spec =
     (λ c. search rules)
     (λ c. search rules)
     (λ c. search rules)
-    (λ c. search taking-refused))
+    (λ c. search taking_refused))

@@ -5,7 +5,7 @@ use mathlib.Core.Path.{refl}
 use mathlib.Core.List.{List, [], ◌∷◌}
 use lib.ListN.{length, get_or}
 use native.Mathlib.Omega.{arith}
-use Rattle.responses.proofs.Writes.{after_head, head_size, opened_size, second_fits, third-fits, three-stand, opened_pieces, bearer_back}
+use Rattle.responses.proofs.Writes.{after_head, head_size, opened_size, second_fits, third_fits, three_stand, opened_pieces, bearer_back}
 use borrow.Author.Rules.{rules}
 use Rattle.responses.proofs.tell_opened.Statement.{statement}
 use Rattle.responses.proofs.tell_opened.Tie as tie
@@ -47,7 +47,7 @@ put-requires-3 c κs =
     let h : tie.After-tell-result = search in
     let s : tie.Start = search in
     let b = s.args.bearer.now in
-    third-fits s.args.d s.args.res _ _ _ (first t.status.result b) b (last s.args.grant) s.args.out.now _ _
+    third_fits s.args.d s.args.res _ _ _ (first t.status.result b) b (last s.args.grant) s.args.out.now _ _
     h.tell-result.ensures refl (opened_size _ _ s.pre.2) refl p.put.ensures _ q.put2.ensures
 
 add-result : tie.Need-overflow-add-result
@@ -65,7 +65,7 @@ returns c =
     let h : tie.After-tell-result = search in
     let s : tie.Start = search in
     let b = s.args.bearer.now in
-    three-stand s.args.d s.args.res _ _ _ (first t.status.result b) b (last s.args.grant) s.args.out.now _ _
+    three_stand s.args.d s.args.res _ _ _ (first t.status.result b) b (last s.args.grant) s.args.out.now _ _
     h.tell-result.ensures refl (opened_size _ _ s.pre.2) refl p.put.ensures _ q.put2.ensures _ _ r.put3.ensures
     (opened_pieces s.args.d s.args.res s.args.grant s.args.n s.args.link _ b _ (bearer_back b s.pre.3) s.pre.1 t.status.ensures)
 

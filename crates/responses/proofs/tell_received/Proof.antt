@@ -5,7 +5,7 @@ use mathlib.Core.List.{[], ◌∷◌}
 use Rattle.octets.specs.Parts.{part}
 use native.Mathlib.Omega.{arith}
 use Rattle.rules.proofs.Sizes.{length_bytes_lem}
-use Rattle.responses.proofs.Writes.{after_head, whole_part, received_size, first_end, second_fits, third-fits, three-stand, received_pieces}
+use Rattle.responses.proofs.Writes.{after_head, whole_part, received_size, first_end, second_fits, third_fits, three_stand, received_pieces}
 use borrow.Author.Rules.{rules}
 use Rattle.responses.proofs.tell_received.Statement.{statement}
 use Rattle.responses.proofs.tell_received.Tie as tie
@@ -55,7 +55,7 @@ put-requires c κs =
     let h = after-tell-result.tell-result.ensures in
     let f = after-write-length.write-length.ensures in
     let y = whole_part s.args.pool.now s.args.from s.args.count s.pre.1 in
-    third-fits s.args.d s.args.res _ _ s.args.count _ (part s.args.from (s.args.from + s.args.count) s.args.pool.now) (0x37 ∷ 0x01 ∷ s.args.left ∷ []) s.args.out.now _ _ h y (received_size s.args.count _ s.pre.0) f.1 f.0 _ after-put-part.put-part.ensures
+    third_fits s.args.d s.args.res _ _ s.args.count _ (part s.args.from (s.args.from + s.args.count) s.args.pool.now) (0x37 ∷ 0x01 ∷ s.args.left ∷ []) s.args.out.now _ _ h y (received_size s.args.count _ s.pre.0) f.1 f.0 _ after-put-part.put-part.ensures
 
 add-result : tie.Need-overflow-add-result
 add-result c =
@@ -78,7 +78,7 @@ returns c =
     let h = after-tell-result.tell-result.ensures in
     let f = after-write-length.write-length.ensures in
     let y = whole_part s.args.pool.now s.args.from s.args.count s.pre.1 in
-    three-stand s.args.d s.args.res _ _ s.args.count _ (part s.args.from (s.args.from + s.args.count) s.args.pool.now) (0x37 ∷ 0x01 ∷ s.args.left ∷ []) s.args.out.now _ _ h y (received_size s.args.count _ s.pre.0) f.1 f.0 _ after-put-part.put-part.ensures _ _ c.before.before.put.ensures (received_pieces s.args.d s.args.res s.args.left s.args.count _ y)
+    three_stand s.args.d s.args.res _ _ s.args.count _ (part s.args.from (s.args.from + s.args.count) s.args.pool.now) (0x37 ∷ 0x01 ∷ s.args.left ∷ []) s.args.out.now _ _ h y (received_size s.args.count _ s.pre.0) f.1 f.0 _ after-put-part.put-part.ensures _ _ c.before.before.put.ensures (received_pieces s.args.d s.args.res s.args.left s.args.count _ y)
 
 pub tell_received_spec : {M : Type 1} → statement M
 tell_received_spec =

@@ -1,7 +1,7 @@
 -- `rules::is_addressed` meets its contract, check by check.
 -- Assumes nothing.
 use borrow.Author.Rules.{rules}
-use Rattle.rules.proofs.Addressing.{not_card, for-modem, below-channels, from-channels}
+use Rattle.rules.proofs.Addressing.{not_card, for_modem, below_channels, from_channels}
 use Rattle.rules.proofs.is_addressed.Statement.{statement}
 use Rattle.rules.proofs.is_addressed.Tie as tie
 
@@ -11,6 +11,6 @@ is_addressed_spec =
     (tie.spec
     (λ c. search not_card)
     (λ c κs. search rules)
-    (λ c. search for-modem)
-    (λ c. search below-channels)
-    (λ c. search from-channels))
+    (λ c. search for_modem)
+    (λ c. search below_channels)
+    (λ c. search from_channels))

@@ -13,8 +13,8 @@ returns-then-value-values c = sym (some_at (eqb c.args.value) _ _ true c.loop-i-
 pub loop-i-preserved : goal.loop-i-preserved
 unfolding member
 loop-i-preserved c = record {
-    rest = some_at (eqb c.args.value) _ _ false c.loop-i-test.true (ne_eqb _ _ c.if-value-values.false) c.loop-i.invariant.rest;
-    within = omega arith;
+  rest = some_at (eqb c.args.value) _ _ false c.loop-i-test.true (ne_eqb _ _ c.if-value-values.false) c.loop-i.invariant.rest;
+  within = omega arith;
 }
 
 pub returns : goal.returns

@@ -8,7 +8,7 @@ use lib.ListN.{length}
 use Rattle.rules.specs.Pool.{grant_cap}
 use Rattle.session.specs.Picture.{start_in}
 use Rattle.session.specs.Changed.{held_in}
-use Rattle.session.proofs.Facts.{bounds, appending, append-stream, append-datagram, joins-read, entry_size_lem}
+use Rattle.session.proofs.Facts.{bounds, appending, append_stream, append_datagram, joins_read, entry_size_lem}
 use borrow.Author.Rules.{rules}
 use Rattle.session.proofs.append.Statement.{statement}
 use Rattle.session.proofs.append.Tie as tie
@@ -44,7 +44,7 @@ returns c =
     let h : tie.After-held = search in
     let o : tie.After-start-of = search in
     let s : tie.Start = search in
-    append-stream _ _ _ s.pre.0.0 s.args.c _ s.args.way s.args.bytes.now _ _ _ _ s.args.len s.pre.0.1 s.pre.1.0
+    append_stream _ _ _ s.pre.0.0 s.args.c _ s.args.way s.args.bytes.now _ _ _ _ s.args.len s.pre.0.1 s.pre.1.0
     h.held.ensures o.start_of_lem.ensures m.more.ensures u.put.ensures i.if1.taken e.put-entry.ensures
 
 count-whole-requires : tie.Need-count-whole-requires
@@ -56,7 +56,7 @@ count-whole-requires c κs =
     let o : tie.After-start-of = search in
     let s : tie.Start = search in
     let b = bounds _ _ _ s.pre.0.0 in
-    let there = joins-read _ _ _ s.pre.0.0 s.args.c _ s.args.way s.args.bytes.now [] _ _ _ s.args.len s.pre.0.1 s.pre.1.0
+    let there = joins_read _ _ _ s.pre.0.0 s.args.c _ s.args.way s.args.bytes.now [] _ _ _ s.args.len s.pre.0.1 s.pre.1.0
     h.held.ensures o.start_of_lem.ensures m.more.ensures u.put.ensures _ e.put-entry.ensures
     in
     let size = ap (λ (l : List ℕ). length l) there in
@@ -71,7 +71,7 @@ returns-2 c =
     let h : tie.After-held = search in
     let o : tie.After-start-of = search in
     let s : tie.Start = search in
-    append-datagram _ _ _ s.pre.0.0 s.args.c _ s.args.way s.args.bytes.now _ _ _ _ s.args.len s.pre.0.1 s.pre.1.0
+    append_datagram _ _ _ s.pre.0.0 s.args.c _ s.args.way s.args.bytes.now _ _ _ _ s.args.len s.pre.0.1 s.pre.1.0
     h.held.ensures o.start_of_lem.ensures m.more.ensures u.put.ensures i.if1.left s.pre.1.1.1 _ e.put-entry.ensures c.count-whole.ensures
 
 pub append_spec : {M : Type 1} → statement M

@@ -4,7 +4,7 @@ use Prim.Native.Nat.{◌+◌, ◌≤◌}
 use native.Mathlib.Omega.{arith}
 use lib.ListN.{length}
 use Rattle.session.specs.Changed.{held_in, due_in}
-use Rattle.session.proofs.Facts.{bounds, removing, entry_size_lem, remove-stream, remove-datagram}
+use Rattle.session.proofs.Facts.{bounds, removing, entry_size_lem, remove_stream, remove_datagram}
 use borrow.Author.Rules.{rules}
 use Rattle.session.proofs.remove.Statement.{statement}
 use Rattle.session.proofs.remove.Tie as tie
@@ -48,7 +48,7 @@ returns c =
     let u : tie.After-cut = search in
     let h : tie.After-held = search in
     let s : tie.Start = search in
-    remove-stream _ _ _ s.pre.0.0 s.args.c _ s.args.way _ _ _ s.args.at s.args.count s.pre.0.1 s.pre.0.2 s.pre.1
+    remove_stream _ _ _ s.pre.0.0 s.args.c _ s.args.way _ _ _ s.args.at s.args.count s.pre.0.1 s.pre.0.2 s.pre.1
     h.held.ensures l.less.ensures u.cut.ensures i.if1.taken e.put-entry.ensures
 
 count-less-requires : tie.Need-count-less-requires
@@ -64,7 +64,7 @@ returns-2 c =
     let u : tie.After-cut = search in
     let h : tie.After-held = search in
     let s : tie.Start = search in
-    remove-datagram _ _ _ s.pre.0.0 s.args.c _ s.args.way _ _ _ s.args.at s.args.count s.pre.0.1 s.pre.0.2 s.pre.1
+    remove_datagram _ _ _ s.pre.0.0 s.args.c _ s.args.way _ _ _ s.args.at s.args.count s.pre.0.1 s.pre.0.2 s.pre.1
     h.held.ensures l.less.ensures u.cut.ensures _ e.put-entry.ensures c.count_less.ensures
 
 pub remove_spec : {M : Type 1} → statement M

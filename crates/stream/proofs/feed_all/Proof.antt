@@ -9,7 +9,7 @@ use lib.Seq.{length-take-le}
 use Rattle.flow.specs.Holds.{reader_in}
 use Rattle.tools.specs.Tools.{memory, GoodMemory, kept_in, ends}
 use Rattle.flow.proofs.Filling.{fills_within}
-use Rattle.flow.proofs.Pieces.{Midway, midway_none, midway_all, midway-within, midway-less, midway-more}
+use Rattle.flow.proofs.Pieces.{Midway, midway_none, midway_all, midway_within, midway_less, midway_more}
 use borrow.Author.Rules.{rules}
 use Rattle.stream.proofs.feed_all.Statement.{statement}
 use Rattle.stream.proofs.feed_all.Tie as tie
@@ -26,20 +26,20 @@ add-next c =
     let f : tie.After-fill invariant-loop decreases-loop = search in
     let l : tie.At-loop invariant-loop decreases-loop = search in
     let s : tie.Start invariant-loop decreases-loop = search in
-    omega (arith, midway-within l.loop.inv f.fill.ensures, s.good)
+    omega (arith, midway_within l.loop.inv f.fill.ensures, s.good)
 
 loop-less : tie.Need-loop-smaller invariant-loop decreases-loop
 loop-less c =
     let f : tie.After-fill invariant-loop decreases-loop = search in
     let i : tie.In-loop invariant-loop decreases-loop = search in
     let l : tie.At-loop invariant-loop decreases-loop = search in
-    omega (arith, midway-less l.loop.inv f.fill.ensures i.loop-test.taken)
+    omega (arith, midway_less l.loop.inv f.fill.ensures i.loop-test.taken)
 
 loop-again : tie.Need-loop-preserved invariant-loop decreases-loop
 loop-again c =
     let f : tie.After-fill invariant-loop decreases-loop = search in
     let l : tie.At-loop invariant-loop decreases-loop = search in
-    midway-more l.loop.inv f.fill.ensures (omega (arith, l.loop.inv.size))
+    midway_more l.loop.inv f.fill.ensures (omega (arith, l.loop.inv.size))
 
 returns-2 : tie.Need-returns-2 invariant-loop decreases-loop
 returns-2 c =

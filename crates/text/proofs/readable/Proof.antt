@@ -3,7 +3,7 @@
 use Prim.Native.Nat.{◌-◌}
 use native.Mathlib.Omega.{arith}
 use lib.ListN.{length}
-use Rattle.text.proofs.Bytes.{Pairs, pairs_none, pairs_end, pairs_odd, no_first, no_second, pairs-more}
+use Rattle.text.proofs.Bytes.{Pairs, pairs_none, pairs_end, pairs_odd, no_first, no_second, pairs_more}
 use Rattle.text.proofs.readable.Statement.{statement}
 use Rattle.text.proofs.readable.Tie as tie
 
@@ -20,7 +20,7 @@ loop-again c =
     let a : tie.After-is-digit invariant-loop decreases-loop = search in
     let f : tie.Else1 invariant-loop decreases-loop = search in
     let l : tie.At-loop invariant-loop decreases-loop = search in
-    pairs-more _ _ l.loop.inv f.if1.left _ a.is_digit.ensures g.if2.left _ b.is-digit2.ensures c.if3.false
+    pairs_more _ _ l.loop.inv f.if1.left _ a.is_digit.ensures g.if2.left _ b.is-digit2.ensures c.if3.false
 
 pub readable_spec : {M : Type 1} → statement M
 readable_spec =

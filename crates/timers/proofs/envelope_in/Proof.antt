@@ -10,7 +10,7 @@ use Rattle.rules.specs.Written.{envelope_bytes}
 use Rattle.octets.specs.Parts.{overlaid}
 use Rattle.session.specs.Picture.{time_at}
 use Rattle.session.proofs.Facts.{good_table}
-use Rattle.timers.proofs.Records.{place_within, start_put, envelope_short, envelope_none, waiting-below, from-day, envelope-done}
+use Rattle.timers.proofs.Records.{place_within, start_put, envelope_short, envelope_none, waiting_below, from_day, envelope_done}
 use Rattle.timers.proofs.envelope_in.Statement.{statement}
 use Rattle.timers.proofs.envelope_in.Tie as tie
 
@@ -33,7 +33,7 @@ below : (j : tie.Else2) → j.before.before_waiting_lem.result < timer_count
 below j =
     let i : tie.Else1 = search in
     let s : tie.Start = search in
-    waiting-below _ _ s.pre s.args.out.now i.if1.left _ j.before.before_waiting_lem.ensures j.if2.false
+    waiting_below _ _ s.pre s.args.out.now i.if1.left _ j.before.before_waiting_lem.ensures j.if2.false
 
 time-at-requires : tie.Need-time-at-requires
 time-at-requires c κs =
@@ -63,7 +63,7 @@ tell-envelope-requires c κs =
     let i : tie.Else1 = search in
     let s : tie.Start = search in
     let is = t.time-at.ensures ∙ ap (λ (n : ℕ). time_at s.args.ledger.now (n + 3)) p.place_of.ensures in
-    (i.if1.left, ap of_day is ∙ from-day _ _ s.pre s.args.out.now i.if1.left _ k.before_waiting_lem.ensures j.if2.left)
+    (i.if1.left, ap of_day is ∙ from_day _ _ s.pre s.args.out.now i.if1.left _ k.before_waiting_lem.ensures j.if2.left)
 
 returns-3 : tie.Need-returns-3
 returns-3 c =
@@ -76,7 +76,7 @@ returns-3 c =
     let i : tie.Else1 = search in
     let s : tie.Start = search in
     let is = t.time-at.ensures ∙ ap (λ (n : ℕ). time_at s.args.ledger.now (n + 3)) p.place_of.ensures in
-    envelope-done _ _ s.pre s.args.out.now i.if1.left _ k.before_waiting_lem.ensures j.if2.left _ _
+    envelope_done _ _ s.pre s.args.out.now i.if1.left _ k.before_waiting_lem.ensures j.if2.left _ _
     (start_put _ _ _ p.place_of.ensures refl u.put-timer.ensures)
     (r.tell-envelope.ensures ∙ ap (λ (x : Time). overlaid (envelope_bytes (k.before_waiting_lem.result + 1) x) s.args.out.now) is)
 

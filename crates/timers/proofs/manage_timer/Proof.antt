@@ -10,7 +10,7 @@ use borrow.Author.Tests.{not-true, not-false}
 use Rattle.rules.specs.Timers.{action_of, is_timer, of_day}
 use Rattle.session.specs.Picture.{time_at}
 use Rattle.session.proofs.Facts.{good_table}
-use Rattle.timers.proofs.Records.{timer_low, timer_high, place_within, start_put, manage-none, manage-number, manage-idle, left-fits, manage-stop, manage-ask}
+use Rattle.timers.proofs.Records.{timer_low, timer_high, place_within, start_put, manage_none, manage_number, manage_idle, left_fits, manage_stop, manage_ask}
 use Rattle.timers.proofs.manage_timer.Statement.{statement}
 use Rattle.timers.proofs.manage_timer.Tie as tie
 
@@ -20,7 +20,7 @@ returns c =
     let i : tie.Then1 = search in
     let r : tie.After-tell-result = search in
     let s : tie.Start = search in
-    manage-none _ _ s.pre.0 s.args.d s.args.n s.args.ignored _ _ _ i.if1.taken r.tell-result.ensures
+    manage_none _ _ s.pre.0 s.args.d s.args.n s.args.ignored _ _ _ i.if1.taken r.tell-result.ensures
 
 returns-2 : tie.Need-returns-2
 unfolding action_of
@@ -30,7 +30,7 @@ returns-2 c =
     let a : tie.After-is-timer = search in
     let i : tie.Else1 = search in
     let s : tie.Start = search in
-    manage-number _ _ s.pre.0 s.args.d s.args.n s.args.ignored _ _ _ i.if1.left (sym a.is-timer.ensures ∙ not-true _ j.if2.taken) r.tell-result2.ensures
+    manage_number _ _ s.pre.0 s.args.d s.args.n s.args.ignored _ _ _ i.if1.left (sym a.is-timer.ensures ∙ not-true _ j.if2.taken) r.tell-result2.ensures
 
 -- the number of a timer, behind the second test
 numbered : (j : tie.Else2) → is_timer j.before.before.before.before.before.args.n ≡ true
@@ -47,7 +47,7 @@ returns-3 c =
     let j : tie.Else2 = search in
     let i : tie.Else1 = search in
     let s : tie.Start = search in
-    manage-idle _ _ s.pre.0 s.args.d s.args.n s.args.ignored _ _ _ i.if1.left (numbered j) t.time-at.result (t.time-at.ensures ∙ ap (time_at s.args.ledger.now) p.place_of.ensures)
+    manage_idle _ _ s.pre.0 s.args.d s.args.n s.args.ignored _ _ _ i.if1.left (numbered j) t.time-at.result (t.time-at.ensures ∙ ap (time_at s.args.ledger.now) p.place_of.ensures)
     (sym z.is_zero.ensures ∙ k.if3.taken) r.tell-result3.ensures
 
 returns-4 : tie.Need-returns-4
@@ -64,7 +64,7 @@ returns-4 c =
     let j : tie.Else2 = search in
     let i : tie.Else1 = search in
     let s : tie.Start = search in
-    manage-stop _ _ s.pre.0 s.args.d s.args.n s.args.ignored _ _ _ i.if1.left (numbered j) _ (t.time-at.ensures ∙ ap (time_at s.args.ledger.now) p.place_of.ensures)
+    manage_stop _ _ s.pre.0 s.args.d s.args.n s.args.ignored _ _ _ i.if1.left (numbered j) _ (t.time-at.ensures ∙ ap (time_at s.args.ledger.now) p.place_of.ensures)
     (sym z.is_zero.ensures ∙ k.if3.left) _ e.plain.ensures r.tell-left.ensures m.if4.taken _ (start_put _ _ _ p.place_of.ensures refl u.put-timer.ensures)
 
 returns-5 : tie.Need-returns-5
@@ -80,7 +80,7 @@ returns-5 c =
     let j : tie.Else2 = search in
     let i : tie.Else1 = search in
     let s : tie.Start = search in
-    manage-ask _ _ s.pre.0 s.args.d s.args.n s.args.ignored _ _ _ i.if1.left (numbered j) _ (t.time-at.ensures ∙ ap (time_at s.args.ledger.now) p.place_of.ensures)
+    manage_ask _ _ s.pre.0 s.args.d s.args.n s.args.ignored _ _ _ i.if1.left (numbered j) _ (t.time-at.ensures ∙ ap (time_at s.args.ledger.now) p.place_of.ensures)
     (sym z.is_zero.ensures ∙ k.if3.left) _ e.plain2.ensures r.tell-left2.ensures m.if4.left
 
 -- the time left is one of a day
@@ -93,7 +93,7 @@ fits k =
     let j : tie.Else2 = search in
     let i : tie.Else1 = search in
     let s : tie.Start = search in
-    left-fits _ _ s.pre.0 s.args.d s.args.n s.args.ignored 0 [] [] i.if1.left (numbered j) _ (t.time-at.ensures ∙ ap (time_at s.args.ledger.now) p.place_of.ensures)
+    left_fits _ _ s.pre.0 s.args.d s.args.n s.args.ignored 0 [] [] i.if1.left (numbered j) _ (t.time-at.ensures ∙ ap (time_at s.args.ledger.now) p.place_of.ensures)
     (sym z.is_zero.ensures ∙ k.if3.false)
 
 pub manage_timer_spec : {M : Type 1} → statement M

@@ -7,7 +7,7 @@ use borrow.Author.Rules.{rules}
 use borrow.Author.Tests.{not-true, not-false}
 use Rattle.rules.specs.Timers.{of_day, is_zero}
 use Rattle.session.proofs.Facts.{good_table}
-use Rattle.timers.proofs.Records.{timer_low, timer_high, place_within, start-number, start-digits, start-day, start-zero, start-done, start_put}
+use Rattle.timers.proofs.Records.{timer_low, timer_high, place_within, start_number, start_digits, start_day, start_zero, start_done, start_put}
 use Rattle.timers.proofs.start_timer.Statement.{statement}
 use Rattle.timers.proofs.start_timer.Tie as tie
 
@@ -17,7 +17,7 @@ returns c =
     let r : tie.After-tell-result = search in
     let a : tie.After-is-timer = search in
     let s : tie.Start = search in
-    start-number _ _ s.pre.0 s.args.d s.args.n s.args.ignored _ _ _ s.args.time.now (sym a.is-timer.ensures ∙ not-true _ i.if1.taken) r.tell-result.ensures
+    start_number _ _ s.pre.0 s.args.d s.args.n s.args.ignored _ _ _ s.args.time.now (sym a.is-timer.ensures ∙ not-true _ i.if1.taken) r.tell-result.ensures
 
 returns-2 : tie.Need-returns-2
 returns-2 c =
@@ -27,7 +27,7 @@ returns-2 c =
     let i : tie.Else1 = search in
     let a : tie.After-is-timer = search in
     let s : tie.Start = search in
-    start-digits _ _ s.pre.0 s.args.d s.args.n s.args.ignored _ _ _ s.args.time.now (sym a.is-timer.ensures ∙ not-false _ i.if1.left)
+    start_digits _ _ s.pre.0 s.args.d s.args.n s.args.ignored _ _ _ s.args.time.now (sym a.is-timer.ensures ∙ not-false _ i.if1.left)
     (sym b.all_digits.ensures ∙ not-true _ j.if2.taken) r.tell-result2.ensures
 
 returns-3 : tie.Need-returns-3
@@ -41,7 +41,7 @@ returns-3 c =
     let i : tie.Else1 = search in
     let a : tie.After-is-timer = search in
     let s : tie.Start = search in
-    start-day _ _ s.pre.0 s.args.d s.args.n s.args.ignored _ _ _ s.args.time.now (sym a.is-timer.ensures ∙ not-false _ i.if1.left)
+    start_day _ _ s.pre.0 s.args.d s.args.n s.args.ignored _ _ _ s.args.time.now (sym a.is-timer.ensures ∙ not-false _ i.if1.left)
     (sym b.all_digits.ensures ∙ not-false _ j.if2.left) (ap of_day (sym t.time-in.ensures) ∙ sym o.of_day_lem.ensures ∙ not-true _ k.if3.taken) r.tell-result3.ensures
 
 returns-4 : tie.Need-returns-4
@@ -57,7 +57,7 @@ returns-4 c =
     let i : tie.Else1 = search in
     let a : tie.After-is-timer = search in
     let s : tie.Start = search in
-    start-zero _ _ s.pre.0 s.args.d s.args.n s.args.ignored _ _ _ s.args.time.now (sym a.is-timer.ensures ∙ not-false _ i.if1.left)
+    start_zero _ _ s.pre.0 s.args.d s.args.n s.args.ignored _ _ _ s.args.time.now (sym a.is-timer.ensures ∙ not-false _ i.if1.left)
     (sym b.all_digits.ensures ∙ not-false _ j.if2.left) (ap of_day (sym t.time-in.ensures) ∙ sym o.of_day_lem.ensures ∙ not-false _ k.if3.left)
     (ap is_zero (sym t.time-in.ensures) ∙ sym z.is_zero.ensures ∙ m.if4.taken) r.tell-result4.ensures
 
@@ -77,7 +77,7 @@ returns-5 c =
     let i : tie.Else1 = search in
     let a : tie.After-is-timer = search in
     let s : tie.Start = search in
-    start-done _ _ s.pre.0 s.args.d s.args.n s.args.ignored _ _ _ s.args.time.now _ _ (sym a.is-timer.ensures ∙ not-false _ i.if1.left)
+    start_done _ _ s.pre.0 s.args.d s.args.n s.args.ignored _ _ _ s.args.time.now _ _ (sym a.is-timer.ensures ∙ not-false _ i.if1.left)
     (sym b.all_digits.ensures ∙ not-false _ j.if2.left) (ap of_day (sym t.time-in.ensures) ∙ sym o.of_day_lem.ensures ∙ not-false _ k.if3.left)
     (ap is_zero (sym t.time-in.ensures) ∙ sym z.is_zero.ensures ∙ m.if4.left) (start_put _ _ _ p.place_of.ensures t.time-in.ensures u.put-timer.ensures) e.plain.ensures r.tell-started.ensures
 

@@ -2,7 +2,7 @@
 -- Assumes nothing.
 use mathlib.Core.Path.{sym, ◌∙◌}
 use borrow.Author.Rules.{rules}
-use Rattle.timers.proofs.Seconds.{tick_zero, tick-less}
+use Rattle.timers.proofs.Seconds.{tick_zero, tick_less}
 use Rattle.timers.proofs.tick.Statement.{statement}
 use Rattle.timers.proofs.tick.Tie as tie
 
@@ -25,4 +25,4 @@ tick_spec =
     let i : tie.Else1 = search in
     let z : tie.After-is-zero = search in
     let r : tie.After-time-at = search in
-    tick-less _ _ r.time-at.ensures z.is_zero.ensures i.if1.left l.less-second.ensures p.put-time.ensures))
+    tick_less _ _ r.time-at.ensures z.is_zero.ensures i.if1.left l.less-second.ensures p.put-time.ensures))

@@ -5,7 +5,7 @@ use native.Mathlib.Omega.{arith}
 use lib.ListN.{length-take}
 use lib.Seq.{length-take-le}
 use borrow.Author.Tests.{not-true, not-false}
-use Rattle.flow.proofs.Feeding.{len_few, len_fits, feeds-open, feeds-whole}
+use Rattle.flow.proofs.Feeding.{len_few, len_fits, feeds_open, feeds_whole}
 use Rattle.tools.specs.Tools.{kept_in, ends}
 use borrow.Author.Rules.{rules}
 use Rattle.tools.proofs.feed.Statement.{statement}
@@ -16,7 +16,7 @@ returns c =
     let i : tie.Then1 = search in
     let g : tie.After-gather = search in
     let s : tie.Start = search in
-    feeds-open s.pre.0 g.gather.ensures kept_in (ends s.args.tool) s.args.out.now s.args.at (not-true _ i.if1.taken)
+    feeds_open s.pre.0 g.gather.ensures kept_in (ends s.args.tool) s.args.out.now s.args.at (not-true _ i.if1.taken)
 
 answer-requires : tie.Need-answer-requires
 answer-requires c κs =
@@ -31,7 +31,7 @@ returns-2 c =
     let i : tie.Else1 = search in
     let g : tie.After-gather = search in
     let s : tie.Start = search in
-    feeds-whole s.pre.0 g.gather.ensures kept_in (ends s.args.tool) _ _ _ _ _ (not-false _ i.if1.left) w.answer.ensures
+    feeds_whole s.pre.0 g.gather.ensures kept_in (ends s.args.tool) _ _ _ _ _ (not-false _ i.if1.left) w.answer.ensures
 
 pub feed_spec : {M : Type 1} → statement M
 feed_spec =

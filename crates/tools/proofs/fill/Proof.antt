@@ -8,7 +8,7 @@ use borrow.Author.Tests.{leb-true, leb-false}
 use Rattle.flow.specs.Flow.{printed_size}
 use Rattle.tools.specs.Tools.{memory, GoodMemory, kept_in, ends}
 use Rattle.flow.specs.Holds.{reader_in}
-use Rattle.flow.proofs.Filling.{Filling, filling_none, filling_size, filling-less, filling-more, filling_end, filling_full, filling_done}
+use Rattle.flow.proofs.Filling.{Filling, filling_none, filling_size, filling_less, filling_more, filling_end, filling_full, filling_done}
 use borrow.Author.Rules.{rules}
 use Rattle.tools.proofs.fill.Statement.{statement}
 use Rattle.tools.proofs.fill.Tie as tie
@@ -41,7 +41,7 @@ loop-less c =
     let i : tie.Then1 invariant-loop decreases-loop = search in
     let n : tie.In-loop invariant-loop decreases-loop = search in
     let l : tie.At-loop invariant-loop decreases-loop = search in
-    omega (arith, filling-less l.loop.inv n.loop-test.taken (fits i) f.feed.ensures)
+    omega (arith, filling_less l.loop.inv n.loop-test.taken (fits i) f.feed.ensures)
 
 loop-again : tie.Need-loop-preserved invariant-loop decreases-loop
 loop-again c =
@@ -49,7 +49,7 @@ loop-again c =
     let i : tie.Then1 invariant-loop decreases-loop = search in
     let n : tie.In-loop invariant-loop decreases-loop = search in
     let l : tie.At-loop invariant-loop decreases-loop = search in
-    filling-more l.loop.inv n.loop-test.taken (fits i) f.feed.ensures (omega arith)
+    filling_more l.loop.inv n.loop-test.taken (fits i) f.feed.ensures (omega arith)
 
 returns : tie.Need-returns invariant-loop decreases-loop
 returns c =
