@@ -19,8 +19,8 @@ returns c =
     ∙ ap (λ (l : List ℕ). cleared l a.at (a.at + a.k)) after-move-up.move_up.ensures
     ∙ spread_is a.d.now a.at a.k a.end start.pre.0 start.pre.1
 
-pub spread-at-spec : {M : Type 1} → statement M
-spread-at-spec =
+pub spread_at_spec : {M : Type 1} → statement M
+spread_at_spec =
     tie.close
     (tie.spec
     (λ c. search rules)
