@@ -1,0 +1,12 @@
+-- `octets::move_up` meets its contract: the loop copies the part from its end, and reads each byte before it is written over.
+-- Assumes nothing.
+use native.Mathlib.Omega.{arith}
+use Rattle.octets.specs.Parts.{part}
+use Rattle.octets.proofs.Copies.{CopiedBack, up_none, up_more, up_all}
+use Rattle.octets.proofs.move_up.Given as goal
+
+abbrev pub invariant-loop-n : goal.invariant-loop-n
+invariant-loop-n l = CopiedBack l.initial.d l.to (part l.from l.end l.initial.d) l.n l.d
+
+abbrev pub decreases-loop-n : goal.decreases-loop-n
+decreases-loop-n l = l.n
