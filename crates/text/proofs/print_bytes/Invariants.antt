@@ -1,0 +1,13 @@
+-- `text::print_bytes` meets its contract: the loop copies two digits for each byte.
+-- Assumes nothing.
+use Prim.Native.Nat.{◌-◌}
+use native.Mathlib.Omega.{arith}
+use lib.ListN.{length, length-set}
+use Rattle.text.proofs.Printing.{Hexed, hexed_none, hexed_more, hexed_all}
+use Rattle.text.proofs.print_bytes.Given as goal
+
+abbrev pub invariant-loop-i : goal.invariant-loop-i
+invariant-loop-i l = Hexed l.initial.out l.at l.bytes l.i l.out
+
+abbrev pub decreases-loop-i : goal.decreases-loop-i
+decreases-loop-i l = length l.bytes - l.i
