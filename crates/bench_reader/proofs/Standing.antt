@@ -14,7 +14,7 @@ use Rattle.rules.specs.declared.Details.{Details}
 use Rattle.rules.specs.declared.Ending.{Ending}
 use Rattle.rules.specs.declared.Refusal.TheVariants.{NoResponse}
 use Rattle.rules.specs.Checks.{◌⇒◌else◌, same}
-use Rattle.rules.specs.Frames.{LengthRead, len, no_length_lem, long_length, length_at, length_bytes, TagRead, tag_at, ObjectRead, object, faulty, Object, value_after, after_tag, object_at, Walk, object_bytes, written}
+use Rattle.rules.specs.Frames.{LengthRead, len, no_length, long_length, length_at, length_bytes, TagRead, tag_at, ObjectRead, object, faulty, Object, value_after, after_tag, object_at, Walk, object_bytes, written}
 use Rattle.rules.specs.Written.{Response}
 use Rattle.rules.specs.Bench.{Told, told, untold}
 use Rattle.rules.proofs.Laws.{branch, stop, skip, both_left, both_right, both}
@@ -42,7 +42,7 @@ use Rattle.bench_reader.specs.Tails.{Holds, Tag, object_with, Valued, Absent, Mi
 
 -- a length that is read is in its shortest form
 abbrev LengthForm : List ℕ → LengthRead → Type 0
-LengthForm u no_length_lem = Unit {0}
+LengthForm u no_length = Unit {0}
 LengthForm u (len n r) = u ≡ length_bytes n ++ r
 
 long_form : (s : List ℕ) → LengthForm (0x81 ∷ s) (long_length s)
@@ -73,7 +73,7 @@ tag_form b h = branch (λ (k : ℕ). b ≡ k) _ _ _ (λ e. omega (arith, leb-tru
 
 value_form : (b : ℕ) (u : List ℕ) (l : LengthRead) → b < 256 → LengthForm u l → Form b u (value_after (b % 0x80) (leb 0x80 b) l)
 unfolding value_after object_bytes
-value_form b u no_length_lem h f = tt
+value_form b u no_length h f = tt
 value_form b u (len n s) h f =
     branch (Form b u) _ _ _ (λ _. tt) (λ e.
     let v = take n s in

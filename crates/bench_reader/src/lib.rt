@@ -238,7 +238,7 @@ fn pair(high: u8, low: u8) -> u16
 // The response, if the bytes end here.
 fn last(s: &[u8], c: Cursor, d: Details, verdict: Verdict) -> Heard
     requires { length s.now ≤ c.at → VerdictAt verdict s.now }
-    ensures* { λ r. ⌜ Hears (checked true [] (drop c.at s.now) (record { details = d; result = result_of verdict s.now })) s.now r ⌝ }
+    ensures { Hears (checked true [] (drop c.at s.now) (record { details = d; result = result_of verdict s.now })) s.now result }
 {
     let at = c.at;
     if at < s.len() {

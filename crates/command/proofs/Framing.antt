@@ -8,7 +8,7 @@ use native.Mathlib.Omega.{arith}
 use lib.ListN.{length, drop, get_or, length-drop}
 use lib.Dec.{eqb}
 use borrow.Author.Tests.{eq-eqb, ne_eqb}
-use Rattle.rules.specs.Frames.{LengthRead, no_length_lem, length_at, fills, following, framed, contents}
+use Rattle.rules.specs.Frames.{LengthRead, no_length, length_at, fills, following, framed, contents}
 use Rattle.objects.specs.Places.{Length}
 use Rattle.command.specs.Requests.{FramedAt}
 
@@ -26,7 +26,7 @@ module _ (s : List ℕ) where
   unfolding framed
   frame_other h = ap (λ (b : Bool). b && fills (length_at (drop 1 s))) (ne_eqb (get_or s 0 0) 0xD0 h)
 
-  pub frame_unsized : length_at (drop 1 s) ≡ no_length_lem → framed s ≡ false
+  pub frame_unsized : length_at (drop 1 s) ≡ no_length → framed s ≡ false
   unfolding framed fills
   frame_unsized e = ap (λ (l : LengthRead). eqb (get_or s 0 0) 0xD0 && fills l) e ∙ and-false (eqb (get_or s 0 0) 0xD0)
 

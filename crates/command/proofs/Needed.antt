@@ -40,8 +40,8 @@ module _ (s : List ℕ) {row : Row} (r : RowFor row (the_details s)) where
   pub needed_slot : (n : ℕ) → member n (needed row) ≡ true → has_slot n ≡ true
   needed_slot n e = required_slot (the_details s) n (needed_required n e)
 
-  pub needed_low : (row.own_val < slots) × (row.further < slots)
-  needed_low = (low row.own_val (own_needed row.own_val row.further), low row.further (further_needed row.own_val row.further))
+  pub needed_low : (row.own < slots) × (row.further < slots)
+  needed_low = (low row.own (own_needed row.own row.further), low row.further (further_needed row.own row.further))
     where
       low : (n : ℕ) → member n (needed row) ≡ true → n < slots
       low n e = ltb-true n slots (both_right (ltb 0 n) (ltb n slots) (needed_slot n e))
@@ -50,14 +50,14 @@ module _ (s : List ℕ) {row : Row} (r : RowFor row (the_details s)) where
   needed_alike n e = alike (row_of (the_details s)) n (walk s).objects (required_may (row_of (the_details s)) n (needed_required n e))
 
   pub complete_is :
-      present 0x01 (walk s).objects ≡ true → {a b c : ℕ} → StandsAt a s 0x02 → StandsAt b s row.own_val → StandsAt c s row.further →
+      present 0x01 (walk s).objects ≡ true → {a b c : ℕ} → StandsAt a s 0x02 → StandsAt b s row.own → StandsAt c s row.further →
       all_stand a b c ≡ complete (row_of (the_details s)) (the_objects s).counting
   unfolding complete all_stand every member some_of
   complete_is first u v w =
       let there : (n : ℕ) → member n (needed row) ≡ true → present n (walk s).objects ≡ present n (the_objects s).counting = λ n e. sym (needed_alike n e).there in
-      let own = there row.own_val (own_needed row.own_val row.further) in
-      let further = there row.further (further_needed row.own_val row.further) in
+      let own = there row.own (own_needed row.own row.further) in
+      let further = there row.further (further_needed row.own row.further) in
       (λ i. u.there i ⇒ false else v.there i ⇒ false else w.there i ⇒ false else true)
-      ∙ all_there (present 0x02 (walk s).objects) (present row.own_val (walk s).objects) (present row.further (walk s).objects)
+      ∙ all_there (present 0x02 (walk s).objects) (present row.own (walk s).objects) (present row.further (walk s).objects)
       ∙ (λ i. (sym first ∙ there 0x01 refl) i && (there 0x02 refl i && (own i && (further i && true))))
       ∙ every_alike (λ n. present n (the_objects s).counting) (needed row) (row_of (the_details s)).required r.looked_for r.required

@@ -92,12 +92,12 @@ module _ {s : List ℕ} {d : Details} {plan : Plan} {v : Sorted} (z : Fitted s d
   settle_wrong {b} e f = known_misaddressed z (by_bytes ∙ sym e ∙ not-true b f)
 
   -- the own value stands behind a byte
-  needs_own : member plan.row.own_val (needed plan.row) ≡ true
-  needs_own = own_needed plan.row.own_val plan.row.further
+  needs_own : member plan.row.own (needed plan.row) ≡ true
+  needs_own = own_needed plan.row.own plan.row.further
 
   pub own_behind : 1 ≤ v.own
   own_behind =
-      let h = eqb-false v.own 0 (z.begun.sorted.own.there ∙ ap not (needed_there z plan.row.own_val needs_own)) in
+      let h = eqb-false v.own 0 (z.begun.sorted.own.there ∙ ap not (needed_there z plan.row.own needs_own)) in
       omega arith
 
   pub own_within : v.own ≤ length s
@@ -105,7 +105,7 @@ module _ {s : List ℕ} {d : Details} {plan : Plan} {v : Sorted} (z : Fitted s d
 
   -- the further object, which a row of its own may have
   needs_further : member plan.row.further (needed plan.row) ≡ true
-  needs_further = further_needed plan.row.own_val plan.row.further
+  needs_further = further_needed plan.row.own plan.row.further
 
   -- an OPEN CHANNEL has its size in two bytes, and its transport level in three where one stands
   module _ (h : plan.handler ≡ Open) where
@@ -192,22 +192,22 @@ module _ {s : List ℕ} {d : Details} {plan : Plan} {v : Sorted} (z : Fitted s d
     abbrev own_bytes : List ℕ
     own_bytes = part v.own (v.own + get_or s (v.own - 1) 0) s
 
-    own_size : get_or s (v.own - 1) 0 ≡ length (value_of plan.row.own_val all)
-    own_size = z.begun.sorted.own.last (needed_there z plan.row.own_val needs_own)
+    own_size : get_or s (v.own - 1) 0 ≡ length (value_of plan.row.own all)
+    own_size = z.begun.sorted.own.last (needed_there z plan.row.own needs_own)
 
-    own_part : value_of plan.row.own_val all ≡ own_bytes
+    own_part : value_of plan.row.own all ≡ own_bytes
     own_part = z.begun.sorted.own.value ∙ ap (λ (k : ℕ). part v.own (v.own + k) s) (sym own_size)
 
     -- the own value and the values of the type, by its handler
     module _ (h : Handler) (eh : plan.handler ≡ h) where
-      number_is : plan.row.own_val ≡ own_number h
+      number_is : plan.row.own ≡ own_number h
       number_is = z.begun.planned.own_is ∙ ap own_number eh
 
       own_value : value_of (own_number h) counts ≡ own_bytes
-      own_value = subst (λ (n : ℕ). value_of n counts ≡ own_bytes) number_is (needed_value z plan.row.own_val needs_own ∙ own_part)
+      own_value = subst (λ (n : ℕ). value_of n counts ≡ own_bytes) number_is (needed_value z plan.row.own needs_own ∙ own_part)
 
       own_fits : length_fits (own_number h) own_bytes ≡ true
-      own_fits = subst (λ (n : ℕ). length_fits n own_bytes ≡ true) number_is (ap (length_fits plan.row.own_val) (sym own_part) ∙ needed_fits z plan.row.own_val needs_own)
+      own_fits = subst (λ (n : ℕ). length_fits n own_bytes ≡ true) number_is (ap (length_fits plan.row.own) (sym own_part) ∙ needed_fits z plan.row.own needs_own)
 
       handled : handles h (the_details s) ≡ true
       handled = subst (λ (k : Handler). handles k (the_details s) ≡ true) eh z.begun.planned.kind_is
@@ -299,7 +299,7 @@ module _ {s : List ℕ} {d : Details} {plan : Plan} {v : Sorted} (z : Fitted s d
           devices = right;
           body = asked_body plan.handler refl;
           within = omega (arith, own.within, own_size);
-          own_place = subst (λ (n : ℕ). v.own ≡ place_of n s) number (own.place (needed_there z plan.row.own_val needs_own));
+          own_place = subst (λ (n : ℕ). v.own ≡ place_of n s) number (own.place (needed_there z plan.row.own needs_own));
           own_length = subst (λ (n : ℕ). get_or s (v.own - 1) 0 ≡ length (value_of n all)) number own_size;
           further_place = subst (λ (n : ℕ). v.further ≡ place_of n s) z.begun.planned.further_is (z.begun.sorted.further.place (needed_there z plan.row.further needs_further));
           transport_place = transport_placed;

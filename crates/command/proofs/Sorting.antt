@@ -11,7 +11,7 @@ use lib.Dec.{ltb, eqb}
 use borrow.Author.Tests.{eqb-true, eqb-false, le-ltb, eq-eqb, ne_eqb}
 use Rattle.rules.specs.declared.Ending.{Ending}
 use Rattle.rules.specs.Checks.{◌⇒◌else◌, is_empty, every, some_of, occurrences, member}
-use Rattle.rules.specs.Frames.{TagRead, tag, no_tag, tag_at, LengthRead, len, no_length_lem, length_at, Object, ObjectRead, object, faulty, value_after, after_tag, object_at, Walk, walk}
+use Rattle.rules.specs.Frames.{TagRead, tag, no_tag, tag_at, LengthRead, len, no_length, length_at, Object, ObjectRead, object, faulty, value_after, after_tag, object_at, Walk, walk}
 use Rattle.rules.specs.Table.{row_of, sift, times, present, value_of, length_fits, measured}
 use Rattle.rules.specs.Reading.{is_fault}
 use Rattle.rules.proofs.Laws.{branch, stop, skip}
@@ -274,7 +274,7 @@ fault_met l e f = sym (ap failing f) ∙ all (tag_at l)
     failing (object o r) = true
 
     after : (n : ℕ) (b : Bool) (k : LengthRead) → failing (value_after n b k) ≡ true
-    after n b no_length_lem = refl
+    after n b no_length = refl
     after n b (len m r) = branch (λ (x : ObjectRead). failing x ≡ true) _ _ _ (λ _. refl) (λ _. refl)
 
     all : (t : TagRead) → failing (after_tag t) ≡ true
@@ -307,17 +307,17 @@ module _
     sorts : (whole : Bool) → whole ≡ not (is_fault (walk s).ending) → Sorts (sorted_by starts row v whole) s row
     unfolding member some_of
     sorts whole e =
-        let own = needed_slot s r row.own_val (own_needed row.own_val row.further) in
-        let further = needed_slot s r row.further (further_needed row.own_val row.further) in
+        let own = needed_slot s r row.own (own_needed row.own row.further) in
+        let further = needed_slot s r row.further (further_needed row.own row.further) in
         let survey = w.survey ∙ ap (λ (l : List Object). survey_of (sift (row_of (the_details s)) [] l)) all in
         record {
           flagged = ap (λ (y : Survey). y.flagged) survey;
           ignored = ap (λ (y : Survey). y.ignored) survey;
           misfit = ap (λ (y : Survey). y.misfit) survey;
           whole = e;
-          complete = complete_is s r (first_there g) (stands 0x02 refl) (stands row.own_val own) (stands row.further further);
+          complete = complete_is s r (first_there g) (stands 0x02 refl) (stands row.own own) (stands row.further further);
           devices = stands 0x02 refl;
-          own = stands row.own_val own;
+          own = stands row.own own;
           further = stands row.further further;
           transport = stands 0x3C refl;
         }

@@ -170,7 +170,7 @@ same_true false false e = refl
 abbrev tests : Plan → ℕ → rules.Row → List Bool
 tests p t r =
     known t ∷
-    eqb p.row.own_val (own_number p.handler) ∷
+    eqb p.row.own (own_number p.handler) ∷
     eqb p.row.further (further_number p.handler) ∷
     same p.row.opening (eqb t 0x40) ∷
     row_all (among p.row r) r ∷
@@ -195,7 +195,7 @@ plan_right p d k r q row_is handled place e =
     record {
       known_is = w.0;
       kind_is = handled;
-      own_is = eqb-true p.row.own_val (own_number p.handler) w.1.0;
+      own_is = eqb-true p.row.own (own_number p.handler) w.1.0;
       further_is = eqb-true p.row.further (further_number p.handler) x.0;
       opening_is = same_true p.row.opening (eqb t 0x40) x.1.0;
       place = place;

@@ -48,7 +48,7 @@ further_number ManageTimer = 0x02
 
 -- the objects that a row requires
 abbrev pub needed : Row → List ℕ
-needed row = 0x01 ∷ 0x02 ∷ row.own_val ∷ row.further ∷ []
+needed row = 0x01 ∷ 0x02 ∷ row.own ∷ row.further ∷ []
 
 -- how often an object of a number may stand by a row: once where it is required, else as those with a name and those of OPEN CHANNEL
 unfoldable pub besides_by : Row → ℕ → ℕ
@@ -79,7 +79,7 @@ pub record PlaceFor (p : Place) (d : Details) : Type 0 where
 pub record PlanOf (p : Plan) (d : Details) : Type 0 where
   pub known_is : known d.kind ≡ true
   pub kind_is : handles p.handler d ≡ true
-  pub own_is : p.row.own_val ≡ own_number p.handler
+  pub own_is : p.row.own ≡ own_number p.handler
   pub further_is : p.row.further ≡ further_number p.handler
   pub opening_is : p.row.opening ≡ eqb d.kind 0x40
   pub place : PlaceFor p.place d

@@ -151,7 +151,7 @@ pub record Sorts (v : Sorted) (s : List ℕ) (row : Row) : Type 0 where
   pub whole : v.whole ≡ not (is_fault (walk s).ending)
   pub complete : all_stand v.devices v.own v.further ≡ complete (row_of (the_details s)) (the_objects s).counting
   pub devices : StandsAt v.devices s 0x02
-  pub own : StandsAt v.own s row.own_val
+  pub own : StandsAt v.own s row.own
   pub further : StandsAt v.further s row.further
   pub transport : StandsAt v.transport s 0x3C
 

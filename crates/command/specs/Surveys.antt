@@ -50,7 +50,7 @@ sorted_by starts row survey whole =
       misfit = survey.misfit;
       whole = whole;
       devices = get_or starts 0x02 0;
-      own = get_or starts row.own_val 0;
+      own = get_or starts row.own 0;
       further = get_or starts row.further 0;
       transport = get_or starts 0x3C 0;
     }

@@ -12,7 +12,7 @@ use Rattle.rules.specs.declared.Stage.{Stage}
 use Rattle.rules.specs.declared.Stage.TheVariants.{Lacks, Overlong, Decided}
 use Rattle.rules.specs.State.{State}
 use Rattle.rules.specs.Command.{Terms}
-use Rattle.rules.specs.Fetch.{stage, Means, taken_at, one_more_lem, goes_on_lem, Fetched, burst, fetch}
+use Rattle.rules.specs.Fetch.{stage, Means, taken_at, one_more, goes_on, Fetched, burst, fetch}
 use Rattle.rules.proofs.Laws.{branch, stop, skip}
 use Rattle.rules.proofs.Stages.{stage_means, stage_more, lacks_within}
 use Rattle.octets.specs.Parts.{part, pasted}
@@ -183,8 +183,8 @@ none_taken a terms g s k e f =
 -- a burst behind its first byte, at the stage that this made
 byte_taken :
     (a : State) (terms : Terms) (g s : List ℕ) (k : Stage) → stage g ≡ k → (is_lacking k ≡ true → burst a terms g s ≡ with_taken a terms g s (brought g s)) →
-    goes_on_lem (taken_at a terms g k) s (λ (x : List ℕ). burst a terms x s) ≡ with_taken a terms g s (brought g s)
-unfolding goes_on_lem taken_at concluded is_lacking
+    goes_on (taken_at a terms g k) s (λ (x : List ℕ). burst a terms x s) ≡ with_taken a terms g s (brought g s)
+unfolding goes_on taken_at concluded is_lacking
 byte_taken a terms g s (Lacks n) e rest = rest refl
 byte_taken a terms g s Overlong e rest = none_taken a terms g s Overlong e refl
 byte_taken a terms g s Decided e rest = none_taken a terms g s Decided e refl
@@ -197,7 +197,7 @@ stays a terms g Decided f = absurd (true≢false (sym f))
 
 -- a burst is what the bytes come to that it brings
 brought_burst : (a : State) (terms : Terms) (g s : List ℕ) → is_lacking (stage g) ≡ true → burst a terms g s ≡ with_taken a terms g s (brought g s)
-unfolding burst one_more_lem brought
+unfolding burst one_more brought
 brought_burst a terms g [] e = stays a terms g (stage g) e ∙ ap (λ (x : List ℕ). concluded a terms x [] (stage x)) (sym (append-nil g))
 brought_burst a terms g (b ∷ s) e =
     let h = g ++ b ∷ [] in

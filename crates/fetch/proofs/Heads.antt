@@ -10,7 +10,7 @@ use lib.Dec.{eqb}
 use borrow.Author.Tests.{lt-ltb, le-ltb, eq-eqb, ne_eqb}
 use Rattle.rules.specs.declared.Stage.TheVariants.{Lacks, Overlong, Decided}
 use Rattle.rules.specs.Checks.{◌⇒◌else◌, is_empty, same}
-use Rattle.rules.specs.Frames.{no_length_lem, length_at}
+use Rattle.rules.specs.Frames.{no_length, length_at}
 use Rattle.rules.specs.Fetch.{length_to_come, lacking_by, stage_by, stage}
 use Rattle.rules.proofs.Laws.{stop, skip, and-false, empty_length}
 use Rattle.objects.specs.Places.{Length}
@@ -77,7 +77,7 @@ module _ (s : List ℕ) (some : length s ≡ 0 → ⊥) where
       sized : stage s ≡ stage_by (length s) (length_at (drop 1 s))
       sized = begun ∙ skip _ _ _ (ap not (eq-eqb (get_or s 0 0) 0xD0 first)) ∙ skip _ _ _ (sym here)
 
-      pub stage_unsized : length_at (drop 1 s) ≡ no_length_lem → Decided ≡ stage s
+      pub stage_unsized : length_at (drop 1 s) ≡ no_length → Decided ≡ stage s
       unfolding stage_by
       stage_unsized e = sym (sized ∙ ap (stage_by (length s)) e)
 

@@ -25,7 +25,7 @@ use Rattle.session.proofs.Views.{shows_back}
 use Rattle.text.specs.Prints.{count_of, outcome_of, line_of, Prints}
 use Rattle.text.proofs.Printing.{prints_as}
 use Rattle.lines.specs.Says.{answer_to, Replies, Says}
-use Rattle.lines.specs.Asks.{later, seconds_for, envelope_for, frame_for, answer_for, goes_on_lem}
+use Rattle.lines.specs.Asks.{later, seconds_for, envelope_for, frame_for, answer_for, goes_on}
 use Rattle.lines.proofs.Telling.{call_replies}
 
 -- one second more behind so many
@@ -152,8 +152,8 @@ unread_answers t p o reply g q = unread_reply (answer_for (shown t p) o) t p rep
 -- a line after the first is printed as its answer
 pub timed_says :
     (a : State) (l t p : List ℕ) (e : Ended) (reply out : List ℕ) (at k : ℕ) (after : List ℕ) → Replies (answer_for a (frame_of l)) t p e reply →
-    Prints (line_of (outcome_of e reply)) k out at after → Says (goes_on_lem a l) t p k out at after
-unfolding goes_on_lem
+    Prints (line_of (outcome_of e reply)) k out at after → Says (goes_on a l) t p k out at after
+unfolding goes_on
 timed_says a l t p e reply out at k after h w =
     let q = prints_as (ap line_of h.outcome) w in
     record { good = h.good; state = h.state; stands = q.stands; place = q.place }

@@ -45,11 +45,11 @@ answer_for a none = refusal a Unreadable
 answer_for a (some s) = frame_for a s
 
 -- a line after the first
-unfoldable pub goes_on_lem : State → List ℕ → Said State
-goes_on_lem a l = let r = answer_for a (frame_of l) in record { kept = r.state; out = line_bytes (printed r.outcome) }
+unfoldable pub goes_on : State → List ℕ → Said State
+goes_on a l = let r = answer_for a (frame_of l) in record { kept = r.state; out = line_bytes (printed r.outcome) }
 
 -- the first line is the profile
 unfoldable pub calls_ends : Bool → State → List ℕ → Said State
 calls_ends begun a l =
-    begun ⇒ goes_on_lem a l else
+    begun ⇒ goes_on a l else
     begins (frame_of l)

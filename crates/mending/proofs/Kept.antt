@@ -11,7 +11,7 @@ use lib.Seq.{length-take-le}
 use lib.Dec.{ltb, eqb}
 use borrow.Author.Tests.{le-ltb, ne_eqb, ltb-true, ltb-false, leb-true, eqb-true}
 use Rattle.rules.specs.declared.Ending.TheVariants.{End}
-use Rattle.rules.specs.Frames.{LengthRead, len, no_length_lem, long_length, length_at, length_bytes, Object, TagRead, tag, no_tag, tag_at, ObjectRead, object, faulty, value_after, after_tag, object_at, Walk, walk}
+use Rattle.rules.specs.Frames.{LengthRead, len, no_length, long_length, length_at, length_bytes, Object, TagRead, tag, no_tag, tag_at, ObjectRead, object, faulty, value_after, after_tag, object_at, Walk, walk}
 use Rattle.rules.proofs.Laws.{branch, stop, skip}
 use Rattle.rules.proofs.Walks.{walk_end, walk_fault, walk_object}
 use Rattle.mending.specs.Mends.{shortened, in_front, any_length, loose_length_at, is_overlong, loose, loose_value, loose_tag, loose_at, Mended, with_object, mend_from}
@@ -27,7 +27,7 @@ not_overlong n =
 
 -- a length that the rules read stands in its shortest form, and is read alike
 abbrev pub StrictLength : List ℕ → LengthRead → Type 0
-StrictLength s no_length_lem = Unit {0}
+StrictLength s no_length = Unit {0}
 StrictLength s (len n r) = (loose_length_at s ≡ len n r) × (in_front s r ≡ length_bytes n)
 
 strict_long : (b : ℕ) (s : List ℕ) → ltb b 0x80 ≡ false → eqb b 0x81 ≡ true → StrictLength (b ∷ s) (long_length s)
@@ -55,7 +55,7 @@ Strict s (object o r) = (t : List ℕ) × (loose_at s ≡ loose t (length_bytes 
 
 strict_value : (s : List ℕ) (number : ℕ) (flag : Bool) (r : List ℕ) (x : LengthRead) → tag_at s ≡ tag number flag r → StrictLength r x → Strict s (value_after number flag x)
 unfolding value_after loose_at loose_tag loose_value
-strict_value s number flag r no_length_lem e g = λ z. let clash : ◌≡◌ {A = ℕ} 0 1 = cc in omega arith
+strict_value s number flag r no_length e g = λ z. let clash : ◌≡◌ {A = ℕ} 0 1 = cc in omega arith
 strict_value s number flag r (len n v) e g =
     branch (Strict s) _ _ _ (λ _ z. let clash : ◌≡◌ {A = ℕ} 0 1 = cc in omega arith)
     (λ f.

@@ -11,7 +11,7 @@ use lib.Dec.{ltb, eqb}
 use borrow.Author.Tests.{lt-ltb, le-ltb, eq-eqb, ne_eqb, eqb-true, eqb-false, ltb-true}
 use Rattle.rules.specs.declared.Refusal.TheVariants.{Unreadable, Unmendable}
 use Rattle.rules.specs.Checks.{◌⇒◌else◌, is_empty, same}
-use Rattle.rules.specs.Frames.{no_length_lem, length_at, length_bytes}
+use Rattle.rules.specs.Frames.{no_length, length_at, length_bytes}
 use Rattle.rules.specs.Command.{refused}
 use Rattle.rules.specs.Lines.{hex}
 use Rattle.rules.proofs.Laws.{branch, stop, skip, and-false, empty_length}
@@ -190,7 +190,7 @@ module _ (s : List ℕ) where
 
     module _ (e : get_or s 0 0 ≡ 0xD0) where
       pub unsized_told :
-          {r : ℕ} {before : List ℕ} {at : ℕ} {after : List ℕ} → loose_length_at (drop outer_place s) ≡ no_length_lem → Prints (line_of (refused Unmendable)) r before at after →
+          {r : ℕ} {before : List ℕ} {at : ℕ} {after : List ℕ} → loose_length_at (drop outer_place s) ≡ no_length → Prints (line_of (refused Unmendable)) r before at after →
           Prints (frame_line (some s)) r before at after
       unfolding mending_line mends_behind head_of
       unsized_told k w = prints_as (sym (by_head _ (headed s n e ∙ ap (head_of (drop outer_place s)) k))) w

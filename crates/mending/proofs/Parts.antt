@@ -10,7 +10,7 @@ use lib.Seq.{take-append_seam, length-take-le}
 use lib.Dec.{ltb, eqb}
 use borrow.Author.Tests.{ne_eqb, ltb-true, ltb-false, eqb-true}
 use Rattle.rules.specs.Checks.{◌⇒◌else◌}
-use Rattle.rules.specs.Frames.{LengthRead, len, no_length_lem, length_at, length_bytes, Object, TagRead, tag, no_tag, long_tag, tag_at, object, value_after, after_tag, object_at}
+use Rattle.rules.specs.Frames.{LengthRead, len, no_length, length_at, length_bytes, Object, TagRead, tag, no_tag, long_tag, tag_at, object, value_after, after_tag, object_at}
 use Rattle.rules.proofs.Laws.{branch, stop, skip}
 use Rattle.rules.proofs.Forms.{length_back, value_back}
 use Rattle.mending.specs.Mends.{in_front, any_length, loose_length_at, is_overlong, LooseRead, loose, fault, loose_value, loose_tag, loose_at}
@@ -62,7 +62,7 @@ pub record LengthParts (s : List ℕ) (n : ℕ) (r : List ℕ) : Type 0 where
   pub few : length (in_front s r) ≤ 2
 
 abbrev pub LengthIs : List ℕ → LengthRead → Type 0
-LengthIs s no_length_lem = Unit {0}
+LengthIs s no_length = Unit {0}
 LengthIs s (len n r) = LengthParts s n r
 
 length_of : (l r : List ℕ) (n : ℕ) → 1 ≤ length l → length l ≤ 2 → Formed l n → LengthParts (l ++ r) n r
@@ -131,7 +131,7 @@ module _ (s : List ℕ) (number : ℕ) (flag : Bool) (r : List ℕ) (h : TagPart
 
   by_length : (x : LengthRead) → LengthIs r x → LooseIs s (loose_value (in_front s r) number flag r x)
   unfolding loose_value
-  by_length no_length_lem g = tt
+  by_length no_length g = tt
   by_length (len n v) g = branch (LooseIs s) _ _ _ (λ _. tt) (λ e. value_parts n v g (ltb-false (length v) n e))
 
 by_tag : (s : List ℕ) (x : TagRead) → TagIs s x → LooseIs s (loose_tag s x)

@@ -10,7 +10,7 @@ use lib.Seq.{drop-drop, take-add}
 use lib.Dec.{ltb}
 use borrow.Author.Tests.{lt-ltb, le-ltb, eq-eqb, ne_eqb}
 use Rattle.rules.specs.Checks.{◌⇒◌else◌}
-use Rattle.rules.specs.Frames.{len, no_length_lem, length_bytes, Object, no_tag, tag_at}
+use Rattle.rules.specs.Frames.{len, no_length, length_bytes, Object, no_tag, tag_at}
 use Rattle.rules.proofs.Laws.{stop, skip}
 use Rattle.octets.specs.Parts.{part}
 use Rattle.octets.proofs.Copies.{length_part}
@@ -32,7 +32,7 @@ module _ (s : List ℕ) (at : ℕ) where
   abbrev c : ℕ
   c = get_or s (at + 1) 0
 
-  pub length_none : length s ≤ at → loose_length_at (drop at s) ≡ no_length_lem
+  pub length_none : length s ≤ at → loose_length_at (drop at s) ≡ no_length
   unfolding loose_length_at
   length_none h = ap loose_length_at (drop_of_length-le s h)
 
@@ -53,7 +53,7 @@ module _ (s : List ℕ) (at : ℕ) where
         }
 
     module _ (many : 0x80 ≤ b) where
-      pub length_other : (b ≡ 0x81 → ⊥) → loose_length_at (drop at s) ≡ no_length_lem
+      pub length_other : (b ≡ 0x81 → ⊥) → loose_length_at (drop at s) ≡ no_length
       unfolding loose_length_at
       length_other n = ap loose_length_at (cons_at s at h) ∙ skip _ _ _ (le-ltb b 0x80 many) ∙ skip _ _ _ (ne_eqb b 0x81 n)
 
@@ -62,7 +62,7 @@ module _ (s : List ℕ) (at : ℕ) where
         unfolding loose_length_at
         by_second = ap loose_length_at (cons_at s at h) ∙ skip _ _ _ (le-ltb b 0x80 many) ∙ stop _ _ _ (eq-eqb b 0x81 e)
 
-        pub second_none : length s ≤ at + 1 → loose_length_at (drop at s) ≡ no_length_lem
+        pub second_none : length s ≤ at + 1 → loose_length_at (drop at s) ≡ no_length
         unfolding any_length
         second_none n = by_second ∙ ap any_length (drop_of_length-le s n)
 
@@ -108,7 +108,7 @@ length_told {s} {at} e w = subst (λ (x : Sized). Measures x s at) e w
 pub length_within : (s : List ℕ) (at : ℕ) {r : Sized} {n kept start : ℕ} → r ≡ By n kept start → Measures r s at → start ≤ length s
 length_within s at e w = (length_told e w).within
 
-pub length_missed : (s : List ℕ) (at : ℕ) {r : Sized} → r ≡ Not → Measures r s at → loose_length_at (drop at s) ≡ no_length_lem
+pub length_missed : (s : List ℕ) (at : ℕ) {r : Sized} → r ≡ Not → Measures r s at → loose_length_at (drop at s) ≡ no_length
 length_missed s at e w = subst (λ (x : Sized). Measures x s at) e w
 
 pub object_told : {s : List ℕ} {at : ℕ} {r : Found} {sized kept next : ℕ} → r ≡ found.Object sized kept next → Finds r s at → Stands s at sized kept next
@@ -154,7 +154,7 @@ module _ (s : List ℕ) (at : ℕ) where
         ap (loose_tag (drop at s)) t.is
         ∙ ap (λ (x : List ℕ). loose_value x number flag (drop sized s) (loose_length_at (drop sized s))) (front_part s at sized (omega (arith, t.behind)) t.within)
 
-    pub object_unsized : loose_length_at (drop sized s) ≡ no_length_lem → mend_from at (drop at s) ≡ cut_from at
+    pub object_unsized : loose_length_at (drop sized s) ≡ no_length → mend_from at (drop at s) ≡ cut_from at
     unfolding loose_value
     object_unsized e = at_fault here (by_length ∙ ap (loose_value (part at sized s) number flag (drop sized s)) e)
 

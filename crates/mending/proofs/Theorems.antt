@@ -12,7 +12,7 @@ use lib.Dec.{ltb, eqb}
 use borrow.Author.Tests.{lt-ltb, le-ltb, eq-eqb, ltb-false, eqb-true}
 use Rattle.rules.specs.declared.Ending.TheVariants.{End}
 use Rattle.rules.specs.Checks.{◌⇒◌else◌, is_empty, same}
-use Rattle.rules.specs.Frames.{LengthRead, len, no_length_lem, length_at, length_bytes, Walk, walk, fills, following, framed, contents}
+use Rattle.rules.specs.Frames.{LengthRead, len, no_length, length_at, length_bytes, Walk, walk, fills, following, framed, contents}
 use Rattle.rules.proofs.Laws.{branch, stop, skip, both_left, both_right}
 use Rattle.rules.proofs.Forms.{length_back, same_refl}
 use Rattle.octets.specs.Parts.{part}
@@ -103,7 +103,7 @@ kept_head :
     (b : ℕ) (r : List ℕ) (x : LengthRead) → StrictLength r x → eqb b 0xD0 ≡ true → fills x ≡ true → (walk (following x)).ending ≡ End →
     is_empty (walk (following x)).objects ≡ false → length (b ∷ r) ≤ 256 → mends (b ∷ r) ≡ mended (b ∷ r) []
 unfolding fills following mends outer_head head_of framing
-kept_head b r no_length_lem g d n w o few = absurd (false≢true n)
+kept_head b r no_length g d n w o few = absurd (false≢true n)
 kept_head b r (len k v) g d n w o few =
     let front : in_front r v ≡ length_bytes (length v) = g.1 ∙ ap length_bytes (eqb-true k (length v) n) in
     let parts = (subst (LengthIs r) g.0 (length_parts r)).parts ∙ ap (λ (x : List ℕ). x ++ v) front in
@@ -129,7 +129,7 @@ pub record HeadParts (s l r : List ℕ) : Type 0 where
 
 length_head : (b : ℕ) (s l r : List ℕ) (x : LengthRead) → eqb b 0xD0 ≡ true → LengthIs s x → head_of s x ≡ head l r → HeadParts (b ∷ s) l r
 unfolding head_of
-length_head b s l r no_length_lem d g z = absurd (let clash : ◌≡◌ {A = ℕ} 0 1 = cc in omega arith)
+length_head b s l r no_length d g z = absurd (let clash : ◌≡◌ {A = ℕ} 0 1 = cc in omega arith)
 length_head b s l r (len n v) d g z =
     let front : in_front s v ≡ l = cc in
     let rest : v ≡ r = cc in

@@ -1,7 +1,7 @@
 -- A frame of an applet, mended: lengths in either form, objects up to the first fault, and the list of changes.
 use Rattle.std.specs.Prelude.{ℕ, zero, suc, ◌+◌, ◌-◌, Bool, ◌&&◌, List, [], ◌∷◌, ◌++◌, length, get_or, take, drop, ltb, eqb}
 use Rattle.rules.specs.Checks.{◌⇒◌else◌, is_empty, same}
-use Rattle.rules.specs.Frames.{LengthRead, len, no_length_lem, length_bytes, Object, TagRead, tag, no_tag, tag_at}
+use Rattle.rules.specs.Frames.{LengthRead, len, no_length, length_bytes, Object, TagRead, tag, no_tag, tag_at}
 
 -- L, the outer length put right; S, an object's length shortened, at the place of its 81; T, all removed from a place on
 pub data Change : Type 0 where
@@ -15,16 +15,16 @@ in_front s rest = take (length s - length rest) s
 
 -- behind an 81: any byte
 unfoldable pub any_length : List ℕ → LengthRead
-any_length [] = no_length_lem
+any_length [] = no_length
 any_length (b ∷ s) = len b s
 
 -- a length as applets write it: one byte 00 to 7F, or 81 and any byte
 unfoldable pub loose_length_at : List ℕ → LengthRead
-loose_length_at [] = no_length_lem
+loose_length_at [] = no_length
 loose_length_at (b ∷ s) =
     ltb b 0x80 ⇒ len b s else
     eqb b 0x81 ⇒ any_length s else
-    no_length_lem
+    no_length
 
 -- of the bytes of a length: 81, and a byte below 80
 unfoldable pub is_overlong : List ℕ → Bool
@@ -37,7 +37,7 @@ pub data LooseRead : Type 0 where
 
 -- the value must stand whole
 unfoldable pub loose_value : List ℕ → ℕ → Bool → List ℕ → LengthRead → LooseRead
-loose_value t number flag s no_length_lem = fault
+loose_value t number flag s no_length = fault
 loose_value t number flag s (len n v) =
     ltb (length v) n ⇒ fault else
     loose t (in_front s v) (record { number = number; flag = flag; value = take n v }) (drop n v)
@@ -95,7 +95,7 @@ pub data Head : Type 0 where
   no_head : Head
 
 unfoldable pub head_of : List ℕ → LengthRead → Head
-head_of s no_length_lem = no_head
+head_of s no_length = no_head
 head_of s (len n r) = head (in_front s r) r
 
 -- D0 and a length in either form, whatever it says

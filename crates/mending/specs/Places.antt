@@ -1,7 +1,7 @@
 -- What the readers find at places, tied to the mending of the bytes from there on.
 use Rattle.std.specs.Prelude.{ℕ, ◌≤◌, ◌<◌, ◌≡◌, ◌&&◌, List, [], ◌∷◌, ◌++◌, length, drop, ltb, eqb}
 use Rattle.rules.specs.Checks.{◌⇒◌else◌}
-use Rattle.rules.specs.Frames.{len, no_length_lem, length_bytes}
+use Rattle.rules.specs.Frames.{len, no_length, length_bytes}
 use Rattle.octets.specs.Parts.{part}
 use Rattle.mending.specs.Mends.{outer_length, shortened, loose_length_at, is_overlong, cut_from, mend_from, Head, head}
 use Rattle.mending.specs.Printed.{changes_text}
@@ -21,7 +21,7 @@ pub record Length (s : List ℕ) (at n kept start : ℕ) : Type 0 where
 
 abbrev pub Measures : Sized → List ℕ → ℕ → Type 0
 Measures (By n kept start) s at = Length s at n kept start
-Measures Not s at = loose_length_at (drop at s) ≡ no_length_lem
+Measures Not s at = loose_length_at (drop at s) ≡ no_length
 
 -- an object at `at`, its length at `sized`: what comes out of it is its tag and the bytes from `kept` up to next
 pub record Stands (s : List ℕ) (at sized kept next : ℕ) : Type 0 where

@@ -12,7 +12,7 @@ use lib.Dec.{eqb, leb}
 use borrow.Author.Tests.{lt-ltb, le-ltb, le-leb, lt-leb, eq-eqb, ne_eqb}
 use Rattle.rules.specs.declared.Ending.{Ending}
 use Rattle.rules.specs.declared.Ending.TheVariants.{BadTag, BadLength, CutValue}
-use Rattle.rules.specs.Frames.{long_tag, tag_at, tag, no_tag, no_length_lem, long_length, length_at, object, faulty, value_after, after_tag, object_at}
+use Rattle.rules.specs.Frames.{long_tag, tag_at, tag, no_tag, no_length, long_length, length_at, object, faulty, value_after, after_tag, object_at}
 use Rattle.rules.specs.Checks.{◌⇒◌else◌}
 use Rattle.rules.proofs.Laws.{stop, skip}
 use Rattle.objects.specs.declared.Tagged.{Tagged}
@@ -106,7 +106,7 @@ last_byte s at = let e : at + 1 - 1 ≡ at = omega arith in ap (λ (k : ℕ). ge
 
 -- the length at a place
 module _ (s : List ℕ) (at : ℕ) where
-  pub length_none : length s ≤ at → length_at (drop at s) ≡ no_length_lem
+  pub length_none : length s ≤ at → length_at (drop at s) ≡ no_length
   unfolding length_at
   length_none h = ap length_at (drop_of_length-le s h)
 
@@ -119,7 +119,7 @@ module _ (s : List ℕ) (at : ℕ) where
     length_short b =
         record { is = by_first ∙ stop _ _ _ (lt-ltb (get_or s at 0) 0x80 b); within = omega arith; behind = omega arith; last = last_byte s at }
 
-    pub length_other : 0x80 ≤ get_or s at 0 → (get_or s at 0 ≡ 0x81 → ⊥) → length_at (drop at s) ≡ no_length_lem
+    pub length_other : 0x80 ≤ get_or s at 0 → (get_or s at 0 ≡ 0x81 → ⊥) → length_at (drop at s) ≡ no_length
     unfolding length_at
     length_other b n = by_first ∙ skip _ _ _ (le-ltb (get_or s at 0) 0x80 b) ∙ skip _ _ _ (ne_eqb (get_or s at 0) 0x81 n)
 
@@ -127,12 +127,12 @@ module _ (s : List ℕ) (at : ℕ) where
     unfolding length_at
     by_long b e = by_first ∙ skip _ _ _ (le-ltb (get_or s at 0) 0x80 b) ∙ stop _ _ _ (eq-eqb (get_or s at 0) 0x81 e)
 
-    pub long_none : 0x80 ≤ get_or s at 0 → get_or s at 0 ≡ 0x81 → length s ≤ at + 1 → length_at (drop at s) ≡ no_length_lem
+    pub long_none : 0x80 ≤ get_or s at 0 → get_or s at 0 ≡ 0x81 → length s ≤ at + 1 → length_at (drop at s) ≡ no_length
     unfolding long_length
     long_none b e n = by_long b e ∙ ap long_length (drop_of_length-le s n)
 
     pub long_low :
-        0x80 ≤ get_or s at 0 → get_or s at 0 ≡ 0x81 → at + 1 < length s → get_or s (at + 1) 0 < 0x80 → length_at (drop at s) ≡ no_length_lem
+        0x80 ≤ get_or s at 0 → get_or s at 0 ≡ 0x81 → at + 1 < length s → get_or s (at + 1) 0 < 0x80 → length_at (drop at s) ≡ no_length
     unfolding long_length
     long_low b e n c = by_long b e ∙ ap long_length (cons_at s (at + 1) n) ∙ skip _ _ _ (lt-leb 0x80 (get_or s (at + 1) 0) c)
 
@@ -161,7 +161,7 @@ length_told {s} {at} e w = subst (λ (x : Sized). Measures x s at) e w
 pub length_within : (s : List ℕ) (at : ℕ) {r : Sized} {n start : ℕ} → r ≡ By n start → Measures r s at → start ≤ length s
 length_within s at e w = (length_told e w).within
 
-pub length_missed : (s : List ℕ) (at : ℕ) {r : Sized} → r ≡ Not → Measures r s at → length_at (drop at s) ≡ no_length_lem
+pub length_missed : (s : List ℕ) (at : ℕ) {r : Sized} → r ≡ Not → Measures r s at → length_at (drop at s) ≡ no_length
 length_missed s at e w = subst (λ (x : Sized). Measures x s at) e w
 
 pub object_told :
@@ -183,7 +183,7 @@ module _ (s : List ℕ) (at : ℕ) where
     unfolding object_at after_tag
     by_length = ap after_tag t.is
 
-    pub object_unsized : length_at (drop sized s) ≡ no_length_lem → object_at (drop at s) ≡ faulty BadLength
+    pub object_unsized : length_at (drop sized s) ≡ no_length → object_at (drop at s) ≡ faulty BadLength
     unfolding value_after
     object_unsized e = by_length ∙ ap (value_after number flag) e
 

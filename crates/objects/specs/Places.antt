@@ -2,7 +2,7 @@
 use Rattle.std.specs.Prelude.{ℕ, zero, suc, ◌+◌, ◌-◌, ◌≤◌, ◌<◌, ◌≡◌, Bool, List, length, drop, get_or, eqb}
 use Rattle.rules.specs.Checks.{◌⇒◌else◌}
 use Rattle.rules.specs.Frames as frames
-use Rattle.rules.specs.Frames.{long_tag, tag_at, tag, no_tag, length_at, len, no_length_lem, ObjectRead, object_at, object, faulty}
+use Rattle.rules.specs.Frames.{long_tag, tag_at, tag, no_tag, length_at, len, no_length, ObjectRead, object_at, object, faulty}
 use Rattle.octets.specs.Parts.{part}
 use Rattle.objects.specs.declared.Tagged.{Tagged}
 use Rattle.objects.specs.declared.Tagged.TheVariants as tagged
@@ -40,7 +40,7 @@ pub record Length (s : List ℕ) (at n start : ℕ) : Type 0 where
 
 abbrev pub Measures : Sized → List ℕ → ℕ → Type 0
 Measures (By n start) s at = Length s at n start
-Measures Not s at = length_at (drop at s) ≡ no_length_lem
+Measures Not s at = length_at (drop at s) ≡ no_length
 
 -- the object of this number and flag whose value is the n bytes from start on
 abbrev pub object_of : List ℕ → ℕ → Bool → ℕ → ℕ → frames.Object

@@ -13,7 +13,7 @@ use Rattle.rules.specs.Frames.{Object, ObjectRead, object, faulty, tag_at, after
 use Rattle.rules.specs.Table.{value_of}
 use Rattle.rules.specs.State.{State}
 use Rattle.rules.specs.Reading.{Reading, wrong, asked, reading, read_objects, zeros, details_of, details_in, starts_with_details}
-use Rattle.rules.specs.AtHand.{front_of_lem, details_first, details_told, packed_details, at_hand}
+use Rattle.rules.specs.AtHand.{front_of, details_first, details_told, packed_details, at_hand}
 use Rattle.rules.specs.Written.{Response}
 use Rattle.rules.specs.Command.{Answer, wrote, command, meant_by, Terms}
 use Rattle.rules.specs.Bench.{told, bench_read}
@@ -40,12 +40,12 @@ first_same o os =
     ap details_in (stop _ _ _ q ∙ sym (stop _ _ _ q)))
     (λ _. refl)
 
-first_alone : (t : List ℕ) → details_first (front_of_lem (object_at t)) ≡ details_first (walk t).objects
-unfolding front_of_lem object_at tag_at after_tag
+first_alone : (t : List ℕ) → details_first (front_of (object_at t)) ≡ details_first (walk t).objects
+unfolding front_of object_at tag_at after_tag
 first_alone [] = ap details_first (sym (ap (λ (w : Walk). w.objects) walk_end))
 first_alone (b ∷ s) = by (object_at (b ∷ s)) refl
   where
-    by : (x : ObjectRead) → object_at (b ∷ s) ≡ x → details_first (front_of_lem x) ≡ details_first (walk (b ∷ s)).objects
+    by : (x : ObjectRead) → object_at (b ∷ s) ≡ x → details_first (front_of x) ≡ details_first (walk (b ∷ s)).objects
     by (faulty e) q = sym (ap (λ (w : Walk). details_first w.objects) (walk_fault b s e q))
     by (object o r) q = first_same o (walk r).objects ∙ sym (ap (λ (w : Walk). details_first w.objects) (walk_object b s o r q))
 

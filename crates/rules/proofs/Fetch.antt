@@ -18,7 +18,7 @@ use Rattle.rules.specs.State.{State}
 use Rattle.rules.specs.Command.{Outcome, wrote, refused, Answer, answered, refusal, command, Terms, lending}
 use Rattle.rules.specs.Run.{commanding, step}
 use Rattle.rules.specs.Sound.{Each, Sound, Within}
-use Rattle.rules.specs.Fetch.{stage, Means, Taken, gathers, ends, taken_at, one_more_lem, Fetched, goes_on_lem, burst, fetch, Turn, Turned, tellings, turned}
+use Rattle.rules.specs.Fetch.{stage, Means, Taken, gathers, ends, taken_at, one_more, Fetched, goes_on, burst, fetch, Turn, Turned, tellings, turned}
 use Rattle.rules.proofs.Laws.{branch, skip}
 use Rattle.rules.proofs.Stages.{some_length, stage_means}
 use Rattle.rules.proofs.Sizes.{written_within}
@@ -45,20 +45,20 @@ onward (ends x) a next = told_before (tellings x.outcome) (next x.state [])
 
 unfoldable through : State → List ℕ → List ℕ → Turned
 through a g [] = record { state = a; gathered = g; told = []; rest = [] }
-through a g (b ∷ s) = onward (one_more_lem a (lending 255) g b) a (λ (c : State) (h : List ℕ). through c h s)
+through a g (b ∷ s) = onward (one_more a (lending 255) g b) a (λ (c : State) (h : List ℕ). through c h s)
 
 -- what a burst came to, and all bytes behind those that it took
 abbrev beyond : Fetched → List ℕ → Turned
 beyond f t = told_before (tellings f.answer.outcome) (through f.answer.state f.gathered (f.left ++ t))
 
 module _ (a : State) (s t : List ℕ) (next : List ℕ → Fetched) (h : (g : List ℕ) → through a g (s ++ t) ≡ beyond (next g) t) where
-  taken_through : (x : Taken) → onward x a (λ (c : State) (g : List ℕ). through c g (s ++ t)) ≡ beyond (goes_on_lem x s next) t
-  unfolding onward goes_on_lem
+  taken_through : (x : Taken) → onward x a (λ (c : State) (g : List ℕ). through c g (s ++ t)) ≡ beyond (goes_on x s next) t
+  unfolding onward goes_on
   taken_through (gathers g) = h g
   taken_through (ends x) = refl
 
 burst_through : (a : State) (terms : Terms) (g s t : List ℕ) → ltb terms.buffer 255 ≡ false → through a g (s ++ t) ≡ beyond (burst a terms g s) t
-unfolding burst tellings through one_more_lem
+unfolding burst tellings through one_more
 burst_through a terms g [] t e = refl
 burst_through a terms g (b ∷ s) t e =
     let h = g ++ b ∷ [] in
@@ -102,7 +102,7 @@ module _ (P : Fetched → Type 0) (a : State) (terms : Terms) where
       ((t u : List ℕ) → s ≡ t ++ u → is_empty t ≡ false → P (record { answer = refusal a CommandSize; gathered = []; left = u })) →
       ((t u : List ℕ) → s ≡ t ++ u → is_empty t ≡ false → P (record { answer = command a terms (g ++ t); gathered = []; left = u })) →
       P (burst a terms g s)
-  unfolding burst one_more_lem taken_at goes_on_lem is_empty
+  unfolding burst one_more taken_at goes_on is_empty
   burst_cases g [] more long whole = subst (λ (h : List ℕ). P (record { answer = answered a []; gathered = h; left = [] })) (append-nil g) more
   burst_cases g (b ∷ s) more long whole =
       by (stage (g ++ b ∷ []))
@@ -113,7 +113,7 @@ module _ (P : Fetched → Type 0) (a : State) (terms : Terms) where
       subst (λ (h : List ℕ). P (record { answer = command a terms h; gathered = []; left = u })) (sym (append_assoc g (b ∷ []) t))
       (whole (b ∷ t) u (ap (λ (x : List ℕ). b ∷ x) e) refl)))
     where
-      by : (k : Stage) → P (burst a terms (g ++ b ∷ []) s) → P (goes_on_lem (taken_at a terms (g ++ b ∷ []) k) s (λ (h : List ℕ). burst a terms h s))
+      by : (k : Stage) → P (burst a terms (g ++ b ∷ []) s) → P (goes_on (taken_at a terms (g ++ b ∷ []) k) s (λ (h : List ℕ). burst a terms h s))
       by (Lacks n) h = h
       by Overlong h = long (b ∷ []) s refl refl
       by Decided h = whole (b ∷ []) s refl refl
@@ -174,16 +174,16 @@ wholly a terms s = record { answer = command a terms s; gathered = []; left = []
 whole_from :
     (a : State) (terms : Terms) (p : List ℕ) (b : ℕ) (q : List ℕ) → framed (p ++ b ∷ q) ≡ true → length (p ++ b ∷ q) ≤ 256 →
     burst a terms p (b ∷ q) ≡ wholly a terms (p ++ b ∷ q)
-unfolding burst one_more_lem taken_at goes_on_lem is_empty
+unfolding burst one_more taken_at goes_on is_empty
 whole_from a terms p b [] f h =
     let s = p ++ b ∷ [] in
-    ap (λ (k : Stage). goes_on_lem (taken_at a terms s k) [] (λ (x : List ℕ). burst a terms x [])) (framed_decided s (stage s) (stage_means s) f h)
+    ap (λ (k : Stage). goes_on (taken_at a terms s k) [] (λ (x : List ℕ). burst a terms x [])) (framed_decided s (stage s) (stage_means s) f h)
 whole_from a terms p b (c ∷ q) f h =
     let s = p ++ b ∷ [] in
     let e = append_assoc p (b ∷ []) (c ∷ q) in
     let f' = ap framed e ∙ f in
     let h' = subst (λ (x : List ℕ). length x ≤ 256) (sym e) h in
-    ap (λ (x : Taken). goes_on_lem x (c ∷ q) (λ (y : List ℕ). burst a terms y (c ∷ q))) (front_gathers a terms s (c ∷ q) (stage s) (stage_means s) f' refl h')
+    ap (λ (x : Taken). goes_on x (c ∷ q) (λ (y : List ℕ). burst a terms y (c ∷ q))) (front_gathers a terms s (c ∷ q) (stage s) (stage_means s) f' refl h')
     ∙ whole_from a terms s c q f' h' ∙ ap (wholly a terms) e
 
 through_none : (c : Answer) → beyond (record { answer = c; gathered = []; left = [] }) [] ≡ record { state = c.state; gathered = []; told = tellings c.outcome; rest = [] }

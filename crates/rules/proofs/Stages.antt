@@ -11,13 +11,13 @@ use borrow.Author.Tests.{ltb-true, ltb-false, eqb-true, eqb-false, le-ltb, eq-eq
 use Rattle.rules.specs.declared.Stage.{Stage}
 use Rattle.rules.specs.declared.Stage.TheVariants.{Lacks, Overlong, Decided}
 use Rattle.rules.specs.Checks.{◌⇒◌else◌, is_empty, same}
-use Rattle.rules.specs.Frames.{LengthRead, len, no_length_lem, long_length, length_at, fills, framed}
+use Rattle.rules.specs.Frames.{LengthRead, len, no_length, long_length, length_at, fills, framed}
 use Rattle.rules.specs.Fetch.{length_to_come, lacking_by, stage_by, stage, Lacking, TooLong, Means}
 use Rattle.rules.proofs.Laws.{branch, stop, skip, both_left, and-false, not_not}
 
 -- a length that was read, with more bytes behind it
 unfoldable onto : LengthRead → List ℕ → LengthRead
-onto no_length_lem u = no_length_lem
+onto no_length u = no_length
 onto (len n r) u = len n (r ++ u)
 
 long_onto : (c d : ℕ) (r u : List ℕ) → long_length (d ∷ r ++ u) ≡ onto (long_length (d ∷ r)) u
@@ -36,7 +36,7 @@ unfolding length_at onto length_to_come is_empty
 length_onto [] u h = absurd (true≢false h)
 length_onto (c ∷ r) u h =
     branch (λ (x : LengthRead). length_at (c ∷ r ++ u) ≡ onto x u) _ _ _ (λ e. stop _ _ _ e)
-    (λ e. skip _ _ _ e ∙ branch (λ (x : LengthRead). (eqb c 0x81 ⇒ long_length (r ++ u) else no_length_lem) ≡ onto x u) _ _ _ (λ f. stop _ _ _ f ∙ behind_81 c r u h f) (λ f. skip _ _ _ f))
+    (λ e. skip _ _ _ e ∙ branch (λ (x : LengthRead). (eqb c 0x81 ⇒ long_length (r ++ u) else no_length) ≡ onto x u) _ _ _ (λ f. stop _ _ _ f ∙ behind_81 c r u h f) (λ f. skip _ _ _ f))
 
 pub some_length : (u : List ℕ) → is_empty u ≡ false → 1 ≤ length u
 unfolding is_empty
@@ -99,7 +99,7 @@ module _ (b : ℕ) (t : List ℕ) (n : ℕ) (r : List ℕ) (is : (u : List ℕ) 
 length_means :
     (b : ℕ) (t : List ℕ) → eqb b 0xD0 ≡ true → length_to_come t ≡ false → (l : LengthRead) → length_at t ≡ l → Means (stage_by (suc (length t)) l) (b ∷ t)
 unfolding lacking_by stage_by fills onto
-length_means b t e h no_length_lem q = λ u _. frame_onto b t u e h ∙ ap (λ (x : LengthRead). fills (onto x u)) q
+length_means b t e h no_length q = λ u _. frame_onto b t u e h ∙ ap (λ (x : LengthRead). fills (onto x u)) q
 length_means b t e h (len n r) q =
     let is : (u : List ℕ) → framed (b ∷ t ++ u) ≡ eqb n (length (r ++ u)) = λ u. frame_onto b t u e h ∙ ap (λ (x : LengthRead). fills (onto x u)) q in
     branch (λ (x : Stage). Means x (b ∷ t)) _ _ _ (enough_means b t n r is)
@@ -175,7 +175,7 @@ none_lacking n k z h = omega (arith, z, h)
 more_by :
     (k : ℕ) (l : LengthRead) (n : ℕ) (u : List ℕ) → stage_by k l ≡ Lacks n → length u < n → stage_by (k + length u) (onto l u) ≡ Lacks (n - length u)
 unfolding lacking_by stage_by onto lacking_in
-more_by k no_length_lem n u e h = absurd (none_lacking n (length u) (ap lacking_in e) h)
+more_by k no_length n u e h = absurd (none_lacking n (length u) (ap lacking_in e) h)
 more_by k (len m r) n u e h =
     let Q : Stage → Type 0 = λ (x : Stage). x ≡ Lacks n → stage_by (k + length u) (onto (len m r) u) ≡ Lacks (n - length u) in
     branch Q _ _ _ (λ _ q. absurd (none_lacking n (length u) (ap lacking_in q) h))

@@ -10,7 +10,7 @@ use lib.ListN.{length, drop}
 use lib.Dec.{ltb, eqb}
 use borrow.Author.Tests.{le-ltb, le-leb, lt-leb, eq-eqb, ne_eqb, ltb-false, eqb-false}
 use Rattle.rules.specs.Checks.{◌⇒◌else◌, is_empty}
-use Rattle.rules.specs.Frames.{LengthRead, len, no_length_lem, long_length, length_at, length_bytes, Object, TagRead, tag, long_tag, tag_at, ObjectRead, object, faulty, value_after, after_tag, object_at, Walk, onward, walk_up_to, walk, object_bytes, fills, following, framed, contents}
+use Rattle.rules.specs.Frames.{LengthRead, len, no_length, long_length, length_at, length_bytes, Object, TagRead, tag, long_tag, tag_at, ObjectRead, object, faulty, value_after, after_tag, object_at, Walk, onward, walk_up_to, walk, object_bytes, fills, following, framed, contents}
 use Rattle.rules.specs.TagForms.{long_tag_bytes, object_in, written_in, retagged}
 use Rattle.rules.specs.State.{State}
 use Rattle.rules.specs.Reading.{Reading, reading, read_objects}
@@ -79,7 +79,7 @@ walk_in (f ∷ fs) (o ∷ os) r h = one_more_lem f fs o os r h.0 (walk_in fs os 
 
 -- what is read from bytes has a number that a tag can have, and leaves bytes
 abbrev LengthLeft : LengthRead → Type 0
-LengthLeft no_length_lem = Unit {0}
+LengthLeft no_length = Unit {0}
 LengthLeft (len n s) = Each Byte s
 
 abbrev ObjectLeft : ObjectRead → Type 0
@@ -98,7 +98,7 @@ length_left (b ∷ s) h = branch LengthLeft _ _ _ (λ _. h.1) (λ _. branch Leng
 
 value_left : (n : ℕ) (f : Bool) (l : LengthRead) → 1 ≤ n → n ≤ 32767 → LengthLeft l → ObjectLeft (value_after n f l)
 unfolding value_after
-value_left n f no_length_lem a b h = tt
+value_left n f no_length a b h = tt
 value_left n f (len k s) a b h = branch ObjectLeft _ _ _ (λ _. tt) (λ _. (record { some = a; fifteen_bits = b }, each_drop Byte k s h))
 
 long_tagged : (s : List ℕ) → Each Byte s → ObjectLeft (after_tag (long_tag s))
@@ -193,7 +193,7 @@ module _ (s : List ℕ) (h : Each Byte s) (fs : List Bool) where
 
 bytes_followed : (l : LengthRead) → LengthLeft l → Each Byte (following l)
 unfolding following
-bytes_followed no_length_lem h = tt
+bytes_followed no_length h = tt
 bytes_followed (len n s) h = h
 
 -- a command with its tags in any forms is read as the same command, whatever it is: the same error, or the same values

@@ -10,10 +10,10 @@ use lib.Dec.{ltb, leb, eqb}
 use borrow.Author.Tests.{ltb-true, ltb-false, lt-ltb, le-ltb, leb-true, le-leb, lt-leb, eqb-true, eqb-false, eq-eqb, ne_eqb, leb-false}
 use Rattle.rules.specs.declared.Time.{Time}
 use Rattle.rules.specs.Checks.{◌⇒◌else◌, every}
-use Rattle.rules.specs.Timers.{Timer, idle, running, waiting, timer_count, is_timer, action_of, time_in, is_zero, is_time, less_second, runs_on_lem, ticked, before_waiting, is_waiting, time_bytes, of_day, started_of, is_digits}
+use Rattle.rules.specs.Timers.{Timer, idle, running, waiting, timer_count, is_timer, action_of, time_in, is_zero, is_time, less_second, runs_on, ticked, before_waiting, is_waiting, time_bytes, of_day, started_of, is_digits}
 use Rattle.rules.specs.State.{State, start, timer, with_timers, with_timer, with_chan, Chan, fresh, closed}
 use Rattle.rules.specs.Sound.{Sound}
-use Rattle.rules.specs.TimerHistory.{seconds_of, clock_time, Since, unset, since, one_second, timer_by, sets_after, envelope_timer, answer_sets, heard_sets, time_set, since_of, waits, set_with, sets_from, runs, NoneWaiting, LowestWaiting, left_by_lem, tells_timer, touches_timer}
+use Rattle.rules.specs.TimerHistory.{seconds_of, clock_time, Since, unset, since, one_second, timer_by, sets_after, envelope_timer, answer_sets, heard_sets, time_set, since_of, waits, set_with, sets_from, runs, NoneWaiting, LowestWaiting, left_by, tells_timer, touches_timer}
 use Rattle.rules.proofs.Laws.{branch, stop, skip, both, both_left, both_right, each_get, and-false, each_replicate}
 use Rattle.rules.proofs.Timers.{OfDay, time_day}
 use Rattle.rules.specs.Reading.{close_channel, Command, reading, Body, bare, Reading, command_in, event_list, open_channel, receive_data, send_data, start_timer, manage_timer}
@@ -116,7 +116,7 @@ Fine (since t k) = is_time t ≡ true
 
 -- a second passes, for the timer and for what was seen of it
 ticked_told : (x : Since) → Fine x → ticked (timer_by x) ≡ timer_by (one_second x)
-unfolding ticked timer_by one_second runs_on_lem
+unfolding ticked timer_by one_second runs_on
 ticked_told unset h = refl
 ticked_told (since t k) h =
     let n = seconds_of t in
@@ -363,8 +363,8 @@ started_by (since t k) = branch (λ (r : Timer). started_of r ≡ t) (ltb k (sec
 -- a stop or an ask, by what was seen of the timer
 left_told :
     (a : State) (q n : ℕ) (i : Bool) (x : Since) →
-    (tells_left a q n i (timer_by x)).result ≡ (runs x ⇒ done (plain i) (leaves n (left_by_lem x)) else error 0x24)
-unfolding tells_left timer_by runs left_by_lem
+    (tells_left a q n i (timer_by x)).result ≡ (runs x ⇒ done (plain i) (leaves n (left_by x)) else error 0x24)
+unfolding tells_left timer_by runs left_by
 left_told a q n i unset = sym (skip _ _ _ refl)
 left_told a q n i (since t k) =
     let b = ltb k (seconds_of t) in
@@ -376,7 +376,7 @@ module _ (p : List ℕ) (cs : List Call) where
   pub left_exactly :
       (terms : Terms) (s : List ℕ) (c : Command) (i : Bool) (n : ℕ) → Passed (latest p cs) terms s c i → c.body ≡ manage_timer n →
       eqb (action_of c.qualifier) 3 ≡ false → is_timer n ≡ true →
-      answer_to p cs terms s ≡ some (runs (since_of n p cs) ⇒ done (plain i) (leaves n (left_by_lem (since_of n p cs))) else error 0x24)
+      answer_to p cs terms s ≡ some (runs (since_of n p cs) ⇒ done (plain i) (leaves n (left_by (since_of n p cs))) else error 0x24)
   unfolding own managing_timer
   left_exactly terms s c i n w e acts number =
       own_heard p cs terms s c i w (manage_timer n) e

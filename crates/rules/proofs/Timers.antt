@@ -7,7 +7,7 @@ use native.Mathlib.Omega.{arith}
 use lib.Dec.{leb}
 use borrow.Author.Tests.{leb-true, le-leb}
 use Rattle.rules.specs.declared.Time.{Time}
-use Rattle.rules.specs.Timers.{Timer, idle, running, waiting, swapped, unswapped, time_in, time_bytes, of_day, is_zero, is_time, less_second, runs_on_lem, ticked}
+use Rattle.rules.specs.Timers.{Timer, idle, running, waiting, swapped, unswapped, time_in, time_bytes, of_day, is_zero, is_time, less_second, runs_on, ticked}
 use Rattle.rules.specs.Sound.{SoundTimer}
 use Rattle.rules.proofs.Laws.{branch, both, both_left, both_right}
 
@@ -62,8 +62,8 @@ less_day t d =
     branch OfDay _ _ _ (λ _. record { hours = d.hours; minutes = omega (arith, d.minutes); seconds = omega arith })
     (λ _. record { hours = omega (arith, d.hours); minutes = omega arith; seconds = omega arith }))
 
-runs_on_sound : (left from : Time) → OfDay left → is_time from ≡ true → SoundTimer (runs_on_lem left from)
-unfolding runs_on_lem is_time
+runs_on_sound : (left from : Time) → OfDay left → is_time from ≡ true → SoundTimer (runs_on left from)
+unfolding runs_on is_time
 runs_on_sound left from d e =
     branch SoundTimer (is_zero left) _ _ (λ _. e) (λ z. (both (of_day left) _ (day_of left d) (ap not z), e))
 

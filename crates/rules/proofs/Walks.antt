@@ -9,12 +9,12 @@ use native.Mathlib.Nat.{le_of_suc-le-suc, not-suc-le-zero}
 use lib.ListN.{length, length-drop}
 use Rattle.rules.specs.declared.Ending.{Ending}
 use Rattle.rules.specs.declared.Ending.TheVariants.{End}
-use Rattle.rules.specs.Frames.{LengthRead, len, no_length_lem, long_length, length_at, ObjectRead, object, faulty, Object, Walk, TagRead, long_tag, tag_at, value_after, after_tag, object_at, onward, walk_up_to, walk}
+use Rattle.rules.specs.Frames.{LengthRead, len, no_length, long_length, length_at, ObjectRead, object, faulty, Object, Walk, TagRead, long_tag, tag_at, value_after, after_tag, object_at, onward, walk_up_to, walk}
 use Rattle.rules.proofs.Laws.{branch}
 
 -- what is left after a length, and after an object, is shorter than what was there
 abbrev LengthLeaves : ℕ → LengthRead → Type 0
-LengthLeaves k no_length_lem = Unit {0}
+LengthLeaves k no_length = Unit {0}
 LengthLeaves k (len n s) = length s ≤ k
 
 abbrev pub ObjectLeaves : ℕ → ObjectRead → Type 0
@@ -27,7 +27,7 @@ long_leaves [] = tt
 long_leaves (b ∷ s) = branch (LengthLeaves (suc (length s))) _ _ _ (λ _. omega arith) (λ _. tt)
 
 weaken : (j k : ℕ) (l : LengthRead) → j ≤ k → LengthLeaves j l → LengthLeaves k l
-weaken j k no_length_lem h x = tt
+weaken j k no_length h x = tt
 weaken j k (len n s) h x = omega arith
 
 length_leaves : (s : List ℕ) → LengthLeaves (length s) (length_at s)
@@ -39,7 +39,7 @@ length_leaves (b ∷ s) =
 
 value_leaves : (t : ℕ) (f : Bool) (k : ℕ) (l : LengthRead) → LengthLeaves k l → ObjectLeaves k (value_after t f l)
 unfolding value_after
-value_leaves t f k no_length_lem h = tt
+value_leaves t f k no_length h = tt
 value_leaves t f k (len n s) h = branch (ObjectLeaves k) _ _ _ (λ _. tt) (λ _. let e = length-drop n s in omega arith)
 
 -- so is what is left after a tag of three bytes

@@ -8,9 +8,9 @@ use Rattle.rules.specs.Table.{value_of}
 use Rattle.rules.specs.Reading.{zeros, details_in, starts_with_details}
 
 -- the object that was read, or none where it is faulty
-unfoldable pub front_of_lem : ObjectRead → List Object
-front_of_lem (faulty e) = []
-front_of_lem (object o r) = o ∷ []
+unfoldable pub front_of : ObjectRead → List Object
+front_of (faulty e) = []
+front_of (object o r) = o ∷ []
 
 -- the details that the first of some objects tells, as step 3 takes them: 01 with length 3; zeros where it is another, or where there is none
 unfoldable pub details_first : List Object → Details
@@ -18,7 +18,7 @@ details_first os = starts_with_details os ⇒ details_in (value_of 0x01 os) else
 
 -- the details of a command; zeros where its outer frame is wrong
 unfoldable pub details_told : List ℕ → Details
-details_told s = framed s ⇒ details_first (front_of_lem (object_at (contents s))) else zeros
+details_told s = framed s ⇒ details_first (front_of (object_at (contents s))) else zeros
 
 -- number, type and qualifier in one number
 unfoldable pub packed_details : Details → ℕ
@@ -41,5 +41,5 @@ pub at_hand_of :
     (0xD0 ∷ 0x06 ∷ 0x81 ∷ 0x03 ∷ 0x01 ∷ 0x42 ∷ 0x05 ∷ 0x00 ∷ []) ∷
     []) ≡
     0x014205 ∷ 0x1000002 ∷ 0 ∷ 0 ∷ 0 ∷ 0 ∷ 0 ∷ 0x014205 ∷ []
-unfolding at_hand packed_details details_told details_first front_of_lem is_empty ◌⇒◌else◌ long_length length_at long_tag tag_at value_after after_tag object_at fills following framed contents value_of zeros details_in starts_with_details
+unfolding at_hand packed_details details_told details_first front_of is_empty ◌⇒◌else◌ long_length length_at long_tag tag_at value_after after_tag object_at fills following framed contents value_of zeros details_in starts_with_details
 at_hand_of = refl

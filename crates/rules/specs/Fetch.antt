@@ -6,7 +6,7 @@ use Rattle.rules.specs.declared.Stage.TheVariants.{Lacks, Overlong, Decided}
 use Rattle.rules.specs.Checks.{◌⇒◌else◌, is_empty, same}
 use Rattle.rules.specs.Results.{response_cap, command_cap}
 use Rattle.rules.specs.Words.{number_of}
-use Rattle.rules.specs.Frames.{LengthRead, len, no_length_lem, long_length, length_at, framed}
+use Rattle.rules.specs.Frames.{LengthRead, len, no_length, long_length, length_at, framed}
 use Rattle.rules.specs.State.{State}
 use Rattle.rules.specs.Command.{Outcome, wrote, refused, Answer, answered, refusal, Terms, command}
 
@@ -23,7 +23,7 @@ lacking_by k m =
 
 -- k bytes with this length
 unfoldable pub stage_by : ℕ → LengthRead → Stage
-stage_by k no_length_lem = Decided
+stage_by k no_length = Decided
 stage_by k (len n s) = lacking_by k (n - length s)
 
 -- what gathered bytes are, by their outer head
@@ -86,8 +86,8 @@ taken_at a terms s Overlong = ends (refusal a CommandSize)
 taken_at a terms s Decided = ends (command a terms s)
 
 -- one byte more
-unfoldable pub one_more_lem : State → Terms → List ℕ → ℕ → Taken
-one_more_lem a terms g b = let s = g ++ b ∷ [] in taken_at a terms s (stage s)
+unfoldable pub one_more : State → Terms → List ℕ → ℕ → Taken
+one_more a terms g b = let s = g ++ b ∷ [] in taken_at a terms s (stage s)
 
 -- how a burst ends: the answer, what is gathered behind it, and the bytes that are left to the caller
 pub record Fetched : Type 0 where
@@ -96,14 +96,14 @@ pub record Fetched : Type 0 where
   pub left : List ℕ
 
 -- behind a byte of a burst stand the bytes s
-unfoldable pub goes_on_lem : Taken → List ℕ → (List ℕ → Fetched) → Fetched
-goes_on_lem (gathers g) s next = next g
-goes_on_lem (ends x) s next = record { answer = x; gathered = []; left = s }
+unfoldable pub goes_on : Taken → List ℕ → (List ℕ → Fetched) → Fetched
+goes_on (gathers g) s next = next g
+goes_on (ends x) s next = record { answer = x; gathered = []; left = s }
 
 -- a burst: byte after byte until the first answer; where there is none nothing is written
 unfoldable pub burst : State → Terms → List ℕ → List ℕ → Fetched
 burst a terms g [] = record { answer = answered a []; gathered = g; left = [] }
-burst a terms g (b ∷ s) = goes_on_lem (one_more_lem a terms g b) s (λ (h : List ℕ). burst a terms h s)
+burst a terms g (b ∷ s) = goes_on (one_more a terms g b) s (λ (h : List ℕ). burst a terms h s)
 
 -- the fetch call; with R1 the burst is not taken
 unfoldable pub fetch : State → Terms → List ℕ → List ℕ → Fetched

@@ -7,20 +7,20 @@ use Rattle.rules.specs.declared.Ending.TheVariants.{End, BadTag, BadLength, CutV
 -- a length and the bytes after it, or no length
 pub data LengthRead : Type 0 where
   len : ℕ → List ℕ → LengthRead
-  no_length_lem : LengthRead
+  no_length : LengthRead
 
 -- the second byte of the longer form: 80 to FF
 unfoldable pub long_length : List ℕ → LengthRead
-long_length [] = no_length_lem
-long_length (b ∷ s) = leb 0x80 b ⇒ len b s else no_length_lem
+long_length [] = no_length
+long_length (b ∷ s) = leb 0x80 b ⇒ len b s else no_length
 
 -- one byte 00 to 7F, or 81 and a byte 80 to FF; no other form is read
 unfoldable pub length_at : List ℕ → LengthRead
-length_at [] = no_length_lem
+length_at [] = no_length
 length_at (b ∷ s) =
     ltb b 0x80 ⇒ len b s else
     eqb b 0x81 ⇒ long_length s else
-    no_length_lem
+    no_length
 
 -- the shortest form, for writing
 unfoldable pub length_bytes : ℕ → List ℕ
@@ -61,7 +61,7 @@ pub data ObjectRead : Type 0 where
 
 -- the value must stand whole
 unfoldable pub value_after : ℕ → Bool → LengthRead → ObjectRead
-value_after number flag no_length_lem = faulty BadLength
+value_after number flag no_length = faulty BadLength
 value_after number flag (len n s) =
     ltb (length s) n ⇒ faulty CutValue else
     object (record { number = number; flag = flag; value = take n s }) (drop n s)
@@ -109,12 +109,12 @@ written (o ∷ os) = object_bytes o ++ written os
 
 -- the length says exactly how many bytes follow it
 unfoldable pub fills : LengthRead → Bool
-fills no_length_lem = false
+fills no_length = false
 fills (len n s) = eqb n (length s)
 
 -- the bytes that follow a length
 unfoldable pub following : LengthRead → List ℕ
-following no_length_lem = []
+following no_length = []
 following (len n s) = s
 
 -- a command is D0, a length, and as many bytes

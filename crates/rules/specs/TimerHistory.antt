@@ -40,9 +40,9 @@ unfoldable pub set_with : Since → Time
 set_with unset = no_time
 set_with (since t k) = t
 
-unfoldable pub left_by_lem : Since → Time
-left_by_lem unset = no_time
-left_by_lem (since t k) = clock_time (seconds_of t - k)
+unfoldable pub left_by : Since → Time
+left_by unset = no_time
+left_by (since t k) = clock_time (seconds_of t - k)
 
 -- a second more
 unfoldable pub one_second : Since → Since

@@ -92,13 +92,13 @@ pub data Timer : Type 0 where
   waiting : Time → Timer
 
 -- one that comes to zero stops and waits
-unfoldable pub runs_on_lem : Time → Time → Timer
-runs_on_lem left from = is_zero left ⇒ waiting from else running left from
+unfoldable pub runs_on : Time → Time → Timer
+runs_on left from = is_zero left ⇒ waiting from else running left from
 
 -- a second passes
 unfoldable pub ticked : Timer → Timer
 ticked idle = idle
-ticked (running left from) = runs_on_lem (less_second left) from
+ticked (running left from) = runs_on (less_second left) from
 ticked (waiting from) = waiting from
 
 unfoldable pub is_waiting : Timer → Bool

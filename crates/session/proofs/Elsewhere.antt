@@ -13,7 +13,7 @@ use Rattle.rules.specs.State.{State, Chan, closed, chan, queue, held}
 use Rattle.rules.specs.Pool.{cell_size, pool_size, cells, promised_to, promised, unpromised}
 use Rattle.rules.specs.Sound.{Each, SoundChan, Sound}
 use Rattle.octets.specs.Parts.{pad}
-use Rattle.session.specs.Book.{numbers_of_lem, places}
+use Rattle.session.specs.Book.{numbers_of, places}
 use Rattle.session.specs.Picture.{space, region, regions, pool_of, link_number, carries_number, entry, chan_numbers, entries_of, heads_with, heads_of, ledger_of, offset, shown, GoodIn, blocks}
 use Rattle.session.specs.Cells.{HeldAt, SameLengths}
 use Rattle.session.proofs.Regions.{Fits, length_way, length_region}
@@ -116,7 +116,7 @@ entry_same c d s =
 -- and the same numbers
 numbers_same : (c d : Chan) → SameLengths c d → chan_numbers c ≡ chan_numbers d
 unfolding chan_numbers queue
-numbers_same c d s = λ i. numbers_of_lem (entry_same c d s i) ++ (places (s.datagrams Receive i) ++ places (s.datagrams Send i))
+numbers_same c d s = λ i. numbers_of (entry_same c d s i) ++ (places (s.datagrams Receive i) ++ places (s.datagrams Send i))
 
 entries_same :
     (cs ds : List Chan) → length cs ≡ length ds → ((k : ℕ) → k < length cs → SameLengths (get_or cs k closed) (get_or ds k closed)) →

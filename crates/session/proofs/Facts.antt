@@ -28,7 +28,7 @@ use Rattle.rules.proofs.Soundness.{once_due, chan_sound}
 use Rattle.octets.specs.Parts.{part, pasted, cut_out, spread}
 use Rattle.octets.proofs.Pastes.{length_pasted, length_pad}
 use Rattle.session.specs.declared.Channel.{Channel}
-use Rattle.session.specs.Book.{free_at, free_in, ledger_size, entry_at, numbers_of_lem, entry_in, with_entry, lengths_at, lengths_from, lengths_in, places, with_length, less_length, with_list}
+use Rattle.session.specs.Book.{free_at, free_in, ledger_size, entry_at, numbers_of, entry_in, with_entry, lengths_at, lengths_from, lengths_in, places, with_length, less_length, with_list}
 use Rattle.session.specs.Picture.{space, regions, pool_of, link_number, link_of, carries_number, entry, chan_numbers, ledger_of, base_in, offset, start_in, shown, Shows, GoodIn}
 use Rattle.session.specs.Changed.{Numbered, chan_in, Changed, held_in, due_in, more_in, less_in, Marks, with_events}
 use Rattle.session.proofs.Places.{places_size, places_last}
@@ -276,16 +276,16 @@ module _ (t p : List ℕ) (n : ChannelNumber) (h : Numbered t p n) where
   unfolding with_entry chan_numbers queue
   entry_written d e r same =
       let x = places c.receive.lengths ++ places c.send.lengths in
-      (λ i. pasted ((table_is ∙ ledger_parts a sound.thirteen sound.eight n place ∙ ap (λ (l : List ℕ). front_of_lem ++ l) (append_assoc (numbers_of_lem (entry c)) x rest_of)) i) (entry_at (n.0 - 1)) (numbers_of_lem (r i)))
-      ∙ paste_parts front_of_lem (numbers_of_lem (entry c)) (x ++ rest_of) (numbers_of_lem (entry d)) (entry_at (n.0 - 1)) (before_size a sound.thirteen sound.eight n place) refl
-      ∙ ap (λ (l : List ℕ). front_of_lem ++ l) (sym (append_assoc (numbers_of_lem (entry d)) x rest_of))
-      ∙ (λ i. front_of_lem ++ ((numbers_of_lem (entry d) ++ (places (sym (same Receive) i) ++ places (sym (same Send) i))) ++ rest_of))
+      (λ i. pasted ((table_is ∙ ledger_parts a sound.thirteen sound.eight n place ∙ ap (λ (l : List ℕ). front_of_lem ++ l) (append_assoc (numbers_of (entry c)) x rest_of)) i) (entry_at (n.0 - 1)) (numbers_of (r i)))
+      ∙ paste_parts front_of_lem (numbers_of (entry c)) (x ++ rest_of) (numbers_of (entry d)) (entry_at (n.0 - 1)) (before_size a sound.thirteen sound.eight n place) refl
+      ∙ ap (λ (l : List ℕ). front_of_lem ++ l) (sym (append_assoc (numbers_of (entry d)) x rest_of))
+      ∙ (λ i. front_of_lem ++ ((numbers_of (entry d) ++ (places (sym (same Receive) i) ++ places (sym (same Send) i))) ++ rest_of))
 
   pub entry_size_lem : (e : Channel) (v : List ℕ) → v ≡ with_entry t n e → length v ≡ ledger_size
   unfolding with_entry
   entry_size_lem e v q =
       let l = good_table t p h.good in
-      ap (λ (u : List ℕ). length u) q ∙ length_pasted t (entry_at (n.0 - 1)) (numbers_of_lem e) (omega (arith, h.high)) ∙ l
+      ap (λ (u : List ℕ). length u) q ∙ length_pasted t (entry_at (n.0 - 1)) (numbers_of e) (omega (arith, h.high)) ∙ l
 
   pub cleared_size : (v w : List ℕ) → length v ≡ ledger_size → w ≡ pasted v (lengths_at n Receive) (replicate 32 0) → length w ≡ ledger_size
   cleared_size v w e q =
@@ -547,8 +547,8 @@ module _ (t p : List ℕ) (n : ChannelNumber) (h : Numbered t p n) where
       eʷ
       ∙ ap (λ (l : List ℕ). pasted l (lengths_at n Receive) (replicate 32 0))
       (eᵛ
-      ∙ (λ i. pasted ((table_is ∙ ledger_parts a sound.thirteen sound.eight n place ∙ ap (λ (l : List ℕ). front_of_lem ++ l) (append_assoc (numbers_of_lem (entry c)) y rest_of)) i) (entry_at (n.0 - 1)) six)
-      ∙ paste_parts front_of_lem (numbers_of_lem (entry c)) (y ++ rest_of) six (entry_at (n.0 - 1)) b refl ∙ sym (append_assoc front_of_lem six (y ++ rest_of)))
+      ∙ (λ i. pasted ((table_is ∙ ledger_parts a sound.thirteen sound.eight n place ∙ ap (λ (l : List ℕ). front_of_lem ++ l) (append_assoc (numbers_of (entry c)) y rest_of)) i) (entry_at (n.0 - 1)) six)
+      ∙ paste_parts front_of_lem (numbers_of (entry c)) (y ++ rest_of) six (entry_at (n.0 - 1)) b refl ∙ sym (append_assoc front_of_lem six (y ++ rest_of)))
       ∙ paste_parts (front_of_lem ++ six) y rest_of (replicate 32 0) (lengths_at n Receive) (omega arith) (omega (arith, size, places_size c.receive.lengths, places_size c.send.lengths))
       ∙ append_assoc front_of_lem six (replicate 32 0 ++ rest_of) ∙ sym (ap (λ (l : List ℕ). front_of_lem ++ (l ++ rest_of)) closed_numbers)
       in

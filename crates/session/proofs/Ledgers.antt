@@ -16,7 +16,7 @@ use Rattle.rules.specs.Pool.{cell_size, cells, promised_to, promised, unpromised
 use Rattle.rules.proofs.Grants.{promised_set}
 use Rattle.octets.specs.Parts.{pasted}
 use Rattle.session.specs.declared.Channel.{Channel}
-use Rattle.session.specs.Book.{available_at, status_at, free_at, free_in, channels_at, entry_size, ledger_size, entry_at, numbers_of_lem, entry_in, places, listed, listed_number, with_list, timers_at, timer_size}
+use Rattle.session.specs.Book.{available_at, status_at, free_at, free_in, channels_at, entry_size, ledger_size, entry_at, numbers_of, entry_in, places, listed, listed_number, with_list, timers_at, timer_size}
 use Rattle.session.specs.Picture.{space, link_number, entry, chan_numbers, entries_of, heads_with, heads_of, ledger_of, base_in, timer_numbers, timers_of}
 use Rattle.session.specs.Changed.{with_events}
 use Rattle.session.proofs.Places.{places_size}
@@ -25,7 +25,7 @@ use Rattle.session.proofs.Blocks.{blocks_size, block_number, block_set, block_pa
 
 -- an entry put number by number
 pub entry_put : (t : List ℕ) (at : ℕ) (e : Channel) → at + 6 ≤ length t →
-    set (set (set (set (set (set t at e.grant) (at + 1) e.link) (at + 2) e.rx) (at + 3) e.tx) (at + 4) e.ready) (at + 5) e.carries ≡ pasted t at (numbers_of_lem e)
+    set (set (set (set (set (set t at e.grant) (at + 1) e.link) (at + 2) e.rx) (at + 3) e.tx) (at + 4) e.ready) (at + 5) e.carries ≡ pasted t at (numbers_of e)
 unfolding pasted
 entry_put t at e h =
     let e1 : at + 1 ≡ suc at = omega arith in
@@ -34,7 +34,7 @@ entry_put t at e h =
     let e4 : at + 4 ≡ suc (suc (suc (suc at))) = omega arith in
     let e5 : at + 5 ≡ suc (suc (suc (suc (suc at)))) = omega arith in
     (λ i. set (set (set (set (set (set t at e.grant) (e1 i) e.link) (e2 i) e.rx) (e3 i) e.tx) (e4 i) e.ready) (e5 i) e.carries)
-    ∙ sets-eq (numbers_of_lem e) t at h ∙ append_assoc (take at t) (numbers_of_lem e) (drop (at + 6) t)
+    ∙ sets-eq (numbers_of e) t at h ∙ append_assoc (take at t) (numbers_of e) (drop (at + 6) t)
 
 zeros_get : (n j : ℕ) → get_or (replicate {A = ℕ} n 0) j 0 ≡ 0
 zeros_get zero j = refl
@@ -47,7 +47,7 @@ unfolding chan_numbers
 numbers_size c =
     let r = c.receive.lengths in
     let s = c.send.lengths in
-    let e = length-append (numbers_of_lem (entry c)) (places r ++ places s) in
+    let e = length-append (numbers_of (entry c)) (places r ++ places s) in
     let f = length-append (places r) (places s) in
     omega (arith, e, f, places_size r, places_size s)
 

@@ -16,7 +16,7 @@ use Rattle.rules.specs.Datagrams.{place_count, another, lessened}
 use Rattle.rules.specs.State.{Chan, queue, with_queue, held}
 use Rattle.rules.proofs.Datagrams.{Some, first}
 use Rattle.octets.specs.Parts.{part, pasted}
-use Rattle.session.specs.Book.{numbers_of_lem, lengths_in_entry, lengths_from, places}
+use Rattle.session.specs.Book.{numbers_of, lengths_in_entry, lengths_from, places}
 use Rattle.session.specs.Picture.{entry, chan_numbers}
 use Rattle.session.proofs.Places.{places_size, places_read, places_more, places_less, places_first}
 
@@ -91,8 +91,8 @@ module _ (f g ls : List ℕ) (at : ℕ) (e : length f ≡ at) where
 
 -- the numbers of a channel, at the places of a way
 abbrev pub way_front : List ℕ → Chan → Way → List ℕ
-way_front b d Receive = b ++ numbers_of_lem (entry d)
-way_front b d Send = b ++ (numbers_of_lem (entry d) ++ places d.receive.lengths)
+way_front b d Receive = b ++ numbers_of (entry d)
+way_front b d Send = b ++ (numbers_of (entry d) ++ places d.receive.lengths)
 
 abbrev pub way_rest : List ℕ → Chan → Way → List ℕ
 way_rest r d Receive = places d.send.lengths ++ r
@@ -101,21 +101,21 @@ way_rest r d Send = r
 pub way_parts : (b r : List ℕ) (d : Chan) (w : Way) → b ++ (chan_numbers d ++ r) ≡ way_front b d w ++ (places (queue d w).lengths ++ way_rest r d w)
 unfolding chan_numbers queue
 way_parts b r d Receive =
-    let x = numbers_of_lem (entry d) in
+    let x = numbers_of (entry d) in
     let p = places d.receive.lengths in
     let q = places d.send.lengths in
     ap (λ (l : List ℕ). b ++ l) (append_assoc x (p ++ q) r ∙ ap (λ (l : List ℕ). x ++ l) (append_assoc p q r)) ∙ sym (append_assoc b x (p ++ (q ++ r)))
 way_parts b r d Send =
-    let x = numbers_of_lem (entry d) in
+    let x = numbers_of (entry d) in
     let p = places d.receive.lengths in
     let q = places d.send.lengths in
     ap (λ (l : List ℕ). b ++ l) (append_assoc x (p ++ q) r ∙ ap (λ (l : List ℕ). x ++ l) (append_assoc p q r) ∙ sym (append_assoc x p (q ++ r)))
     ∙ sym (append_assoc b (x ++ p) (q ++ r))
 
 pub way_size : (b : List ℕ) (d : Chan) (at : ℕ) (w : Way) → length b ≡ at → length (way_front b d w) ≡ at + lengths_in_entry w
-way_size b d at Receive e = let l = length-append b (numbers_of_lem (entry d)) in omega arith
+way_size b d at Receive e = let l = length-append b (numbers_of (entry d)) in omega arith
 way_size b d at Send e =
-    let x = numbers_of_lem (entry d) in
+    let x = numbers_of (entry d) in
     let p = places d.receive.lengths in
     let l = length-append b (x ++ p) in
     let m = length-append x p in

@@ -55,8 +55,8 @@ entry_from t at =
     }
 
 -- the numbers of an entry
-abbrev pub numbers_of_lem : Channel → List ℕ
-numbers_of_lem e = e.grant ∷ e.link ∷ e.rx ∷ e.tx ∷ e.ready ∷ e.carries ∷ []
+abbrev pub numbers_of : Channel → List ℕ
+numbers_of e = e.grant ∷ e.link ∷ e.rx ∷ e.tx ∷ e.ready ∷ e.carries ∷ []
 
 -- the entry of a channel
 abbrev pub entry_in : List ℕ → ChannelNumber → Channel
@@ -64,7 +64,7 @@ entry_in t n = entry_from t (entry_at (n.0 - 1))
 
 -- the numbers with another entry for a channel
 unfoldable pub with_entry : List ℕ → ChannelNumber → Channel → List ℕ
-with_entry t n e = pasted t (entry_at (n.0 - 1)) (numbers_of_lem e)
+with_entry t n e = pasted t (entry_at (n.0 - 1)) (numbers_of e)
 
 -- where the lengths of a way stand behind the beginning of an entry
 abbrev pub lengths_in_entry : Way → ℕ

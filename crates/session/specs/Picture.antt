@@ -19,7 +19,7 @@ use Rattle.rules.specs.Sound.{Sound}
 use Rattle.octets.specs.Parts.{pad}
 use Rattle.session.specs.declared.Channel.{Channel}
 use Rattle.session.specs.declared.Session.{Session}
-use Rattle.session.specs.Book.{available_at, status_at, timers_at, timer_size, channels_at, entry_size, entry_at, entry_from, numbers_of_lem, lengths_in_entry, lengths_from, places, listed, listed_number}
+use Rattle.session.specs.Book.{available_at, status_at, timers_at, timer_size, channels_at, entry_size, entry_at, entry_from, numbers_of, lengths_in_entry, lengths_from, places, listed, listed_number}
 
 -- the bytes of the cells that a grant promises each way
 unfoldable pub space : ℕ → ℕ
@@ -72,7 +72,7 @@ entry c =
 
 -- its numbers, and the lengths of the datagrams that are due each way, zeros behind them
 unfoldable pub chan_numbers : Chan → List ℕ
-chan_numbers c = numbers_of_lem (entry c) ++ (places c.receive.lengths ++ places c.send.lengths)
+chan_numbers c = numbers_of (entry c) ++ (places c.receive.lengths ++ places c.send.lengths)
 
 -- the numbers of each, one after the other
 unfoldable pub blocks : {A : Type 0} → (A → List ℕ) → List A → List ℕ

@@ -7,7 +7,7 @@ use lib.Dec.{eqb}
 use borrow.Author.Tests.{eqb-true, not-true}
 use Rattle.rules.specs.declared.Time.{Time}
 use Rattle.rules.specs.Checks.{◌⇒◌else◌}
-use Rattle.rules.specs.Timers.{Timer, idle, running, waiting, action_of, of_day, is_zero, is_time, no_time, less_second, runs_on_lem, ticked, is_waiting, left_of, started_of}
+use Rattle.rules.specs.Timers.{Timer, idle, running, waiting, action_of, of_day, is_zero, is_time, no_time, less_second, runs_on, ticked, is_waiting, left_of, started_of}
 use Rattle.rules.specs.State.{State, with_timer}
 use Rattle.rules.specs.Own.{reply, error, done, leaves, plain, tells_left}
 use Rattle.rules.specs.Sound.{SoundTimer}
@@ -55,8 +55,8 @@ ticked_none (running left from) h z = absurd (true≢false (sym z ∙ time_some 
 ticked_none (waiting from) h z = refl
 
 -- one that runs has a second less, and the time that it was started with stays
-runs_on_lem : (l s : Time) → (left_of (runs_on_lem l s) ≡ l) × (started_of (runs_on_lem l s) ≡ s)
-unfolding runs_on_lem left_of started_of
+runs_on_lem : (l s : Time) → (left_of (runs_on l s) ≡ l) × (started_of (runs_on l s) ≡ s)
+unfolding runs_on left_of started_of
 runs_on_lem l s = branch (λ (x : Timer). (left_of x ≡ l) × (started_of x ≡ s)) (is_zero l) _ _ (λ z. (zero_is l z, refl)) (λ _. (refl, refl))
 
 pub ticked_left : (x : Timer) → is_zero (left_of x) ≡ false → (left_of (ticked x) ≡ less_second (left_of x)) × (started_of (ticked x) ≡ started_of x)
