@@ -2,17 +2,24 @@
 -- Assumes nothing.
 use Prim.Native.Nat.{◌-◌}
 use native.Mathlib.Omega.{arith}
+use mathlib.Core.Path.{ap}
+use mathlib.Core.Bool.{not}
 use Rattle.text.proofs.Fills.{Fills, told_long, told_unread, fills_none, fills_digit, fills_small, fills_more, fills_all}
 use Rattle.text.proofs.read_frame.Goals as goal
 
 pub returns-then-line-gt-DIGITS : goal.returns-then-line-gt-DIGITS
-returns-then-line-gt-DIGITS c = record {value = (told_long _ _ (omega arith)).0; out_after = (told_long _ _ (omega arith)).1;}
+returns-then-line-gt-DIGITS c =
+    let both = told_long c.args.line.now c.args.out.now (omega arith) in
+    record { value = both.0; out_after = both.1; }
 
 pub readable-requires : goal.readable-requires
 readable-requires c = tt
 
 pub returns-then-not-readable : goal.returns-then-not-readable
-returns-then-not-readable c = record {value = (told_unread _ _ _ (omega arith) c.readable.ensures (mathlib.Core.Path.ap mathlib.Core.Bool.not c.if-not-readable.true)).0; out_after = (told_unread _ _ _ (omega arith) c.readable.ensures (mathlib.Core.Path.ap mathlib.Core.Bool.not c.if-not-readable.true)).1;}
+returns-then-not-readable c =
+    let not_so = ap not c.if-not-readable.true in
+    let both = told_unread c.args.line.now c.args.out.now c.readable.result (omega arith) c.readable.ensures not_so in
+    record { value = both.0; out_after = both.1; }
 
 pub loop-i-init : goal.loop-i-init
 loop-i-init c = search fills_none
