@@ -1,9 +1,7 @@
 -- `text::gather` meets its contract: what is gathered from here completes the line.
 -- Assumes nothing.
-use Prim.Native.Nat.{◌-◌}
 use native.Mathlib.Omega.{arith}
-use lib.ListN.{length}
-use Rattle.flow.proofs.Gathering.{Gathering, gathering_none, gathering_full, gathering_byte, gathering_end, gathering_feed}
+use Rattle.flow.proofs.Gathering.{gathering_none, gathering_full, gathering_byte, gathering_end, gathering_feed}
 use Rattle.flow.proofs.gather.Goals as goal
 
 pub loop-i-init : goal.loop-i-init

@@ -1,9 +1,8 @@
 -- `text::gather` meets its contract: what is gathered from here completes the line.
 -- Assumes nothing.
 use Prim.Native.Nat.{◌-◌}
-use native.Mathlib.Omega.{arith}
 use lib.ListN.{length}
-use Rattle.flow.proofs.Gathering.{Gathering, gathering_none, gathering_full, gathering_byte, gathering_end, gathering_feed}
+use Rattle.flow.proofs.Gathering.{Gathering}
 use Rattle.flow.proofs.gather.Given as goal
 
 abbrev pub invariant-loop-i : goal.invariant-loop-i

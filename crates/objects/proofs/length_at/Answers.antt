@@ -2,7 +2,6 @@
 -- Assumes nothing.
 use Prim.Native.Nat.{◌+◌}
 use native.Mathlib.Omega.{arith}
-use borrow.Author.Rules.{rules}
 use Rattle.objects.proofs.Reading.{length_none, length_short, length_other, long_none, long_low, long_length_lem}
 use Rattle.objects.proofs.length_at.Goals as goal
 

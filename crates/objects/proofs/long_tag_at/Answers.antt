@@ -2,7 +2,6 @@
 -- Assumes nothing.
 use Prim.Native.Nat.{◌+◌}
 use native.Mathlib.Omega.{arith}
-use borrow.Author.Rules.{rules}
 use Rattle.objects.proofs.Reading.{second_none, third_none, long_zero, long_read}
 use Rattle.objects.proofs.long_tag_at.Goals as goal
 

@@ -1,6 +1,5 @@
 -- `objects::tag_at` meets its contract: each answer is that of the law for its case.
 -- Assumes nothing.
-use borrow.Author.Rules.{rules}
 use Rattle.objects.proofs.Reading.{tag_none, tag_zero, tag_read, tag_long, tag_last}
 use Rattle.objects.proofs.tag_at.Goals as goal
 

@@ -1,10 +1,7 @@
 -- `objects::walk` meets its contract: at every turn the walk ends as the walk from here does.
 -- Assumes nothing.
-use Prim.Native.Nat.{◌-◌}
-use borrow.Author.Rules.{rules}
-use lib.ListN.{length}
 use Rattle.objects.proofs.Reading.{object_told, object_missed}
-use Rattle.objects.proofs.Walking.{Ends, ends_start, ends_on, ends_end, ends_fault, nearer}
+use Rattle.objects.proofs.Walking.{ends_start, ends_on, ends_end, ends_fault, nearer}
 use Rattle.objects.proofs.walk.Goals as goal
 
 pub loop-c-init : goal.loop-c-init
@@ -20,10 +17,10 @@ pub loop-c-preserved : goal.loop-c-preserved
 loop-c-preserved c = ends_on c.loop-c.invariant (object_told c.in-Object.is c.object.ensures)
 
 pub returns-then-s-at : goal.returns-then-s-at
-returns-then-s-at c = record {ending_value = (ends_end _ _ c.loop-c.invariant c.if-s-at.true).0; s_value = (ends_end _ _ c.loop-c.invariant c.if-s-at.true).1;}
+returns-then-s-at c = record { ending_value = (ends_end _ _ c.loop-c.invariant c.if-s-at.true).0; s_value = (ends_end _ _ c.loop-c.invariant c.if-s-at.true).1 }
 
 pub returns-in-Fault : goal.returns-in-Fault
 returns-in-Fault c =
     let missed = object_missed _ _ c.in-Fault.is c.object.ensures in
     let ends = ends_fault _ _ _ c.loop-c.invariant c.if-s-at.false missed in
-    record { ending_value = ends.0; s_value = ends.1; }
+    record { ending_value = ends.0; s_value = ends.1 }

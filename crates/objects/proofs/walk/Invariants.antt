@@ -1,10 +1,8 @@
 -- `objects::walk` meets its contract: at every turn the walk ends as the walk from here does.
 -- Assumes nothing.
 use Prim.Native.Nat.{◌-◌}
-use borrow.Author.Rules.{rules}
 use lib.ListN.{length}
-use Rattle.objects.proofs.Reading.{object_told, object_missed}
-use Rattle.objects.proofs.Walking.{Ends, ends_start, ends_on, ends_end, ends_fault, nearer}
+use Rattle.objects.proofs.Walking.{Ends}
 use Rattle.objects.proofs.walk.Given as goal
 
 abbrev pub invariant-loop-c : goal.invariant-loop-c

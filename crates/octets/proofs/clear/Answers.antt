@@ -1,9 +1,7 @@
 -- `octets::clear` meets its contract: the loop copies zeros.
 -- Assumes nothing.
-use Prim.Native.Nat.{◌-◌}
 use native.Mathlib.Omega.{arith}
-use lib.ListN.{replicate}
-use Rattle.octets.proofs.Copies.{Copied, clear_none, clear_more, clear_all}
+use Rattle.octets.proofs.Copies.{clear_none, clear_more, clear_all}
 use Rattle.octets.proofs.clear.Goals as goal
 
 pub loop-i-init : goal.loop-i-init

@@ -1,9 +1,8 @@
 -- `octets::clear` meets its contract: the loop copies zeros.
 -- Assumes nothing.
 use Prim.Native.Nat.{◌-◌}
-use native.Mathlib.Omega.{arith}
 use lib.ListN.{replicate}
-use Rattle.octets.proofs.Copies.{Copied, clear_none, clear_more, clear_all}
+use Rattle.octets.proofs.Copies.{Copied}
 use Rattle.octets.proofs.clear.Given as goal
 
 abbrev pub invariant-loop-i : goal.invariant-loop-i

@@ -5,7 +5,6 @@ use mathlib.Core.Path.{ap, ◌∙◌}
 use mathlib.Core.List.{List}
 use Rattle.octets.specs.Parts.{cleared}
 use Rattle.octets.proofs.Pastes.{cut_is}
-use borrow.Author.Rules.{rules}
 use Rattle.octets.proofs.cut.Goals as goal
 
 pub returns : goal.returns

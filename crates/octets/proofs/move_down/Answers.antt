@@ -1,9 +1,7 @@
 -- `octets::move_down` meets its contract: the loop copies the part from its front, and reads each byte before it is written over.
 -- Assumes nothing.
-use Prim.Native.Nat.{◌-◌}
 use native.Mathlib.Omega.{arith}
-use Rattle.octets.specs.Parts.{part}
-use Rattle.octets.proofs.Copies.{Copied, down_none, down_more, down_all}
+use Rattle.octets.proofs.Copies.{down_none, down_more, down_all}
 use Rattle.octets.proofs.move_down.Goals as goal
 
 pub loop-i-init : goal.loop-i-init

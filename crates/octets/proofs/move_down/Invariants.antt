@@ -1,9 +1,8 @@
 -- `octets::move_down` meets its contract: the loop copies the part from its front, and reads each byte before it is written over.
 -- Assumes nothing.
 use Prim.Native.Nat.{◌-◌}
-use native.Mathlib.Omega.{arith}
 use Rattle.octets.specs.Parts.{part}
-use Rattle.octets.proofs.Copies.{Copied, down_none, down_more, down_all}
+use Rattle.octets.proofs.Copies.{Copied}
 use Rattle.octets.proofs.move_down.Given as goal
 
 abbrev pub invariant-loop-i : goal.invariant-loop-i

@@ -1,8 +1,7 @@
 -- `octets::move_up` meets its contract: the loop copies the part from its end, and reads each byte before it is written over.
 -- Assumes nothing.
-use native.Mathlib.Omega.{arith}
 use Rattle.octets.specs.Parts.{part}
-use Rattle.octets.proofs.Copies.{CopiedBack, up_none, up_more, up_all}
+use Rattle.octets.proofs.Copies.{CopiedBack}
 use Rattle.octets.proofs.move_up.Given as goal
 
 abbrev pub invariant-loop-n : goal.invariant-loop-n

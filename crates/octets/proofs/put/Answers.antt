@@ -1,10 +1,7 @@
 -- `octets::put` meets its contract: the loop copies `s` from its front.
 -- Assumes nothing.
-use Prim.Native.Nat.{◌-◌}
 use mathlib.Core.Path.{refl}
-use native.Mathlib.Omega.{arith}
-use lib.ListN.{length}
-use Rattle.octets.proofs.Copies.{Copied, copied_none, copied_more, copied_all}
+use Rattle.octets.proofs.Copies.{copied_none, copied_more, copied_all}
 use Rattle.octets.proofs.put.Goals as goal
 
 pub loop-i-init : goal.loop-i-init

@@ -1,10 +1,8 @@
 -- `octets::put` meets its contract: the loop copies `s` from its front.
 -- Assumes nothing.
 use Prim.Native.Nat.{◌-◌}
-use mathlib.Core.Path.{refl}
-use native.Mathlib.Omega.{arith}
 use lib.ListN.{length}
-use Rattle.octets.proofs.Copies.{Copied, copied_none, copied_more, copied_all}
+use Rattle.octets.proofs.Copies.{Copied}
 use Rattle.octets.proofs.put.Given as goal
 
 abbrev pub invariant-loop-i : goal.invariant-loop-i

@@ -7,7 +7,6 @@ use lib.ListN.{get_or}
 use lib.Dec.{eqb}
 use lib.Pow.{pow_pos}
 use Rattle.rules.specs.Profile.{bit}
-use borrow.Author.Rules.{rules}
 use Rattle.profile.proofs.allowed.Goals as goal
 
 pub nonzero_div-result : goal.nonzero_div-result

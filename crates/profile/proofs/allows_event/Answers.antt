@@ -3,7 +3,6 @@
 use borrow.Author.Tests.{ne_eqb}
 use Rattle.rules.specs.Checks.{◌⇒◌else◌}
 use Rattle.rules.specs.Profile.{allows_event}
-use borrow.Author.Rules.{rules}
 use Rattle.profile.proofs.allows_event.Goals as goal
 
 pub returns-in-9 : goal.returns-in-9

@@ -2,7 +2,6 @@
 -- Assumes nothing.
 use mathlib.Core.Path.{refl}
 use Rattle.rules.specs.Profile.{channels}
-use borrow.Author.Rules.{rules}
 use Rattle.profile.proofs.channels_of.Goals as goal
 
 pub returns : goal.returns

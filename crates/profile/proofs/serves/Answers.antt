@@ -3,7 +3,6 @@
 use borrow.Author.Tests.{ne_eqb}
 use Rattle.rules.specs.Checks.{◌⇒◌else◌}
 use Rattle.rules.specs.Profile.{allows_bearer}
-use borrow.Author.Rules.{rules}
 use Rattle.profile.proofs.serves.Goals as goal
 
 pub returns-in-3 : goal.returns-in-3

@@ -3,7 +3,6 @@
 use native.Mathlib.Omega.{arith}
 use lib.ListN.{length-take}
 use Rattle.text.proofs.Printing.{front_size, written_printed, refusal_printed}
-use borrow.Author.Rules.{rules}
 use Rattle.text.proofs.print.Goals as goal
 
 pub slice_bounds-print_written-end : goal.slice_bounds-print_written-end

@@ -1,9 +1,8 @@
 -- `text::print_bytes` meets its contract: the loop copies two digits for each byte.
 -- Assumes nothing.
-use Prim.Native.Nat.{◌-◌}
 use native.Mathlib.Omega.{arith}
-use lib.ListN.{length, length-set}
-use Rattle.text.proofs.Printing.{Hexed, hexed_none, hexed_more, hexed_all}
+use lib.ListN.{length-set}
+use Rattle.text.proofs.Printing.{hexed_none, hexed_more, hexed_all}
 use Rattle.text.proofs.print_bytes.Goals as goal
 
 pub loop-i-init : goal.loop-i-init

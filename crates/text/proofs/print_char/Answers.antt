@@ -1,7 +1,6 @@
 -- `text::print_char` meets its contract: the character is stored.
 -- Assumes nothing.
 use Rattle.text.proofs.Printing.{char_printed}
-use borrow.Author.Rules.{rules}
 use Rattle.text.proofs.print_char.Goals as goal
 
 pub returns : goal.returns

@@ -3,7 +3,6 @@
 use native.Mathlib.Omega.{arith}
 use lib.ListN.{length}
 use Rattle.text.proofs.Printing.{zeros_few, digits_room, digits_printed}
-use borrow.Author.Rules.{rules}
 use Rattle.text.proofs.print_decimal.Goals as goal
 
 pub put_part-requires : goal.put_part-requires

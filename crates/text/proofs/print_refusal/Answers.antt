@@ -7,7 +7,6 @@ use Prim.Native.Nat.{ℕ}
 use Rattle.rules.specs.Lines.{decimal}
 use Rattle.rules.proofs.Told.{number_small}
 use Rattle.text.proofs.Printing.{refusal_few, refused_line}
-use borrow.Author.Rules.{rules}
 use Rattle.text.proofs.print_refusal.Goals as goal
 
 pub print_decimal-end-requires : goal.print_decimal-end-requires

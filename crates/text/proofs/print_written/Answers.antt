@@ -2,7 +2,6 @@
 -- Assumes nothing.
 use native.Mathlib.Omega.{arith}
 use Rattle.text.proofs.Printing.{value_few, prints_after}
-use borrow.Author.Rules.{rules}
 use Rattle.text.proofs.print_written.Goals as goal
 
 pub print_char-requires : goal.print_char-requires

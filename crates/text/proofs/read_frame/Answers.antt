@@ -1,16 +1,15 @@
 -- `text::read_frame` meets its contract: the loop copies the bytes of a line that is readable.
 -- Assumes nothing.
-use Prim.Native.Nat.{◌-◌}
 use native.Mathlib.Omega.{arith}
 use mathlib.Core.Path.{ap}
 use mathlib.Core.Bool.{not}
-use Rattle.text.proofs.Fills.{Fills, told_long, told_unread, fills_none, fills_digit, fills_small, fills_more, fills_all}
+use Rattle.text.proofs.Fills.{told_long, told_unread, fills_none, fills_digit, fills_small, fills_more, fills_all}
 use Rattle.text.proofs.read_frame.Goals as goal
 
 pub returns-then-line-gt-DIGITS : goal.returns-then-line-gt-DIGITS
 returns-then-line-gt-DIGITS c =
     let both = told_long c.args.line.now c.args.out.now (omega arith) in
-    record { value = both.0; out_after = both.1; }
+    record { value = both.0; out_after = both.1 }
 
 pub readable-requires : goal.readable-requires
 readable-requires c = tt
@@ -19,7 +18,7 @@ pub returns-then-not-readable : goal.returns-then-not-readable
 returns-then-not-readable c =
     let not_so = ap not c.if-not-readable.true in
     let both = told_unread c.args.line.now c.args.out.now c.readable.result (omega arith) c.readable.ensures not_so in
-    record { value = both.0; out_after = both.1; }
+    record { value = both.0; out_after = both.1 }
 
 pub loop-i-init : goal.loop-i-init
 loop-i-init c = search fills_none
@@ -65,4 +64,4 @@ pub shape_of-out : goal.shape_of-out
 shape_of-out c = omega arith
 
 pub returns : goal.returns
-returns c = record {value = (fills_all _ _ _ _ c.loop-i.invariant c.loop-i-test.false).0; out_after = (fills_all _ _ _ _ c.loop-i.invariant c.loop-i-test.false).1;}
+returns c = record { value = (fills_all _ _ _ _ c.loop-i.invariant c.loop-i-test.false).0; out_after = (fills_all _ _ _ _ c.loop-i.invariant c.loop-i-test.false).1 }

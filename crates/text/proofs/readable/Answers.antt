@@ -1,9 +1,7 @@
 -- `text::readable` meets its contract: at every turn the characters before here are digits in pairs.
 -- Assumes nothing.
-use Prim.Native.Nat.{◌-◌}
 use native.Mathlib.Omega.{arith}
-use lib.ListN.{length}
-use Rattle.text.proofs.Bytes.{Pairs, pairs_none, pairs_end, pairs_odd, no_first, no_second, pairs_more}
+use Rattle.text.proofs.Bytes.{pairs_none, pairs_end, pairs_odd, no_first, no_second, pairs_more}
 use Rattle.text.proofs.readable.Goals as goal
 
 pub loop-i-init : goal.loop-i-init

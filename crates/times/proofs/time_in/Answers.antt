@@ -1,6 +1,5 @@
 -- `times::time_in` meets its contract: each byte in its place.
 -- Assumes nothing.
-use borrow.Author.Rules.{rules}
 use Rattle.rules.specs.Timers.{time_in}
 use Rattle.times.proofs.time_in.Goals as goal
 

@@ -2,7 +2,6 @@
 -- Assumes nothing.
 use native.Mathlib.Omega.{arith}
 use Rattle.rules.specs.Pool.{cells}
-use borrow.Author.Rules.{rules}
 use Rattle.pool.proofs.Pool.cells.Goals as goal
 
 pub returns : goal.returns

@@ -5,7 +5,6 @@ use mathlib.Core.Path.{sym, subst, ap, ◌∙◌}
 use native.Mathlib.Omega.{arith}
 use Rattle.rules.specs.Pool.{cells}
 use Rattle.rules.proofs.Grants.{grant_whole, grant_half}
-use borrow.Author.Rules.{rules}
 use Rattle.pool.proofs.Pool.grant.Goals as goal
 
 pub overflow_mul-cells : goal.overflow_mul-cells

@@ -11,4 +11,4 @@ overflow_mul-result c = omega arith
 
 pub returns : goal.returns
 unfolding cells
-returns c = record {value = search rules; upper_bound = omega arith;}
+returns c = record { value = search rules; upper_bound = omega arith }
