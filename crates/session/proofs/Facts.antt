@@ -258,15 +258,15 @@ module _ (t p : List ℕ) (n : ChannelNumber) (h : Numbered t p n) where
       }
 
   -- what stands before the channel's numbers, and behind them
-  abbrev front_of_lem : List ℕ
-  front_of_lem = before a sound.thirteen sound.eight n place
+  abbrev front_of : List ℕ
+  front_of = before a sound.thirteen sound.eight n place
 
   abbrev rest_of : List ℕ
   rest_of = behind a sound.thirteen sound.eight n place
 
   -- the ledger with the numbers of another channel, and the unpromised cells as they were; a channel of the same grant leaves them
   abbrev with_numbers : Chan → List ℕ
-  with_numbers d = front_of_lem ++ (chan_numbers d ++ rest_of)
+  with_numbers d = front_of ++ (chan_numbers d ++ rest_of)
 
   same_cells : (d : Chan) → d.grant ≡ c.grant → with_numbers d ≡ ledger_of (with_chan a n d)
   same_cells d g = ledger_same a sound.thirteen sound.eight n place d g
@@ -276,10 +276,10 @@ module _ (t p : List ℕ) (n : ChannelNumber) (h : Numbered t p n) where
   unfolding with_entry chan_numbers queue
   entry_written d e r same =
       let x = places c.receive.lengths ++ places c.send.lengths in
-      (λ i. pasted ((table_is ∙ ledger_parts a sound.thirteen sound.eight n place ∙ ap (λ (l : List ℕ). front_of_lem ++ l) (append_assoc (numbers_of (entry c)) x rest_of)) i) (entry_at (n.0 - 1)) (numbers_of (r i)))
-      ∙ paste_parts front_of_lem (numbers_of (entry c)) (x ++ rest_of) (numbers_of (entry d)) (entry_at (n.0 - 1)) (before_size a sound.thirteen sound.eight n place) refl
-      ∙ ap (λ (l : List ℕ). front_of_lem ++ l) (sym (append_assoc (numbers_of (entry d)) x rest_of))
-      ∙ (λ i. front_of_lem ++ ((numbers_of (entry d) ++ (places (sym (same Receive) i) ++ places (sym (same Send) i))) ++ rest_of))
+      (λ i. pasted ((table_is ∙ ledger_parts a sound.thirteen sound.eight n place ∙ ap (λ (l : List ℕ). front_of ++ l) (append_assoc (numbers_of (entry c)) x rest_of)) i) (entry_at (n.0 - 1)) (numbers_of (r i)))
+      ∙ paste_parts front_of (numbers_of (entry c)) (x ++ rest_of) (numbers_of (entry d)) (entry_at (n.0 - 1)) (before_size a sound.thirteen sound.eight n place) refl
+      ∙ ap (λ (l : List ℕ). front_of ++ l) (sym (append_assoc (numbers_of (entry d)) x rest_of))
+      ∙ (λ i. front_of ++ ((numbers_of (entry d) ++ (places (sym (same Receive) i) ++ places (sym (same Send) i))) ++ rest_of))
 
   pub entry_size_lem : (e : Channel) (v : List ℕ) → v ≡ with_entry t n e → length v ≡ ledger_size
   unfolding with_entry
@@ -305,16 +305,16 @@ module _ (t p : List ℕ) (n : ChannelNumber) (h : Numbered t p n) where
     abbrev at_way : ℕ
     at_way = lengths_at n w
 
-    in_parts : with_numbers d ≡ way_front front_of_lem d w ++ (places ls ++ way_rest rest_of d w)
-    in_parts = way_parts front_of_lem rest_of d w
+    in_parts : with_numbers d ≡ way_front front_of d w ++ (places ls ++ way_rest rest_of d w)
+    in_parts = way_parts front_of rest_of d w
 
-    front_size : length (way_front front_of_lem d w) ≡ at_way
-    front_size = way_size front_of_lem d (entry_at (n.0 - 1)) w (before_size a sound.thirteen sound.eight n place)
+    front_size : length (way_front front_of d w) ≡ at_way
+    front_size = way_size front_of d (entry_at (n.0 - 1)) w (before_size a sound.thirteen sound.eight n place)
 
     -- the lengths are read
     lengths_there : lengths_in (with_numbers d) n w ≡ ls
     lengths_there =
-        ap (λ (u : List ℕ). lengths_from place_count (drop at_way u)) in_parts ∙ way_read (way_front front_of_lem d w) (way_rest rest_of d w) ls at_way front_size (some w) (few w)
+        ap (λ (u : List ℕ). lengths_from place_count (drop at_way u)) in_parts ∙ way_read (way_front front_of d w) (way_rest rest_of d w) ls at_way front_size (some w) (few w)
 
     -- one length more, and fewer bytes of the first
     more_written : (k : ℕ) → length ls + min 1 k ≤ place_count → with_length (with_numbers d) n w k ≡ with_numbers (with_queue d w (counting (queue d w) k))
@@ -322,15 +322,15 @@ module _ (t p : List ℕ) (n : ChannelNumber) (h : Numbered t p n) where
     more_written zero h = ap with_numbers (sym (same_queue d w))
     more_written (suc k) h =
         (λ i. set (in_parts i) (at_way + length (lengths_there i)) (suc k))
-        ∙ way_more (way_front front_of_lem d w) (way_rest rest_of d w) ls at_way front_size k (omega arith)
-        ∙ sym (other_lengths front_of_lem rest_of d w (another ls (suc k)))
+        ∙ way_more (way_front front_of d w) (way_rest rest_of d w) ls at_way front_size k (omega arith)
+        ∙ sym (other_lengths front_of rest_of d w (another ls (suc k)))
 
     less_written : (k : ℕ) → less_length (with_numbers d) n w k ≡ with_numbers (with_queue d w (record { bytes = held d w; lengths = lessened ls k }))
     unfolding less_length
     less_written k =
         (λ i. ltb k (get_or (in_parts i) at_way 0) ⇒ set (in_parts i) at_way (get_or (in_parts i) at_way 0 - k) else pasted (in_parts i) at_way (part (at_way + 1) (at_way + place_count) (in_parts i) ++ 0 ∷ []))
-        ∙ way_less (way_front front_of_lem d w) (way_rest rest_of d w) ls at_way front_size k (few w)
-        ∙ sym (other_lengths front_of_lem rest_of d w (lessened ls k))
+        ∙ way_less (way_front front_of d w) (way_rest rest_of d w) ls at_way front_size k (few w)
+        ∙ sym (other_lengths front_of rest_of d w (lessened ls k))
 
   -- the lengths of the channel itself
   own_some : (w : Way) → Some (queue c w).lengths
@@ -342,13 +342,13 @@ module _ (t p : List ℕ) (n : ChannelNumber) (h : Numbered t p n) where
   -- the first length, and the last place, as the ledger has them
   pub first_read : (w : Way) → get_or t (lengths_at n w) 0 ≡ first (queue c w).lengths
   first_read w =
-      ap (λ (u : List ℕ). get_or u (lengths_at n w) 0) (table_is ∙ ledger_parts a sound.thirteen sound.eight n place ∙ way_parts front_of_lem rest_of c w)
-      ∙ way_first (way_front front_of_lem c w) (way_rest rest_of c w) (queue c w).lengths (lengths_at n w) (way_size front_of_lem c (entry_at (n.0 - 1)) w (before_size a sound.thirteen sound.eight n place))
+      ap (λ (u : List ℕ). get_or u (lengths_at n w) 0) (table_is ∙ ledger_parts a sound.thirteen sound.eight n place ∙ way_parts front_of rest_of c w)
+      ∙ way_first (way_front front_of c w) (way_rest rest_of c w) (queue c w).lengths (lengths_at n w) (way_size front_of c (entry_at (n.0 - 1)) w (before_size a sound.thirteen sound.eight n place))
 
   pub last_read : (w : Way) → ltb 0 (get_or t (lengths_at n w + 15) 0) ≡ leb place_count (length (queue c w).lengths)
   last_read w =
-      ap (λ (u : List ℕ). ltb 0 (get_or u (lengths_at n w + 15) 0)) (table_is ∙ ledger_parts a sound.thirteen sound.eight n place ∙ way_parts front_of_lem rest_of c w)
-      ∙ ap (ltb 0) (way_get (way_front front_of_lem c w) (way_rest rest_of c w) (queue c w).lengths (lengths_at n w) (way_size front_of_lem c (entry_at (n.0 - 1)) w (before_size a sound.thirteen sound.eight n place)) 15 (omega arith))
+      ap (λ (u : List ℕ). ltb 0 (get_or u (lengths_at n w + 15) 0)) (table_is ∙ ledger_parts a sound.thirteen sound.eight n place ∙ way_parts front_of rest_of c w)
+      ∙ ap (ltb 0) (way_get (way_front front_of c w) (way_rest rest_of c w) (queue c w).lengths (lengths_at n w) (way_size front_of c (entry_at (n.0 - 1)) w (before_size a sound.thirteen sound.eight n place)) 15 (omega arith))
       ∙ places_last (queue c w).lengths (own_some w) (own_few w)
 
   -- what the channel carries, by the number that its entry has
@@ -542,15 +542,15 @@ module _ (t p : List ℕ) (n : ChannelNumber) (h : Numbered t p n) where
       let y = places c.receive.lengths ++ places c.send.lengths in
       let size = length-append (places c.receive.lengths) (places c.send.lengths) in
       let b = before_size a sound.thirteen sound.eight n place in
-      let fs = length-append front_of_lem six in
+      let fs = length-append front_of six in
       let cleared : w ≡ with_numbers closed =
       eʷ
       ∙ ap (λ (l : List ℕ). pasted l (lengths_at n Receive) (replicate 32 0))
       (eᵛ
-      ∙ (λ i. pasted ((table_is ∙ ledger_parts a sound.thirteen sound.eight n place ∙ ap (λ (l : List ℕ). front_of_lem ++ l) (append_assoc (numbers_of (entry c)) y rest_of)) i) (entry_at (n.0 - 1)) six)
-      ∙ paste_parts front_of_lem (numbers_of (entry c)) (y ++ rest_of) six (entry_at (n.0 - 1)) b refl ∙ sym (append_assoc front_of_lem six (y ++ rest_of)))
-      ∙ paste_parts (front_of_lem ++ six) y rest_of (replicate 32 0) (lengths_at n Receive) (omega arith) (omega (arith, size, places_size c.receive.lengths, places_size c.send.lengths))
-      ∙ append_assoc front_of_lem six (replicate 32 0 ++ rest_of) ∙ sym (ap (λ (l : List ℕ). front_of_lem ++ (l ++ rest_of)) closed_numbers)
+      ∙ (λ i. pasted ((table_is ∙ ledger_parts a sound.thirteen sound.eight n place ∙ ap (λ (l : List ℕ). front_of ++ l) (append_assoc (numbers_of (entry c)) y rest_of)) i) (entry_at (n.0 - 1)) six)
+      ∙ paste_parts front_of (numbers_of (entry c)) (y ++ rest_of) six (entry_at (n.0 - 1)) b refl ∙ sym (append_assoc front_of six (y ++ rest_of)))
+      ∙ paste_parts (front_of ++ six) y rest_of (replicate 32 0) (lengths_at n Receive) (omega arith) (omega (arith, size, places_size c.receive.lengths, places_size c.send.lengths))
+      ∙ append_assoc front_of six (replicate 32 0 ++ rest_of) ∙ sym (ap (λ (l : List ℕ). front_of ++ (l ++ rest_of)) closed_numbers)
       in
       let free : f + 2 * k ≡ unpromised (with_chan a n closed) = (λ i. eᶠ i + 2 * (eᵏ ∙ ap cells (eᵍ ∙ grant_is)) i) ∙ sym freed in
       record {

@@ -1,0 +1,8 @@
+-- `radio::tell_arrival` meets its contract: what is put in is the event.
+-- Assumes nothing.
+use mathlib.Core.Path.{◌∙◌}
+use Rattle.radio.proofs.Ends.{arrival_event_lem}
+use Rattle.radio.proofs.tell_arrival.Goals as goal
+
+pub returns : goal.returns
+returns c = c.put.ensures ∙ arrival_event_lem c.args.out.now c.args.n c.args.count _ c.capped.ensures
