@@ -1,8 +1,5 @@
 -- `mending::length_at` meets its contract: each answer is that of the law for its case.
 -- Assumes nothing.
-use native.Mathlib.Omega.{arith}
-use Prim.Native.Nat.{◌+◌}
-use borrow.Author.Rules.{rules}
 use Rattle.mending.proofs.Reading.{length_none, length_short, length_other, second_none, long_short, long_length_lem}
 use Rattle.mending.proofs.length_at.Goals as goal
 
@@ -20,9 +17,6 @@ returns-then-s-next c = search second_none
 
 pub returns-then-c-lt128 : goal.returns-then-c-lt128
 returns-then-c-lt128 c = search long_short
-
-pub overflow_cast-result-2 : goal.overflow_cast-result-2
-overflow_cast-result-2 c = omega (arith, c.shared_slice_known-2-1.given (c.args.at + 1))
 
 pub returns : goal.returns
 returns c = search long_length_lem

@@ -1,13 +1,10 @@
 -- `mending::mend_objects` meets its contract: at every turn what comes out from here on is left to be written.
 -- Assumes nothing.
-use Prim.Native.Nat.{◌-◌}
 use mathlib.Core.Path.{ap}
 use native.Mathlib.Omega.{arith}
-use lib.ListN.{length, drop}
-use borrow.Author.Rules.{rules}
-use Rattle.mending.specs.Mends.{Mended, mend_from}
+use Rattle.mending.specs.Mends.{Mended}
 use Rattle.mending.proofs.Reading.{object_told, object_missed}
-use Rattle.mending.proofs.Left.{Left, left_whole, left_none, bytes_room, end_bytes, tag_put, kept_put, object_room, object_left}
+use Rattle.mending.proofs.Left.{left_whole, left_none, bytes_room, end_bytes, tag_put, kept_put, object_room, object_left}
 use Rattle.mending.proofs.mend_objects.Goals as goal
 
 pub loop-at-init : goal.loop-at-init

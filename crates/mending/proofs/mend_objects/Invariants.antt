@@ -1,13 +1,9 @@
 -- `mending::mend_objects` meets its contract: at every turn what comes out from here on is left to be written.
 -- Assumes nothing.
 use Prim.Native.Nat.{◌-◌}
-use mathlib.Core.Path.{ap}
-use native.Mathlib.Omega.{arith}
 use lib.ListN.{length, drop}
-use borrow.Author.Rules.{rules}
-use Rattle.mending.specs.Mends.{Mended, mend_from}
-use Rattle.mending.proofs.Reading.{object_told, object_missed}
-use Rattle.mending.proofs.Left.{Left, left_whole, left_none, bytes_room, end_bytes, tag_put, kept_put, object_room, object_left}
+use Rattle.mending.specs.Mends.{mend_from}
+use Rattle.mending.proofs.Left.{Left}
 use Rattle.mending.proofs.mend_objects.Given as goal
 
 abbrev pub invariant-loop-at : goal.invariant-loop-at

@@ -1,6 +1,5 @@
 -- `mending::object_at` meets its contract: each answer is that of the law for its case.
 -- Assumes nothing.
-use borrow.Author.Rules.{rules}
 use Rattle.objects.proofs.Reading.{tag_told, tag_missed}
 use Rattle.mending.proofs.Reading.{length_told, length_within, length_missed, object_untagged, object_unsized, object_cut, object_stands}
 use Rattle.mending.proofs.object_at.Goals as goal

@@ -1,7 +1,6 @@
 -- `mending::print_behind` meets its contract: R16 for no object and for too many bytes, else the frame and its changes.
 -- Assumes nothing.
 use native.Mathlib.Omega.{arith}
-use borrow.Author.Rules.{rules}
 use Rattle.mending.proofs.Left.{front_size}
 use Rattle.mending.proofs.Lines.{none_left_told, too_long_told, frame_few, outer_few, changes_few, mended_told}
 use Rattle.mending.proofs.print_behind.Goals as goal

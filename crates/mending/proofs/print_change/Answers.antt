@@ -1,6 +1,5 @@
 -- `mending::print_change` meets its contract: a blank, the letter and the place.
 -- Assumes nothing.
-use borrow.Author.Rules.{rules}
 use Rattle.mending.proofs.Left.{change_printed}
 use Rattle.mending.proofs.print_change.Goals as goal
 

@@ -1,14 +1,10 @@
 -- `mending::print_changes` meets its contract: at every turn the text of the changes from here on is left to be printed.
 -- Assumes nothing.
 use Prim.Native.Nat.{◌-◌}
-use mathlib.Core.Path.{refl}
-use native.Mathlib.Omega.{arith}
 use lib.ListN.{length, drop}
-use borrow.Author.Rules.{rules}
 use Rattle.mending.specs.Mends.{mend_from}
 use Rattle.mending.specs.Printed.{changes_text}
-use Rattle.mending.proofs.Reading.{object_told, object_missed}
-use Rattle.mending.proofs.Left.{Left, left_whole, left_more, left_none, end_text, object_text_lem, cut_text, object_text_room, cut_text_room}
+use Rattle.mending.proofs.Left.{Left}
 use Rattle.mending.proofs.print_changes.Given as goal
 
 abbrev pub invariant-loop-at : goal.invariant-loop-at

@@ -5,7 +5,6 @@ use mathlib.Core.Path.{ap, ◌∙◌}
 use mathlib.Core.List.{List}
 use native.Mathlib.Omega.{arith}
 use lib.ListN.{length}
-use borrow.Author.Rules.{rules}
 use Rattle.rules.specs.Lines.{hex}
 use Rattle.text.proofs.Printing.{hex_size}
 use Rattle.mending.proofs.Left.{front_is, front_size, head_few, framing_printed}

@@ -1,6 +1,5 @@
 -- `mending::print_mended` meets its contract: R9 for no bytes, R16 for another head, else what is behind it.
 -- Assumes nothing.
-use borrow.Author.Rules.{rules}
 use Rattle.mending.proofs.Reading.{length_told, length_missed}
 use Rattle.mending.proofs.Lines.{blank_told, other_told, unsized_told, sized_told}
 use Rattle.mending.proofs.print_mended.Goals as goal

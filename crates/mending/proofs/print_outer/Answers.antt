@@ -1,7 +1,6 @@
 -- `mending::print_outer` meets its contract: L for another number and for the longer form, or nothing.
 -- Assumes nothing.
 use native.Mathlib.Omega.{arith}
-use borrow.Author.Rules.{rules}
 use Rattle.text.proofs.Printing.{prints_as, decimal_few}
 use Rattle.mending.proofs.Left.{prints_none, other_text, longer_text, right_text}
 use Rattle.mending.proofs.print_outer.Goals as goal

@@ -4,7 +4,6 @@ use Prim.Native.Nat.{ℕ, ◌+◌, ◌≤◌}
 use mathlib.Core.Path.{sym, subst}
 use mathlib.Core.List.{List}
 use lib.ListN.{length}
-use borrow.Author.Rules.{rules}
 use Rattle.text.proofs.Printing.{prints_as}
 use Rattle.mending.proofs.Left.{prints_none, shortened_text_lem, kept_text}
 use Rattle.mending.proofs.print_shortened.Goals as goal

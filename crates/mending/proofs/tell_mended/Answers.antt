@@ -5,7 +5,6 @@ use native.Mathlib.Omega.{arith}
 use Rattle.text.proofs.Bounds.{frame_read, frame_unread}
 use Rattle.text.proofs.Printing.{prints_as}
 use Rattle.mending.specs.Printed.{frame_line, mend_line}
-use borrow.Author.Rules.{rules}
 use Rattle.mending.proofs.tell_mended.Goals as goal
 
 pub slice_bounds-frame-end : goal.slice_bounds-frame-end
