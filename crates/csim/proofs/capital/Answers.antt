@@ -1,7 +1,6 @@
 -- `csim::capital` meets its contract: below the small letters, above them, and one of them.
 -- Assumes nothing.
 use Rattle.csim.proofs.Scans.{capital_below, capital_above, capital_letter}
-use borrow.Author.Rules.{rules}
 use Rattle.csim.proofs.capital.Goals as goal
 
 pub returns-then-c-lt97 : goal.returns-then-c-lt97

@@ -1,10 +1,7 @@
 -- `csim::clean` meets its contract: at every turn the characters before here stand in the buffer without their blanks.
 -- Assumes nothing.
-use Prim.Native.Nat.{◌-◌}
 use native.Mathlib.Omega.{arith}
-use lib.ListN.{length}
-use Rattle.csim.proofs.Scans.{Cleaning, cleaning_none, cleaning_few, cleaning_same, cleaning_room, cleaning_blank, cleaning_more, cleaning_end}
-use borrow.Author.Rules.{rules}
+use Rattle.csim.proofs.Scans.{cleaning_none, cleaning_few, cleaning_same, cleaning_room, cleaning_blank, cleaning_more, cleaning_end}
 use Rattle.csim.proofs.clean.Goals as goal
 
 pub loop-i-init : goal.loop-i-init

@@ -1,10 +1,8 @@
 -- `csim::clean` meets its contract: at every turn the characters before here stand in the buffer without their blanks.
 -- Assumes nothing.
 use Prim.Native.Nat.{◌-◌}
-use native.Mathlib.Omega.{arith}
 use lib.ListN.{length}
-use Rattle.csim.proofs.Scans.{Cleaning, cleaning_none, cleaning_few, cleaning_same, cleaning_room, cleaning_blank, cleaning_more, cleaning_end}
-use borrow.Author.Rules.{rules}
+use Rattle.csim.proofs.Scans.{Cleaning}
 use Rattle.csim.proofs.clean.Given as goal
 
 abbrev pub invariant-loop-i : goal.invariant-loop-i

@@ -1,9 +1,7 @@
 -- `csim::count_digits` meets its contract: at every turn the characters before here are digits.
 -- Assumes nothing.
-use Prim.Native.Nat.{◌-◌}
 use native.Mathlib.Omega.{arith}
-use lib.ListN.{length}
-use Rattle.csim.proofs.Scans.{Digits, digits_none, digits_low, digits_high, digits_more, digits_end}
+use Rattle.csim.proofs.Scans.{digits_none, digits_low, digits_high, digits_more, digits_end}
 use Rattle.csim.proofs.count_digits.Goals as goal
 
 pub loop-i-init : goal.loop-i-init

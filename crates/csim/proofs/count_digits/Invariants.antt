@@ -1,9 +1,8 @@
 -- `csim::count_digits` meets its contract: at every turn the characters before here are digits.
 -- Assumes nothing.
 use Prim.Native.Nat.{◌-◌}
-use native.Mathlib.Omega.{arith}
 use lib.ListN.{length}
-use Rattle.csim.proofs.Scans.{Digits, digits_none, digits_low, digits_high, digits_more, digits_end}
+use Rattle.csim.proofs.Scans.{Digits}
 use Rattle.csim.proofs.count_digits.Given as goal
 
 abbrev pub invariant-loop-i : goal.invariant-loop-i

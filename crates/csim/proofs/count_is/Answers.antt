@@ -8,7 +8,6 @@ use Rattle.text.proofs.Printing.{decimal_few}
 use Rattle.csim.proofs.Decimals.{other_size, same_size}
 use Rattle.csim.proofs.Telling.{front}
 use Rattle.csim.specs.Kinds.{leads}
-use borrow.Author.Rules.{rules}
 use Rattle.csim.proofs.count_is.Goals as goal
 
 pub print_decimal-size-requires : goal.print_decimal-size-requires

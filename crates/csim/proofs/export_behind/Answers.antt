@@ -7,7 +7,6 @@ use Rattle.csim.specs.Printed.{csim_line}
 use Rattle.csim.proofs.Scans.{leads_size}
 use Rattle.csim.proofs.Telling.{behind_told}
 use Rattle.csim.specs.Kinds.{lead_of}
-use borrow.Author.Rules.{rules}
 use Rattle.csim.proofs.export_behind.Goals as goal
 
 pub slice_bounds-read_frame-count : goal.slice_bounds-read_frame-count

@@ -1,7 +1,6 @@
 -- `csim::export_frame` meets its contract: no bytes, too many, or its line.
 -- Assumes nothing.
 use Rattle.csim.proofs.Telling.{empty_told, long_told, export_told}
-use borrow.Author.Rules.{rules}
 use Rattle.csim.proofs.export_frame.Goals as goal
 
 pub returns-then-s-eq0 : goal.returns-then-s-eq0

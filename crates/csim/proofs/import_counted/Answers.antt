@@ -4,7 +4,6 @@ use mathlib.Core.Path.{sym, ◌∙◌}
 use native.Mathlib.Omega.{arith}
 use Rattle.text.proofs.Bounds.{frame_read, frame_unread}
 use Rattle.csim.proofs.Telling.{short_frame, bytes_double, padded_told, frame_told_lem, unread_told}
-use borrow.Author.Rules.{rules}
 use Rattle.csim.proofs.import_counted.Goals as goal
 
 pub returns-then-is_padded : goal.returns-then-is_padded

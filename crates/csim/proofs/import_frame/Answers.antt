@@ -1,7 +1,6 @@
 -- `csim::import_frame` meets its contract: by its header.
 -- Assumes nothing.
 use Rattle.csim.proofs.Telling.{as_profile, as_response, as_envelope, unheaded}
-use borrow.Author.Rules.{rules}
 use Rattle.csim.proofs.import_frame.Goals as goal
 
 pub returns-then-is_headed : goal.returns-then-is_headed

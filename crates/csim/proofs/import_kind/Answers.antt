@@ -5,7 +5,6 @@ use lib.ListN.{length-take}
 use lib.ListN.{length, drop}
 use Prim.Native.Nat.{◌-◌}
 use Rattle.csim.proofs.Telling.{no_data, miscounted, misstated, fitting}
-use borrow.Author.Rules.{rules}
 use Rattle.csim.proofs.import_kind.Goals as goal
 
 pub returns-then-n-lt-LEAST : goal.returns-then-n-lt-LEAST

@@ -4,7 +4,6 @@ use mathlib.Core.Path.{ap, ◌∙◌}
 use mathlib.Core.List.{[], ◌∷◌}
 use Prim.Native.Nat.{ℕ}
 use Rattle.csim.specs.Kinds.{leads}
-use borrow.Author.Rules.{rules}
 use Rattle.csim.proofs.is_headed.Goals as goal
 
 pub returns : goal.returns

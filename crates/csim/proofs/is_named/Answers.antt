@@ -5,7 +5,6 @@ use mathlib.Core.List.{List}
 use Prim.Native.Nat.{ℕ}
 use Rattle.csim.proofs.Telling.{front}
 use Rattle.csim.specs.Kinds.{leads}
-use borrow.Author.Rules.{rules}
 use Rattle.csim.proofs.is_named.Goals as goal
 
 pub slice_bounds-lead-end : goal.slice_bounds-lead-end

@@ -1,9 +1,7 @@
 -- `csim::leads` meets its contract: at every turn the characters before here are the same.
 -- Assumes nothing.
-use Prim.Native.Nat.{◌-◌}
 use native.Mathlib.Omega.{arith}
-use lib.ListN.{length}
-use Rattle.csim.proofs.Scans.{Agree, agree_none, agree_end, agree_not, agree_more, leads_short}
+use Rattle.csim.proofs.Scans.{agree_none, agree_end, agree_not, agree_more, leads_short}
 use Rattle.csim.proofs.leads.Goals as goal
 
 pub returns-then-t-s : goal.returns-then-t-s

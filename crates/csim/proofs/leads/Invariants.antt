@@ -1,9 +1,8 @@
 -- `csim::leads` meets its contract: at every turn the characters before here are the same.
 -- Assumes nothing.
 use Prim.Native.Nat.{◌-◌}
-use native.Mathlib.Omega.{arith}
 use lib.ListN.{length}
-use Rattle.csim.proofs.Scans.{Agree, agree_none, agree_end, agree_not, agree_more, leads_short}
+use Rattle.csim.proofs.Scans.{Agree}
 use Rattle.csim.proofs.leads.Given as goal
 
 abbrev pub invariant-loop-i : goal.invariant-loop-i

@@ -6,7 +6,6 @@ use lib.ListN.{length}
 use Rattle.rules.specs.Lines.{hex}
 use Rattle.text.proofs.Printing.{decimal_few, hex_size}
 use Rattle.csim.proofs.Telling.{csim_printed}
-use borrow.Author.Rules.{rules}
 use Rattle.csim.proofs.print_csim.Goals as goal
 
 pub print_decimal-quote-requires : goal.print_decimal-quote-requires

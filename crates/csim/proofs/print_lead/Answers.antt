@@ -3,7 +3,6 @@
 use mathlib.Core.Path.{sym, ap}
 use Rattle.text.proofs.Printing.{prints_as}
 use Rattle.csim.specs.Kinds.{lead_of}
-use borrow.Author.Rules.{rules}
 use Rattle.csim.proofs.print_lead.Goals as goal
 
 pub returns-in-Profile : goal.returns-in-Profile

@@ -3,7 +3,6 @@
 use native.Mathlib.Omega.{arith}
 use Rattle.text.proofs.Printing.{hex_size}
 use Rattle.csim.proofs.Telling.{lead_few, record_printed}
-use borrow.Author.Rules.{rules}
 use Rattle.csim.proofs.print_record.Goals as goal
 
 pub print_bytes-end-requires : goal.print_bytes-end-requires

@@ -1,12 +1,9 @@
 -- `csim::shape_of` meets its contract: a law for each test.
 -- Assumes nothing.
-use Prim.Native.Nat.{◌+◌, ◌≤◌}
 use mathlib.Core.Path.{ap}
 use mathlib.Core.Bool.{not}
 use native.Mathlib.Omega.{arith}
-use lib.ListN.{length}
 use Rattle.csim.proofs.Shapes.{unopened, opened_long, uncounted, count_within, unquoted, quoted_long, unended, unclosed, closed}
-use borrow.Author.Rules.{rules}
 use Rattle.csim.proofs.shape_of.Goals as goal
 
 pub returns-then-not-leads : goal.returns-then-not-leads

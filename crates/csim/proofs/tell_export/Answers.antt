@@ -2,7 +2,6 @@
 -- Assumes nothing.
 use mathlib.Core.Path.{sym, ◌∙◌}
 use Rattle.csim.proofs.Telling.{export_long, export_profile, export_response, export_envelope, unnamed}
-use borrow.Author.Rules.{rules}
 use Rattle.csim.proofs.tell_export.Goals as goal
 
 pub returns-then-line-gt-DIGITS : goal.returns-then-line-gt-DIGITS

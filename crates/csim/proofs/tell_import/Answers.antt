@@ -5,7 +5,6 @@ use mathlib.Core.Path.{ap}
 use lib.ListN.{length}
 use Rattle.csim.proofs.Scans.{cleaned_few}
 use Rattle.csim.proofs.Telling.{front, import_long, import_told}
-use borrow.Author.Rules.{rules}
 use Rattle.csim.proofs.tell_import.Goals as goal
 
 pub returns-then-line-gt-DIGITS : goal.returns-then-line-gt-DIGITS
