@@ -1,0 +1,13 @@
+-- `mending::mend_objects` meets its contract: at every turn what comes out from here on is left to be written.
+-- Assumes nothing.
+use Prim.Native.Nat.{◌-◌}
+use lib.ListN.{length, drop}
+use Rattle.mending.specs.Mends.{mend_from}
+use Rattle.mending.proofs.Left.{Left}
+use Rattle.mending.proofs.mend_objects.Given as goal
+
+abbrev pub invariant-loop-at : goal.invariant-loop-at
+invariant-loop-at l = Left (mend_from l.from (drop l.from l.s)).bytes (mend_from l.at (drop l.at l.s)).bytes l.initial.out 0 l.out l.to
+
+abbrev pub decreases-loop-at : goal.decreases-loop-at
+decreases-loop-at l = length l.s - l.at
