@@ -130,7 +130,7 @@ module _ (p : ℕ) (s before : List ℕ) (i : ℕ) (after : List ℕ) (c : Place
   placed_has h = has_at p s i c.all h
 
   pub placed_room : i < length s → i < length after
-  placed_room h = let l = based_few p s c.all in omega (arith, c.copied.ranges, c.copied.same)
+  placed_room h = let l = based_few p s c.all in omega (arith, c.copied.fits, c.copied.same)
 
   pub placed_same : length after ≡ length before
   placed_same = c.copied.same
