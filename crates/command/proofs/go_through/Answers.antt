@@ -14,12 +14,6 @@ overflow_cast-starts c = omega (arith, c.requires.0, c.requires.1.stands.within)
 pub loop-counts-init : goal.loop-counts-init
 loop-counts-init c = sorting_start c.requires.1 c.requires.2
 
-pub object-requires : goal.object-requires
-object-requires c = tt
-
-pub slot-k-requires : goal.slot-k-requires
-slot-k-requires c = tt
-
 pub overflow_add-counts : goal.overflow_add-counts
 overflow_add-counts c = omega (arith, c.requires.0, c.loop-counts.invariant.few c.slot-k.result c.slot-k.ensures.1, c.loop-counts.invariant.ends.within)
 
@@ -27,18 +21,9 @@ pub overflow_cast-start : goal.overflow_cast-start
 overflow_cast-start c = let st = object_told c.in-Object.is c.object.ensures in
     omega (arith, c.requires.0, st.ends, st.within)
 
-pub first_of-requires : goal.first_of-requires
-first_of-requires c = tt
-
-pub times-requires : goal.times-requires
-times-requires c = tt
-
 pub fits-requires : goal.fits-requires
 fits-requires c = let st = object_told c.in-Object.is c.object.ensures in
     omega (arith, st.ends, st.within)
-
-pub note-survey-requires : goal.note-survey-requires
-note-survey-requires c = tt
 
 pub loop-counts-smaller : goal.loop-counts-smaller
 loop-counts-smaller c = nearer (object_told c.in-Object.is c.object.ensures)

@@ -1,7 +1,6 @@
 -- `command::plan_of` meets its contract: the plan of each type, tried against the rules, and none for a type that is not of the seven.
 -- Assumes nothing.
 use mathlib.Core.Path.{refl}
-use borrow.Author.Rules.{rules}
 use Rattle.rules.specs.Checks.{◌⇒◌else◌, every, some_of, member}
 use Rattle.rules.specs.Timers.{is_start}
 use Rattle.rules.specs.Table.{table, row_among, row_of, times, known}
@@ -15,10 +14,6 @@ pub timer_plan-requires : goal.timer_plan-requires
 unfolding allows_type rightly known table row_among row_of is_start times times_by besides_by every member some_of to_modem ◌⇒◌else◌
 timer_plan-requires c = c.in-39.is
 
-pub channel_plan-requires : goal.channel_plan-requires
-unfolding allows_type rightly known table row_among row_of is_start times times_by besides_by every member some_of to_modem ◌⇒◌else◌
-channel_plan-requires c = search rules
-
 pub returns-in-2 : goal.returns-in-2
 unfolding allows_type rightly known table row_among row_of is_start times times_by besides_by every member some_of to_modem ◌⇒◌else◌
 returns-in-2 c = plan_plain _ _ _ c.in-2.is (place_at _ _ _ c.in-2.is (λ q. refl) refl) refl refl refl
@@ -26,14 +21,6 @@ returns-in-2 c = plan_plain _ _ _ c.in-2.is (place_at _ _ _ c.in-2.is (λ q. ref
 pub returns-in-5 : goal.returns-in-5
 unfolding allows_type rightly known table row_among row_of is_start times times_by besides_by every member some_of to_modem ◌⇒◌else◌
 returns-in-5 c = plan_plain _ _ _ c.in-5.is (place_at _ _ _ c.in-5.is (λ q. refl) refl) refl refl refl
-
-pub returns-in-39 : goal.returns-in-39
-unfolding allows_type rightly known table row_among row_of is_start times times_by besides_by every member some_of to_modem ◌⇒◌else◌
-returns-in-39 c = search rules
-
-pub returns-in-64-to-68 : goal.returns-in-64-to-68
-unfolding allows_type rightly known table row_among row_of is_start times times_by besides_by every member some_of to_modem ◌⇒◌else◌
-returns-in-64-to-68 c = search rules
 
 pub returns-in_default : goal.returns-in_default
 unfolding allows_type rightly known table row_among row_of is_start times times_by besides_by every member some_of to_modem ◌⇒◌else◌

@@ -1,6 +1,5 @@
 -- `command::settle` meets its contract: step 8, and what is asked.
 -- Assumes nothing.
-use Prim.Native.Nat.{◌-◌}
 use native.Mathlib.Omega.{arith}
 use Rattle.command.proofs.Settling.{devices_within, own_behind, own_within, settle_wrong, settle_asked}
 use Rattle.command.proofs.settle.Goals as goal
@@ -19,9 +18,6 @@ overflow_sub-len c = own_behind c.requires
 
 pub bounds-s-start : goal.bounds-s-start
 bounds-s-start c = omega (arith, own_behind c.requires, own_within c.requires)
-
-pub overflow_cast-result : goal.overflow_cast-result
-overflow_cast-result c = omega (arith, c.shared_slice_known-4-1.given (c.args.v.own - 1))
 
 pub returns : goal.returns
 returns c = settle_asked c.requires c.is_addressed.ensures (mathlib.Core.Path.ap mathlib.Core.Bool.not c.if-not-is_addressed.false)

@@ -1,6 +1,7 @@
 -- `command::times` meets its contract: each line of the definition.
 -- Assumes nothing.
 use mathlib.Core.Path.{◌∙◌}
+use borrow.Author.Rules.{rules}
 use Rattle.command.proofs.Tables.{times_required, times_besides, besides_named, besides_once, besides_twice, besides_none}
 use Rattle.command.proofs.times.Goals as goal
 
@@ -17,4 +18,4 @@ pub returns-in-4 : goal.returns-in-4
 returns-in-4 c = times_besides _ _ c.required.ensures c.if-required.false (c.where_allowed-in-4.ensures ∙ besides_twice _ _ c.in-4.is)
 
 pub returns-in_default : goal.returns-in_default
-returns-in_default c = times_besides _ _ c.required.ensures c.if-required.false (besides_none _ _ c.in_default.in_default-own.rest)
+returns-in_default c = times_besides _ _ c.required.ensures c.if-required.false (besides_none _ _ (search rules))
