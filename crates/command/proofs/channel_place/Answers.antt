@@ -9,11 +9,8 @@ use Rattle.rules.specs.Profile.{bit, allows_type}
 use Rattle.rules.proofs.Laws.{skip}
 use Rattle.profile.specs.declared.Place.{Place}
 use Rattle.command.specs.Plans.{PlaceFor}
-use borrow.Author.Rules.{rules}
-use Rattle.command.proofs.channel_place.Statement.{statement}
-use Rattle.command.proofs.channel_place.Tie as tie
+use Rattle.command.proofs.channel_place.Goals as goal
 
--- the places of 40 to 44: byte 12, and the type less 3F
 channel_place : (p : Place) (d : Details) → 0x40 ≤ d.kind → d.kind ≤ 0x44 → p.byte ≡ 12 → p.bit ≡ d.kind - 0x3F → PlaceFor p d
 unfolding allows_type
 channel_place p d low high b k =
@@ -28,9 +25,5 @@ channel_place p d low high b k =
       bit_high = omega arith;
     }
 
-pub channel_place_spec : {M : Type 1} → statement M
-channel_place_spec =
-    tie.close
-    (tie.spec
-    (λ c. search rules)
-    (λ c. let s : tie.Start = search in channel_place _ s.args.d s.pre.0 s.pre.1 refl refl))
+pub returns : goal.returns
+returns c = channel_place _ c.args.d c.requires.0 c.requires.1 refl refl
