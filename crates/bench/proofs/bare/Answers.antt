@@ -4,13 +4,12 @@ use Rattle.rules.specs.Checks.{◌⇒◌else◌}
 use Rattle.rules.proofs.Laws.{checks}
 use Rattle.bench_writer.specs.Records.{body_of}
 use Rattle.bench.specs.Printed.{bare_body}
-use Rattle.bench.proofs.bare.Statement.{statement}
-use Rattle.bench.proofs.bare.Tie as tie
+use Rattle.bench.proofs.bare.Goals as goal
 
-pub bare_spec : {M : Type 1} → statement M
+pub returns-then-kind-eq65 : goal.returns-then-kind-eq65
 unfolding bare_body body_of ◌⇒◌else◌
-bare_spec =
-    tie.close
-    (tie.spec
-    (λ c s. search checks)
-    (λ c s. search checks))
+returns-then-kind-eq65 c = search checks
+
+pub returns : goal.returns
+unfolding bare_body body_of ◌⇒◌else◌
+returns c = search checks
