@@ -3,32 +3,11 @@
 use mathlib.Core.Bool.{not}
 use mathlib.Core.Path.{ap, ◌∙◌}
 use native.Mathlib.Omega.{arith}
-use borrow.Author.Rules.{rules}
 use borrow.Author.Tests.{ne_eqb}
 use Rattle.rules.specs.Checks.{◌⇒◌else◌}
 use Rattle.rules.specs.Bench.{error_proper}
 use Rattle.bench_reader.proofs.Results.{or_first, or_second}
 use Rattle.bench_reader.proofs.fits_error.Goals as goal
-
-pub asks_left-requires : goal.asks_left-requires
-unfolding error_proper ◌⇒◌else◌
-asks_left-requires c = search rules
-
-pub is_known-requires : goal.is_known-requires
-unfolding error_proper ◌⇒◌else◌
-is_known-requires c = search rules
-
-pub is_known-requires-in-49 : goal.is_known-requires-in-49
-unfolding error_proper ◌⇒◌else◌
-is_known-requires-in-49 c = search rules
-
-pub is_known-requires-in-54 : goal.is_known-requires-in-54
-unfolding error_proper ◌⇒◌else◌
-is_known-requires-in-54 c = search rules
-
-pub is_zero-requires : goal.is_zero-requires
-unfolding error_proper ◌⇒◌else◌
-is_zero-requires c = search rules
 
 pub returns-in-36 : goal.returns-in-36
 unfolding error_proper ◌⇒◌else◌

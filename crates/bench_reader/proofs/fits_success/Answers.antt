@@ -2,15 +2,10 @@
 -- Assumes nothing.
 use mathlib.Core.Path.{◌∙◌}
 use native.Mathlib.Omega.{arith}
-use borrow.Author.Rules.{rules}
 use Rattle.rules.specs.Checks.{◌⇒◌else◌}
 use Rattle.rules.specs.Bench.{success_proper}
 use Rattle.bench_reader.proofs.Results.{success_plain, no_success}
 use Rattle.bench_reader.proofs.fits_success.Goals as goal
-
-pub is_known-requires : goal.is_known-requires
-unfolding success_proper ◌⇒◌else◌
-is_known-requires c = search rules
 
 pub returns-in-2 : goal.returns-in-2
 unfolding success_proper ◌⇒◌else◌

@@ -4,7 +4,6 @@ use Prim.Native.Nat.{ℕ, ◌+◌}
 use mathlib.Core.Path.{ap, ◌∙◌}
 use native.Mathlib.Omega.{arith}
 use lib.ListN.{length}
-use borrow.Author.Rules.{rules}
 use borrow.Author.Tests.{leb-true}
 use Rattle.rules.specs.Bench.{body_proper, body_objects}
 use Rattle.rules.specs.Frames.{length_bytes, object_bytes, written}
@@ -13,45 +12,13 @@ use Rattle.bench_writer.specs.Records.{body_of}
 use Rattle.bench_writer.proofs.Fits.{level_sized, value_size, opening_size, bearer_sized}
 use Rattle.bench_writer.proofs.body_size.Goals as goal
 
-pub enum_told-1 : goal.enum_told-1
-unfolding body_proper written object_bytes length_bytes body_objects body_of ◌⇒◌else◌
-enum_told-1 c = search rules
-
-pub enum_told-in-EventList : goal.enum_told-in-EventList
-unfolding body_proper written object_bytes length_bytes body_objects body_of ◌⇒◌else◌
-enum_told-in-EventList c = search rules
-
 pub object_size-requires : goal.object_size-requires
 unfolding body_proper written object_bytes length_bytes body_objects body_of ◌⇒◌else◌
 object_size-requires c = leb-true _ _ (rw c.in-EventList.is at c.requires)
 
-pub enum_known-asking : goal.enum_known-asking
-unfolding body_proper written object_bytes length_bytes body_objects body_of ◌⇒◌else◌
-enum_known-asking c = search rules
-
-pub overflow_add-result : goal.overflow_add-result
-unfolding body_proper written object_bytes length_bytes body_objects body_of ◌⇒◌else◌
-overflow_add-result c = search rules
-
-pub level_size-requires : goal.level_size-requires
-unfolding body_proper written object_bytes length_bytes body_objects body_of ◌⇒◌else◌
-level_size-requires c = search rules
-
 pub overflow_add-result-in-Open : goal.overflow_add-result-in-Open
 unfolding body_proper body_of
 overflow_add-result-in-Open c = omega (arith, bearer_sized _ _ (rw c.in-Open.is at c.requires), c.level_size.ensures, level_sized c.in-Open.level)
-
-pub enum_told-in-Close : goal.enum_told-in-Close
-unfolding body_proper written object_bytes length_bytes body_objects body_of ◌⇒◌else◌
-enum_told-in-Close c = search rules
-
-pub enum_told-in-Receive : goal.enum_told-in-Receive
-unfolding body_proper written object_bytes length_bytes body_objects body_of ◌⇒◌else◌
-enum_told-in-Receive c = search rules
-
-pub enum_told-in-Send : goal.enum_told-in-Send
-unfolding body_proper written object_bytes length_bytes body_objects body_of ◌⇒◌else◌
-enum_told-in-Send c = search rules
 
 pub object_size-requires-in-Send : goal.object_size-requires-in-Send
 unfolding body_proper written object_bytes length_bytes body_objects body_of ◌⇒◌else◌

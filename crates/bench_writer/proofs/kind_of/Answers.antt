@@ -1,33 +1,8 @@
 -- `bench_writer::kind_of` meets its contract: an arm for each type.
 -- Assumes nothing.
-use borrow.Author.Rules.{rules}
 use Rattle.rules.specs.Reading.{kind_of}
 use Rattle.bench_writer.specs.Records.{body_of}
 use Rattle.bench_writer.proofs.kind_of.Goals as goal
-
-pub enum_known-asking : goal.enum_known-asking
-unfolding kind_of body_of
-enum_known-asking c = search rules
-
-pub enum_told-1 : goal.enum_told-1
-unfolding kind_of body_of
-enum_told-1 c = search rules
-
-pub enum_told-in-Open : goal.enum_told-in-Open
-unfolding kind_of body_of
-enum_told-in-Open c = search rules
-
-pub enum_told-in-Close : goal.enum_told-in-Close
-unfolding kind_of body_of
-enum_told-in-Close c = search rules
-
-pub enum_told-in-Receive : goal.enum_told-in-Receive
-unfolding kind_of body_of
-enum_told-in-Receive c = search rules
-
-pub enum_told-in-Send : goal.enum_told-in-Send
-unfolding kind_of body_of
-enum_told-in-Send c = search rules
 
 pub returns-in-Bare : goal.returns-in-Bare
 unfolding kind_of body_of

@@ -1,20 +1,11 @@
 -- `bench_writer::level_size` meets its contract.
 -- Assumes nothing.
-use borrow.Author.Rules.{rules}
 use Rattle.rules.specs.Bench.{transport_objects}
 use Rattle.rules.specs.Written.{pair_bytes}
 use Rattle.rules.specs.Frames.{length_bytes, object_bytes, written}
 use Rattle.rules.specs.Checks.{◌⇒◌else◌}
 use Rattle.bench_writer.specs.Records.{level_of}
 use Rattle.bench_writer.proofs.level_size.Goals as goal
-
-pub enum_told-1 : goal.enum_told-1
-unfolding written object_bytes length_bytes pair_bytes transport_objects level_of ◌⇒◌else◌
-enum_told-1 c = search rules
-
-pub enum_told-in-With : goal.enum_told-in-With
-unfolding written object_bytes length_bytes pair_bytes transport_objects level_of ◌⇒◌else◌
-enum_told-in-With c = search rules
 
 pub returns-in-Without : goal.returns-in-Without
 unfolding written object_bytes length_bytes pair_bytes transport_objects level_of ◌⇒◌else◌

@@ -3,7 +3,6 @@
 use mathlib.Core.List.{[], ◌∷◌}
 use native.Mathlib.Omega.{arith}
 use lib.ListN.{length}
-use borrow.Author.Rules.{rules}
 use borrow.Author.Tests.{leb-true}
 use Rattle.rules.specs.Bench.{body_proper, body_objects}
 use Rattle.rules.specs.Written.{flagged}
@@ -14,46 +13,14 @@ use Rattle.bench_writer.proofs.Writes.{unwritten, alone}
 use Rattle.bench_writer.proofs.Fits.{bearer_sized}
 use Rattle.bench_writer.proofs.write_body.Goals as goal
 
-pub enum_told-1 : goal.enum_told-1
-unfolding written body_objects body_of
-enum_told-1 c = search rules
-
-pub enum_told-in-EventList : goal.enum_told-in-EventList
-unfolding written body_objects body_of
-enum_told-in-EventList c = search rules
-
 pub write_object-requires : goal.write_object-requires
 unfolding body_proper body_of
 write_object-requires c = let l = leb-true (length c.args.bytes.now) _ (rw c.in-EventList.is at c.requires.1) in
     (omega (arith, l, c.requires.0), l)
 
-pub enum_known-asking : goal.enum_known-asking
-unfolding written body_objects body_of
-enum_known-asking c = search rules
-
 pub write_opening-requires : goal.write_opening-requires
 unfolding body_proper body_of
 write_opening-requires c = (c.requires.0, bearer_sized _ _ (rw c.in-Open.is at c.requires.1))
-
-pub enum_told-in-Close : goal.enum_told-in-Close
-unfolding written body_objects body_of
-enum_told-in-Close c = search rules
-
-pub enum_known-asking-in-Receive-1 : goal.enum_known-asking-in-Receive-1
-unfolding written body_objects body_of
-enum_known-asking-in-Receive-1 c = search rules
-
-pub slice_bounds-write_object-end : goal.slice_bounds-write_object-end
-unfolding written body_objects body_of
-slice_bounds-write_object-end c = search rules
-
-pub write_object-requires-in-Receive : goal.write_object-requires-in-Receive
-unfolding written body_objects body_of
-write_object-requires-in-Receive c = search rules
-
-pub enum_told-in-Send : goal.enum_told-in-Send
-unfolding written body_objects body_of
-enum_told-in-Send c = search rules
 
 pub write_object-requires-in-Send : goal.write_object-requires-in-Send
 unfolding body_proper body_of
@@ -64,17 +31,9 @@ pub returns-in-Bare : goal.returns-in-Bare
 unfolding written body_objects body_of
 returns-in-Bare c = rw c.in-Bare.is (unwritten _ _ (omega (arith, c.requires.0)))
 
-pub shape_of-out-in-EventList : goal.shape_of-out-in-EventList
-unfolding written body_objects body_of
-shape_of-out-in-EventList c = search rules
-
 pub returns-in-EventList : goal.returns-in-EventList
 unfolding object_bytes body_objects body_of ◌⇒◌else◌
 returns-in-EventList c = rw c.in-EventList.is (alone (flagged 0x19 c.args.bytes.now) _ _ _ _ c.write_object.ensures)
-
-pub shape_of-out-in-Open : goal.shape_of-out-in-Open
-unfolding written body_objects body_of
-shape_of-out-in-Open c = search rules
 
 pub returns-in-Open : goal.returns-in-Open
 unfolding written body_objects body_of
@@ -84,17 +43,9 @@ pub returns-in-Close : goal.returns-in-Close
 unfolding written body_objects body_of
 returns-in-Close c = rw c.in-Close.is (unwritten _ _ (omega (arith, c.requires.0)))
 
-pub shape_of-out-in-Receive : goal.shape_of-out-in-Receive
-unfolding written body_objects body_of
-shape_of-out-in-Receive c = search rules
-
 pub returns-in-Receive : goal.returns-in-Receive
 unfolding object_bytes body_objects body_of ◌⇒◌else◌
 returns-in-Receive c = rw c.in-Receive.is (alone (flagged 0x37 (c.in-Receive.n ∷ [])) _ _ _ _ c.write_object-in-Receive.ensures)
-
-pub shape_of-out-in-Send : goal.shape_of-out-in-Send
-unfolding written body_objects body_of
-shape_of-out-in-Send c = search rules
 
 pub returns-in-Send : goal.returns-in-Send
 unfolding object_bytes body_objects body_of ◌⇒◌else◌
