@@ -1,16 +1,15 @@
 -- Numbers in lists: the keys of a match, and tests that every number of a list passes.
 -- Assumes nothing.
-use Prim.Native.Nat.{ℕ, zero, suc, ◌+◌, ◌≤◌}
+use Prim.Native.Nat.{ℕ}
 use mathlib.Core.Path.{◌≡◌, refl, sym, ap, ◌∙◌}
 use mathlib.Core.Logic.{inl, inr, ⊎_elim}
 use mathlib.Core.Bool.{Bool, true, false, ◌&&◌, ◌||◌, true≢false, false≢true}
 use mathlib.Core.List.{List, [], ◌∷◌}
-use native.Mathlib.Omega.{arith}
 use types.Run.{OneOf}
 use lib.Dec.{eqb}
-use borrow.Author.Tests.{eqb-false, ne_eqb}
+use borrow.Author.Tests.{ne_eqb}
 use Rattle.rules.specs.Checks.{every, some_of, member}
-use Rattle.rules.proofs.Laws.{both_left, both_right, either, either_left, either_right, by_equal}
+use Rattle.rules.proofs.Laws.{both_left, both_right, either, by_equal}
 
 -- what a definition says of each key of an arm it says of a number that is one of them
 abbrev Each : (ℕ → Type 0) → List ℕ → Type 0
@@ -43,22 +42,6 @@ outside_all n (k ∷ ks) A w =
 
 pub outside : (n : ℕ) (ks : List ℕ) → Outside n ks (Unit {0}) → member n ks ≡ false
 outside n ks w = (outside_all n ks (Unit {0}) w).1
-
--- numbers one after the other, and one that stands behind them all
-abbrev pub run : ℕ → ℕ → List ℕ
-run a zero = []
-run a (suc m) = a ∷ run (a + 1) m
-
-past : (t a m : ℕ) → a ≤ t → member t (run a m) ≡ false → a + m ≤ t
-unfolding member some_of
-past t a zero h e = omega arith
-past t a (suc m) h e =
-    let n = eqb-false t a (either_left (eqb t a) (member t (run (a + 1) m)) e) in
-    let k = past t (a + 1) m (omega arith) (either_right (eqb t a) (member t (run (a + 1) m)) e) in
-    omega arith
-
-pub behind : (t a m : ℕ) → a ≤ t → t ≤ a + m → Outside t (run a m) (Unit {0}) → t ≡ a + m
-behind t a m low high w = let h = past t a m low (outside t (run a m) w) in omega arith
 
 -- a test that every number of a list passes
 module _ (f : ℕ → Bool) (n : ℕ) where

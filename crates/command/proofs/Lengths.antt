@@ -90,9 +90,9 @@ module _ (s : List ℕ) (start n : ℕ) (w : start + n ≤ length s) where
     unfolding length_fits ◌⇒◌else◌
     fits_one = arm fits (eqb n 1) (0x24 ∷ 0x37 ∷ []) t (size 1, (size 1, tt))
 
-    pub fits_bearer_lem : t ≡ 0x35 → bearer_fits v ≡ length_fits t v
+    pub fits_bearer : t ≡ 0x35 → bearer_fits v ≡ length_fits t v
     unfolding length_fits ◌⇒◌else◌
-    fits_bearer_lem = arm fits (bearer_fits v) (0x35 ∷ []) t (refl, tt)
+    fits_bearer = arm fits (bearer_fits v) (0x35 ∷ []) t (refl, tt)
 
     pub fits_any :
         (((Unit {0} × (OneOf (0x01 ∷ 0x25 ∷ 0x3C ∷ []) t → ⊥)) × (OneOf (0x02 ∷ 0x04 ∷ 0x1E ∷ 0x39 ∷ []) t → ⊥)) × (OneOf (0x24 ∷ 0x37 ∷ []) t → ⊥)) × (t ≡ 0x35 → ⊥) →

@@ -128,11 +128,11 @@ sift_more r os o =
 -- the survey's three tests on a list with one more at the end
 some_more : (f : Object → Bool) (os : List Object) (o : Object) → some_of f os || f o ≡ some_of f (os ++ (o ∷ []))
 unfolding some_of
-some_more f [] o = or_none_lem (f o)
+some_more f [] o = or_none (f o)
   where
-    or_none_lem : (b : Bool) → b ≡ b || false
-    or_none_lem true = refl
-    or_none_lem false = refl
+    or_none : (b : Bool) → b ≡ b || false
+    or_none true = refl
+    or_none false = refl
 some_more f (x ∷ os) o = or_assoc (f x) (some_of f os) (f o) ∙ ap (λ (b : Bool). f x || b) (some_more f os o)
   where
     or_assoc : (a b c : Bool) → a || b || c ≡ a || (b || c)

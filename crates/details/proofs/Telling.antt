@@ -31,10 +31,10 @@ module _ (s before : List ℕ) (at r : ℕ) (after : List ℕ) where
   pub long_told : 256 < length s → Prints (line_of (refused CommandSize)) r before at after → Prints (hand_line (some s)) r before at after
   long_told h = wrong_size (or_right (is_empty s) _ (lt-ltb 256 (length s) h))
 
-  pub details_line_lem :
+  pub details_printed :
       (d : Details) → d ≡ details_told s → (length s ≡ 0 → ⊥) → length s ≤ 256 →
       Prints (line_of (outcome_of (Wrote 3) (d.number ∷ d.kind ∷ d.qualifier ∷ []))) r before at after → Prints (hand_line (some s)) r before at after
   unfolding hand_line outcome_of details_bytes
-  details_line_lem d e n h w =
+  details_printed d e n h w =
       let few : is_empty s || ltb 256 (length s) ≡ false = λ i. (sym (empty_length s) ∙ ne_eqb (length s) 0 n) i || le-ltb 256 (length s) h i in
       prints_as (ap (λ (x : Details). line_of (wrote (details_bytes x))) e ∙ sym (skip _ _ _ few)) w

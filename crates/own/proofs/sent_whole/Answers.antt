@@ -1,0 +1,16 @@
+-- `own::sent_whole` meets its contract: each case of the definition.
+-- Assumes nothing.
+use mathlib.Core.Path.{sym}
+use borrow.Author.Tests.{eq-eqb, ne_eqb}
+use Rattle.rules.specs.Own.{bit1}
+use Rattle.rules.proofs.Laws.{stop, skip}
+use Rattle.own.specs.Replies.{sent_whole}
+use Rattle.own.proofs.sent_whole.Goals as goal
+
+pub returns-then-qualifier-eq1 : goal.returns-then-qualifier-eq1
+unfolding sent_whole bit1
+returns-then-qualifier-eq1 c = sym (stop _ _ _ (eq-eqb _ 1 c.if-qualifier-eq1.true))
+
+pub returns : goal.returns
+unfolding sent_whole bit1
+returns c = sym (skip _ _ _ (ne_eqb _ 1 c.if-qualifier-eq1.false))
