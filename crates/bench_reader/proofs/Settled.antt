@@ -29,17 +29,17 @@ count_back zero t = refl
 count_back (suc k) t = ap suc (count_back k (drop 4 t))
 
 -- what the code tells, read back from what was told and the number of bytes: four stand behind a bearer, three behind data
-further_in_lem : own.Further → ℕ → Further
-further_in_lem nothing n = Plain
-further_in_lem (opened st b g) n = let k = length b.parameters + 1 in Opened st.number st.link (n - 4 - k) k g
-further_in_lem (received v left) n = Received (n - 3 - length v) (length v) left
-further_in_lem (sent room) n = Sent room
-further_in_lem (started k) n = Started k
-further_in_lem (leaves k left) n = Leaves k left
-further_in_lem (reports (statuses ss)) n = Statuses (n - 4 * length ss) (length ss)
+further_in : own.Further → ℕ → Further
+further_in nothing n = Plain
+further_in (opened st b g) n = let k = length b.parameters + 1 in Opened st.number st.link (n - 4 - k) k g
+further_in (received v left) n = Received (n - 3 - length v) (length v) left
+further_in (sent room) n = Sent room
+further_in (started k) n = Started k
+further_in (leaves k left) n = Leaves k left
+further_in (reports (statuses ss)) n = Statuses (n - 4 * length ss) (length ss)
 
-further_back : (f : Further) (s : List ℕ) → FurtherAt f s → further_in_lem (further_of f s) (length s) ≡ f
-unfolding further_in_lem further_of bearer_in
+further_back : (f : Further) (s : List ℕ) → FurtherAt f s → further_in (further_of f s) (length s) ≡ f
+unfolding further_in further_of bearer_in
 further_back Plain s h = refl
 further_back (Opened n link start len grant) s h =
     let v = part start (start + len) s in
@@ -63,7 +63,7 @@ further_back (Statuses start count) s h =
 verdict_in : Result → ℕ → Verdict
 verdict_in (error e) n = Error e
 verdict_in (problem cause) n = Problem cause
-verdict_in (done r f) n = Done r (further_in_lem f n)
+verdict_in (done r f) n = Done r (further_in f n)
 
 verdict_back : (v : Verdict) (s : List ℕ) → VerdictAt v s → verdict_in (result_of v s) (length s) ≡ v
 unfolding verdict_in result_of

@@ -30,7 +30,7 @@ use Rattle.bench_reader.specs.declared.Heard.{Heard}
 use Rattle.bench_reader.specs.declared.Heard.TheVariants.{Silence}
 use Rattle.bench_reader.specs.Heard.{further_of, result_of}
 use Rattle.bench_reader.specs.Tails.{Holder, Single, of_type, checked, followed, timed, Hears}
-use Rattle.bench_reader.proofs.Standing.{named, same_object, object_there, object_absent, byte_there, byte_missed, value_long, other_length, never, silent, hears_as, step_on}
+use Rattle.bench_reader.proofs.Standing.{named, same_object, object_there, object_absent, byte_there, byte_missed, value_long, other_length, silent, hears_as, step_on}
 use Rattle.bench_reader.proofs.Results.{sure}
 
 -- a timer from 1 to 8
