@@ -2,12 +2,8 @@
 -- Assumes nothing.
 use Rattle.octets.specs.Parts.{pad}
 use Rattle.fetch.specs.Gathers.{gathered_of}
-use Rattle.fetch.proofs.start_gathered.Statement.{statement}
-use Rattle.fetch.proofs.start_gathered.Tie as tie
+use Rattle.fetch.proofs.start_gathered.Goals as goal
 
-returns : tie.Need-returns
+pub returns : goal.returns
 unfolding gathered_of pad
 returns c = mathlib.Core.Path.refl
-
-pub start_gathered_spec : {M : Type 1} → statement M
-start_gathered_spec = tie.close (tie.spec returns)
