@@ -5,7 +5,6 @@ use native.Mathlib.Omega.{arith}
 use lib.Seq.{length-take-le}
 use Rattle.flow.proofs.Filling.{fills_within}
 use Rattle.flow.proofs.Pieces.{midway_none, midway_within, midway_less, midway_more}
-use Rattle.tools.specs.Tools.{kept_in, ends}
 use Rattle.stream.proofs.feed_all.Goals as goal
 
 pub loop-next-init : goal.loop-next-init
