@@ -38,36 +38,36 @@ module _ {r : Answer} {m n : ℕ} {before after after' : List ℕ} (s t : Sessio
   pub buffer_alike : after ≡ after'
   buffer_alike = lent_alike p.answers q.answers
 
-pub start_settled : Settles start-call.ended (λ M 𝓤. start-call.clauses 𝓤)
+pub start_settled : Settles start-call.ended (λ M 𝓤 𝓛. start-call.clauses 𝓛)
 start_settled M 𝓤 𝓛 mem run κs a g x y v w =
     from_claims 𝓤 _ _ _ _ (λ p q. (λ i. tt, λ i. (session_alike v.0 w.0 p.0 q.0 i, (tt, tt))))
 
-pub command_settled : Settles command-call.ended (λ M 𝓤. command-call.clauses 𝓤)
+pub command_settled : Settles command-call.ended (λ M 𝓤 𝓛. command-call.clauses 𝓛)
 command_settled M 𝓤 𝓛 mem run κs a g x y v w =
     from_claims 𝓤 _ _ _ _
     (λ p q. (number_alike v.0 w.0 p q, λ i. (record_alike v.0 w.0 p q i, (tt, (buffer_alike v.0 w.0 p q i, tt)))))
 
-pub arrival_settled : Settles arrival-call.ended (λ M 𝓤. arrival-call.clauses 𝓤)
+pub arrival_settled : Settles arrival-call.ended (λ M 𝓤 𝓛. arrival-call.clauses 𝓛)
 arrival_settled M 𝓤 𝓛 mem run κs a g x y v w =
     from_claims 𝓤 _ _ _ _
     (λ p q. (number_alike v.0 w.0 p q, λ i. (record_alike v.0 w.0 p q i, (tt, (tt, (buffer_alike v.0 w.0 p q i, tt))))))
 
-pub take_settled : Settles take_call.ended (λ M 𝓤. take_call.clauses 𝓤)
+pub take_settled : Settles take_call.ended (λ M 𝓤 𝓛. take_call.clauses 𝓛)
 take_settled M 𝓤 𝓛 mem run κs a g x y v w =
     from_claims 𝓤 _ _ _ _
     (λ p q. (number_alike v.0 w.0 p q, λ i. (record_alike v.0 w.0 p q i, (tt, (buffer_alike v.0 w.0 p q i, tt)))))
 
-pub drop_settled : Settles drop-call.ended (λ M 𝓤. drop-call.clauses 𝓤)
+pub drop_settled : Settles drop-call.ended (λ M 𝓤 𝓛. drop-call.clauses 𝓛)
 drop_settled M 𝓤 𝓛 mem run κs a g x y v w =
     from_claims 𝓤 _ _ _ _
     (λ p q. (number_alike v.0 w.0 p q, λ i. (record_alike v.0 w.0 p q i, (tt, (buffer_alike v.0 w.0 p q i, tt)))))
 
-pub envelope_settled : Settles envelope-call.ended (λ M 𝓤. envelope-call.clauses 𝓤)
+pub envelope_settled : Settles envelope-call.ended (λ M 𝓤 𝓛. envelope-call.clauses 𝓛)
 envelope_settled M 𝓤 𝓛 mem run κs a g x y v w =
     from_claims 𝓤 _ _ _ _
     (λ p q. (number_alike v.0 w.0 p q, λ i. (record_alike v.0 w.0 p q i, (buffer_alike v.0 w.0 p q i, tt))))
 
-pub second_settled : Settles second_call.ended (λ M 𝓤. second_call.clauses 𝓤)
+pub second_settled : Settles second_call.ended (λ M 𝓤 𝓛. second_call.clauses 𝓛)
 second_settled M 𝓤 𝓛 mem run κs a g x y v w =
     from_claims 𝓤 _ _ _ _ (λ p q. (λ i. tt, λ i. (session_alike v.0 w.0 p.shows q.shows i, tt)))
 
@@ -83,7 +83,7 @@ alpha_write_settled κs a _ x y v w p q = (p.0.told ∙ sym q.0.told, λ i. (tt,
 pub fetch_start_settled : Determined 1 fetch-start-kinds.ps fetch-start-kinds.r fetch-start-reads.Pre fetch-start-reads.Post
 fetch_start_settled κs a _ x y v w p q = (refl, λ i. ((p ∙ sym q) i, tt))
 
-pub fetch_settled : Settles fetch-call.ended (λ M 𝓤. fetch-call.clauses 𝓤)
+pub fetch_settled : Settles fetch-call.ended (λ M 𝓤 𝓛. fetch-call.clauses 𝓛)
 fetch_settled M 𝓤 𝓛 mem run κs a g x y v w =
     from_claims 𝓤 _ _ _ _
     (λ p q.

@@ -38,12 +38,12 @@ tied s c t n before after g h = left_by_lem t (packs_back (view s) c t.ledger t.
 
 -- the start leaves a start in the record, whatever stood in it
 pub start_tied :
-    Claims start-call.ended (λ M 𝓤. start-call.clauses 𝓤) (λ κs a x v. (s : Session) → Called s (starting a.1.0.now) v.0 (wrote []))
+    Claims start-call.ended (λ M 𝓤 𝓛. start-call.clauses 𝓛) (λ κs a x v. (s : Session) → Called s (starting a.1.0.now) v.0 (wrote []))
 start_tied M 𝓤 𝓛 mem run κs a g x v = from_last 𝓤 _ _ _ (λ h s. record { shows = h.0; good = h.1; seen = refl })
 
 -- a command: the record at exit follows from the one at entry, and the number and the buffer show what is seen of it
 pub command_tied :
-    Claims command-call.ended (λ M 𝓤. command-call.clauses 𝓤)
+    Claims command-call.ended (λ M 𝓤 𝓛. command-call.clauses 𝓛)
     (λ κs a x v. Called a.0.now (commanding (lending (length a.1.1.0.now)) a.1.0.now) v.0 (outcome_of (unpacked x) v.1.1.0))
 unfolding step
 command_tied M 𝓤 𝓛 mem run κs a g x v =
@@ -51,7 +51,7 @@ command_tied M 𝓤 𝓛 mem run κs a g x v =
 
 -- the same of an arrival
 pub arrival_tied :
-    Claims arrival-call.ended (λ M 𝓤. arrival-call.clauses 𝓤)
+    Claims arrival-call.ended (λ M 𝓤 𝓛. arrival-call.clauses 𝓛)
     (λ κs a x v.
     Called a.0.now (arriving (length a.1.1.1.0.now) (record { 0 = a.1.0 }) a.1.1.0.now) v.0 (outcome_of (unpacked x) v.1.1.1.0))
 unfolding step
@@ -60,7 +60,7 @@ arrival_tied M 𝓤 𝓛 mem run κs a g x v =
 
 -- of a take
 pub take_tied :
-    Claims take_call.ended (λ M 𝓤. take_call.clauses 𝓤)
+    Claims take_call.ended (λ M 𝓤 𝓛. take_call.clauses 𝓛)
     (λ κs a x v. Called a.0.now (taking_out (length a.1.1.0.now) (record { 0 = a.1.0 })) v.0 (outcome_of (unpacked x) v.1.1.0))
 unfolding step
 take_tied M 𝓤 𝓛 mem run κs a g x v =
@@ -68,7 +68,7 @@ take_tied M 𝓤 𝓛 mem run κs a g x v =
 
 -- and of a drop
 pub drop_tied :
-    Claims drop-call.ended (λ M 𝓤. drop-call.clauses 𝓤)
+    Claims drop-call.ended (λ M 𝓤 𝓛. drop-call.clauses 𝓛)
     (λ κs a x v. Called a.0.now (dropping_link (length a.1.1.0.now) (record { 0 = a.1.0 })) v.0 (outcome_of (unpacked x) v.1.1.0))
 unfolding step
 drop_tied M 𝓤 𝓛 mem run κs a g x v =
@@ -76,14 +76,14 @@ drop_tied M 𝓤 𝓛 mem run κs a g x v =
 
 -- of an envelope
 pub envelope_tied :
-    Claims envelope-call.ended (λ M 𝓤. envelope-call.clauses 𝓤)
+    Claims envelope-call.ended (λ M 𝓤 𝓛. envelope-call.clauses 𝓛)
     (λ κs a x v. Called a.0.now (timing (envelope (length a.1.0.now))) v.0 (outcome_of (unpacked x) v.1.0))
 unfolding step
 envelope_tied M 𝓤 𝓛 mem run κs a g x v =
     from_claim 𝓤 _ _ _ (tied a.0.now (timing (envelope (length a.1.0.now))) v.0 x a.1.0.now v.1.0)
 
 -- and of a second, which writes nothing
-pub second_tied : Claims second_call.ended (λ M 𝓤. second_call.clauses 𝓤) (λ κs a x v. Called a.0.now (timing second) v.0 (wrote []))
+pub second_tied : Claims second_call.ended (λ M 𝓤 𝓛. second_call.clauses 𝓛) (λ κs a x v. Called a.0.now (timing second) v.0 (wrote []))
 unfolding outcome_of
 second_tied M 𝓤 𝓛 mem run κs a g x v = from_claim 𝓤 _ _ _ (λ _ h. left_by_lem v.0 h)
 
@@ -111,7 +111,7 @@ burst_tied s g bytes t r n before after pre h =
 
 -- of a burst: what it left follows (`burst_follows` in bridge/proofs/Bursts.antt), and its number tells how many bytes are left
 pub fetch_tied :
-    Claims fetch-call.ended (λ M 𝓤. fetch-call.clauses 𝓤)
+    Claims fetch-call.ended (λ M 𝓤 𝓛. fetch-call.clauses 𝓛)
     (λ κs a x v.
     (left : ℕ) × (left_in x ≡ min left left_cap) ×
     Burst (fetch (view a.0.now) (lending (length a.1.1.1.0.now)) (gathered_in a.1.0.now) a.1.1.0.now) (length a.1.1.1.0.now) v.0 v.1.0 (outcome_of (ended_in x) v.1.1.1.0) left)

@@ -13,11 +13,8 @@ use Rattle.octets.specs.Parts.{pasted, cleared}
 use Rattle.session.specs.Picture.{Shows}
 use Rattle.session.proofs.Views.{shows_good}
 use Rattle.session.proofs.Starts.{empty_pool}
-use borrow.Author.Rules.{rules}
-use Rattle.host.proofs.start_lent.Statement.{statement}
-use Rattle.host.proofs.start_lent.Tie as tie
+use Rattle.host.proofs.start_lent.Goals as goal
 
--- a list that is cleared whole
 all_cleared : (n : ℕ) (d : List ℕ) → length d ≡ n → cleared d 0 n ≡ replicate n 0
 unfolding cleared pasted
 all_cleared n d h =
@@ -27,14 +24,8 @@ all_cleared n d h =
     ap (λ (m : ℕ). replicate m 0 ++ drop (0 + length (replicate {A = ℕ} m 0)) d) k ∙ ap (λ (m : ℕ). replicate n 0 ++ drop m d) e
     ∙ ap (λ (t : List ℕ). replicate n 0 ++ t) (drop-length d) ∙ append-nil (replicate n 0)
 
-returns : tie.Need-returns
-returns c =
-    let e : tie.After-clear = search in
-    let s : tie.Start = search in
-    let p = s.args.profile.now in
+pub returns : goal.returns
+returns c = let p = c.args.profile.now in
     let shows : Shows (start p) _ _ =
-    record { ledger = c.start-ledger.ensures; pool = e.clear.ensures ∙ all_cleared pool_size s.args.pool.now s.pre.1 ∙ empty_pool p } in
+    record { ledger = c.start_ledger.ensures; pool = c.clear.ensures ∙ all_cleared pool_size c.args.pool.now c.requires.1 ∙ empty_pool p } in
     (shows, shows_good (start p) _ _ (start_sound p) shows)
-
-pub start_lent_spec : {M : Type 1} → statement M
-start_lent_spec = tie.close (tie.spec (λ c κs. search rules) (λ c κs. search rules) returns)
