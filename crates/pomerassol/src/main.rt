@@ -1,25 +1,29 @@
 // The program: a tool reads standard input, a line at a time, and prints what it says of each. The first word names the tool; without one it is document 01's program. Words in pairs are tools and data files, which are played one after the other.
 #![tactic(auto)]
 
+ghost use Rattle.std.specs.Prelude.{◌≤◌, length};
+
 use fetch::Gathered;
 use flow::Size;
-use io;
-use libc;
-use libc::{STDERR_FILENO, STDIN_FILENO, STDOUT_FILENO};
-use os;
 use pool::Pool;
-use stream::run;
+use std::env::{Env, FillError};
+use std::io::{ErrorKind, Read, Write};
+use std::rt::Files;
+use std::{fs, io, str};
+use stream::{fail, run};
 use tools::{Named, Tool, tool_named};
 
-// Runs a tool over a file, with the memory that it ever uses.
-fn play(fd: i32, tool: Tool) {
+// Runs a tool over an input, with the memory that it ever uses.
+fn play<I: Read, O: Write, E: Write>(input: &mut I, output: &mut O, errors: &mut E, tool: Tool) {
     let mut pool = [0u8; Pool::SIZE];
     let mut gathered = [0u8; Gathered::SIZE];
     let mut line = [0u8; Size::KEPT];
-    let mut piece = io::large_buffer();
-    let mut out = io::large_buffer();
+    let mut piece = [0u8; 65536];
+    let mut out = [0u8; 65536];
     run(
-        fd,
+        input,
+        output,
+        errors,
         tool,
         &mut pool,
         &mut gathered,
@@ -30,70 +34,118 @@ fn play(fd: i32, tool: Tool) {
 }
 
 // Tells that no tool has a name.
-fn refuse(name: &[u8]) {
-    io::write_all(STDERR_FILENO, b"there is no tool ");
-    io::write_all(STDERR_FILENO, name);
-    io::write_all(STDERR_FILENO, b"\n");
+fn refuse<E: Write>(errors: &mut E, name: &[u8]) {
+    let _ = errors.write_all(b"there is no tool ");
+    let _ = errors.write_all(name);
+    let _ = errors.write_all(b"\n");
 }
 
-// Runs the tool of a name over standard input.
-fn play_input(name: &[u8]) {
+// Runs the tool of a name over an input.
+fn play_input<I: Read, O: Write, E: Write>(
+    input: &mut I,
+    output: &mut O,
+    errors: &mut E,
+    name: &[u8],
+) {
     match tool_named(name) {
-        Named::One(tool) => play(STDIN_FILENO, tool),
-        Named::Unknown => refuse(name),
+        Named::One(tool) => play(input, output, errors, tool),
+        Named::Unknown => refuse(errors, name),
+    }
+}
+
+// Opens a file for reading. Files are named by text, so a name that is none names no file.
+fn open_read<R: Files>(rt: &R, file: &[u8]) -> io::Result<R::File> {
+    match str::from_utf8(file) {
+        Ok(path) => fs::open(rt, path),
+        Err(_) => Err(io::Error::from(ErrorKind::InvalidFilename)),
     }
 }
 
 // Runs the tool of a name over a data file, and prints both names before its answers.
-fn play_file(name: &[u8], file: &[u8]) {
-    io::write_all(STDOUT_FILENO, b"== ");
-    io::write_all(STDOUT_FILENO, name);
-    io::write_all(STDOUT_FILENO, b" ");
-    io::write_all(STDOUT_FILENO, file);
-    io::write_all(STDOUT_FILENO, b"\n");
-    let fd = os::open_read(file);
-    if fd < 0 {
-        os::fail(file);
-        return;
+fn play_file<R: Files, O: Write, E: Write>(
+    rt: &R,
+    output: &mut O,
+    errors: &mut E,
+    name: &[u8],
+    file: &[u8],
+) {
+    let _ = output.write_all(b"== ");
+    let _ = output.write_all(name);
+    let _ = output.write_all(b" ");
+    let _ = output.write_all(file);
+    let _ = output.write_all(b"\n");
+    match open_read(rt, file) {
+        Ok(mut input) => play_input(&mut input, output, errors, name),
+        Err(error) => fail(errors, file, error),
     }
-    match tool_named(name) {
-        Named::One(tool) => play(fd, tool),
-        Named::Unknown => refuse(name),
+}
+
+// How many words the program was started with, its own name among them.
+fn arg_count<R: Env>(rt: &R) -> usize {
+    let mut letter = [0u8; 1];
+    for place in 0..usize::MAX {
+        if let Err(FillError::NotPresent) = rt.arg(place, &mut letter) {
+            return place;
+        }
     }
-    libc::close(fd);
+    usize::MAX
+}
+
+// Puts a word that the program was started with at the start of a buffer, and tells its length, or 0 where it is missing or longer than the buffer.
+fn arg<R: Env>(rt: &R, place: usize, buffer: &mut [u8]) -> usize
+    ensures { result ≤ length buffer.new }
+{
+    match rt.arg(place, buffer) {
+        Ok(n) => n,
+        Err(_) => 0,
+    }
 }
 
 // Plays a pair of words, by their places.
-fn play_pair(first: usize, second: usize) {
-    let mut name = io::buffer();
-    let n = os::arg(first, &mut name);
-    let mut file = io::buffer();
-    let m = os::arg(second, &mut file);
-    play_file(&name[..n], &file[..m]);
+fn play_pair<R: Env + Files, O: Write, E: Write>(
+    rt: &R,
+    output: &mut O,
+    errors: &mut E,
+    first: usize,
+    second: usize,
+) {
+    let mut name = [0u8; 4096];
+    let n = arg(rt, first, &mut name);
+    let mut file = [0u8; 4096];
+    let m = arg(rt, second, &mut file);
+    play_file(rt, output, errors, &name[..n], &file[..m]);
 }
 
 // Plays the tool that the only word names.
-fn play_word() {
-    let mut name = io::buffer();
-    let n = os::arg(1, &mut name);
-    play_input(&name[..n]);
+fn play_word<R: Env, I: Read, O: Write, E: Write>(
+    rt: &R,
+    input: &mut I,
+    output: &mut O,
+    errors: &mut E,
+) {
+    let mut name = [0u8; 4096];
+    let n = arg(rt, 1, &mut name);
+    play_input(input, output, errors, &name[..n]);
 }
 
-fn main() {
-    let count = os::arg_count();
+fn main(rt: HostRuntime) {
+    let input = &mut rt.stdin();
+    let output = &mut rt.stdout();
+    let errors = &mut rt.stderr();
+    let count = arg_count(&rt);
     if count < 2 {
-        play(STDIN_FILENO, Tool::Lines);
+        play(input, output, errors, Tool::Lines);
         return;
     }
     if count == 2 {
-        play_word();
+        play_word(&rt, input, output, errors);
         return;
     }
     let pairs = (count - 1) / 2;
     let mut k: usize = 0;
     while k < pairs {
         let first = 2 * k + 1;
-        play_pair(first, first + 1);
+        play_pair(&rt, output, errors, first, first + 1);
         k += 1;
     }
 }
