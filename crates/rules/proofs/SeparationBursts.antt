@@ -1,34 +1,32 @@
 -- M-110 with bursts among the calls: two bursts of as many bytes, whose frames are alike, end at the same byte and alike but for the data.
 -- Assumes nothing.
-use Prim.Native.Nat.{ℕ, suc, ◌+◌, ◌-◌}
+use Prim.Native.Nat.{ℕ, suc, ◌-◌}
 use mathlib.Core.Path.{◌≡◌, refl, sym, ap, subst, subst₂, ◌∙◌}
-use mathlib.Core.Bool.{Bool, true, false, not, ◌&&◌, ◌||◌, false≢true, true≢false}
+use mathlib.Core.Bool.{Bool, true, false, ◌&&◌, false≢true}
 use mathlib.Core.List.{List, [], ◌∷◌, ◌++◌, append_assoc, append-nil}
 use native.Mathlib.Omega.{arith}
 use lib.ListN.{length, get_or, take, drop, length-append}
 use lib.Dec.{ltb, leb, eqb}
 use borrow.Author.Tests.{eq-eqb, ne_eqb, ltb-true}
 use Rattle.rules.specs.declared.ChannelNumber.{ChannelNumber}
-use Rattle.rules.specs.declared.Refusal.TheVariants.{ShortBuffer, CommandSize}
+use Rattle.rules.specs.declared.Refusal.TheVariants.{CommandSize}
 use Rattle.rules.specs.declared.Stage.{Stage}
 use Rattle.rules.specs.declared.Stage.TheVariants.{Lacks, Overlong, Decided}
 use Rattle.rules.specs.Checks.{◌⇒◌else◌, is_empty, same}
 use Rattle.rules.specs.Results.{response_cap}
-use Rattle.rules.specs.Frames.{LengthRead, len, no_length, long_length, length_at, length_bytes}
+use Rattle.rules.specs.Frames.{LengthRead, long_length, length_at, length_bytes}
 use Rattle.rules.specs.State.{State, start}
-use Rattle.rules.specs.Command.{Outcome, wrote, Answer, answered, refusal, Terms, command}
+use Rattle.rules.specs.Command.{answered, refusal, Terms, command}
 use Rattle.rules.specs.Fetch.{length_to_come, lacking_by, stage_by, stage, taken_at, one_more, Fetched, goes_on, burst, fetch}
 use Rattle.rules.specs.Radio.{numbered}
 use Rattle.rules.specs.Run.{Call, commanding, step}
-use Rattle.rules.specs.Acts.{Act, calls, bursts, clears, gathered_by, Acted, acted}
-use Rattle.rules.specs.Separation.{OtherData, framing, LikeCall, LikeOutcome, Like, outer_head, LikeTaken, Shown, Did, does, shown_by, taken_by, gathered_after_lem, LikeAct, LikeShown, LikeActs, LikeShowns, LikeGathered}
-use Rattle.rules.proofs.Laws.{branch, branch₂, stop, skip, same_kind, and-false}
+use Rattle.rules.specs.Acts.{Act, calls, bursts, clears, Acted, acted}
+use Rattle.rules.specs.Separation.{framing, LikeCall, LikeOutcome, Like, outer_head, LikeTaken, Shown, Did, does, shown_by, taken_by, gathered_after_lem, LikeAct, LikeShown, LikeActs, LikeShowns, LikeGathered}
+use Rattle.rules.proofs.Laws.{branch, branch₂, stop, skip}
 use Rattle.rules.proofs.Forms.{length_back}
 use Rattle.rules.proofs.Acts.{taken_back, gathered_told}
-use Rattle.rules.proofs.SeparationReading.{LikeFrames}
 use Rattle.rules.proofs.SeparationBytes.{data_frames}
 use Rattle.rules.proofs.SeparationCalls.{LikeAnswer, like_same}
-use Rattle.rules.proofs.SeparationChannels.{same_empty}
 use Rattle.rules.proofs.Separation.{step_like}
 
 -- behind the same first two bytes, as many bytes, and behind 81 the same byte: the same stage

@@ -1,6 +1,6 @@
 -- M-110, the bytes: where the walk meets the first 36, another value as long leaves every other object as it was.
 -- Assumes nothing.
-use Prim.Native.Nat.{ℕ, zero, suc, ◌+◌, ◌-◌}
+use Prim.Native.Nat.{ℕ, zero, suc, ◌+◌}
 use mathlib.Core.Path.{◌≡◌, refl, sym, ap, subst, subst₂, ◌∙◌}
 use mathlib.Core.Bool.{Bool, true, false, false≢true}
 use mathlib.Core.Option.{Option, some}
@@ -10,7 +10,6 @@ use lib.ListN.{length, take, drop, length-append, length-take, take-append-drop}
 use lib.Dec.{eqb}
 use Rattle.rules.specs.declared.ChannelNumber.{ChannelNumber}
 use Rattle.rules.specs.Frames.{LengthRead, len, no_length, long_length, length_at, length_bytes, Object, TagRead, tag, no_tag, long_tag, tag_at, ObjectRead, object, faulty, value_after, after_tag, object_at, Walk, walk, fills, following, framed, contents}
-use Rattle.rules.specs.State.{whole}
 use Rattle.rules.specs.Separation.{Asks, Found, or_on, first_up_to, framing, OtherData}
 use borrow.Author.Tests.{eq-eqb, eqb-true, ltb-false}
 use Rattle.rules.proofs.Laws.{branch, stop, skip}

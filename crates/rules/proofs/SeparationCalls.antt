@@ -19,8 +19,8 @@ use Rattle.rules.specs.State.{State, Chan, closed, is_open, is_stream, is_establ
 use Rattle.rules.specs.Own.{Result, Reply, reply, done, nothing, opened, received, sent, reports, statuses, open_before, telling, starting_timer, tells_left, managing_timer, capped, bit1, plain, listed, listing, opening, closing, receiving, sending, own, protocol_of, carried_by}
 use Rattle.rules.specs.Written.{unflagged, status_object, event_bytes, envelope_bytes}
 use Rattle.rules.specs.Command.{Outcome, Answer, wrote, refusal}
-use Rattle.rules.specs.Radio.{numbered, arrival_event, arrival, taking, drop_event, dropping, takes}
-use Rattle.rules.specs.Run.{Call, timing, arriving, taking_out, dropping_link, after}
+use Rattle.rules.specs.Radio.{numbered, arrival_event, arrival, taking, drop_event, dropping}
+use Rattle.rules.specs.Run.{Call, timing, arriving, taking_out, dropping_link}
 use Rattle.rules.specs.declared.Refusal.{Refusal}
 use Rattle.rules.specs.declared.Refusal.TheVariants.{ShortBuffer, NoChannel, Unopened, Unlinked, Overfull, NoPlace, Undersized, NoneWaits}
 use Rattle.rules.specs.declared.Link.{Link}

@@ -1,6 +1,6 @@
 -- M-110 says something: two runs that differ in the data of channel 1, and whose RECEIVE DATA and take hand out other bytes.
 -- Assumes nothing.
-use Prim.Native.Nat.{ℕ, ◌-◌}
+use Prim.Native.Nat.{ℕ}
 use mathlib.Core.Path.{◌≡◌, refl}
 use mathlib.Core.List.{List, [], ◌∷◌}
 use lib.ListN.{take, drop}

@@ -1,9 +1,8 @@
 -- M-110, the reading: two frames whose walks meet the same objects but for the value of the first 36 are read alike.
 -- Assumes nothing.
-use Prim.Native.Nat.{ℕ, ◌+◌, ◌-◌, ◌≤◌, ◌%◌}
+use Prim.Native.Nat.{ℕ, ◌+◌, ◌≤◌, ◌%◌}
 use mathlib.Core.Path.{◌≡◌, refl, sym, ap, subst, subst₂, ◌∙◌}
 use mathlib.Core.Bool.{Bool, true, false, not, ◌&&◌, true≢false, false≢true}
-use mathlib.Core.Option.{some}
 use mathlib.Core.List.{List, [], ◌∷◌, map}
 use native.Mathlib.Omega.{arith}
 use lib.ListN.{length, get_or}
@@ -17,7 +16,6 @@ use Rattle.rules.specs.Frames.{Object, walk, framed, contents}
 use Rattle.rules.specs.Table.{Row, Sifted, table, row_among, row_of, times, sift, present, value_of, complete, length_fits, measured, known}
 use Rattle.rules.specs.Profile.{allows_type}
 use Rattle.rules.specs.Reading.{Reading, wrong, asked, Command, send_data, kind_of, details_of, details_in, body_in, command_in, to_modem, addressed, is_fault, starts_with_details, read_objects, reading}
-use Rattle.rules.specs.State.{counting}
 use Rattle.rules.specs.Radio.{numbered}
 use Rattle.rules.specs.Separation.{Asks}
 use borrow.Author.Tests.{leb-true, eqb-true}
