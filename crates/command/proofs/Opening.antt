@@ -14,7 +14,7 @@ use Rattle.rules.specs.declared.Ending.{Ending}
 use Rattle.rules.specs.Checks.{is_empty}
 use Rattle.rules.specs.Frames.{Object, object_at, faulty, Walk, walk, framed}
 use Rattle.rules.specs.AtHand.{details_first, details_told, packed_details, at_hand}
-use Rattle.rules.proofs.AtHand.{read_with, objects_details, told_first, framed_details}
+use Rattle.rules.proofs.HandDetails.{read_with, objects_details, told_first, framed_details}
 use Rattle.rules.specs.Table.{known, value_of}
 use Rattle.rules.specs.Profile.{bit, allows_type}
 use Rattle.rules.specs.Reading.{Reading, wrong, zeros, details_in, starts_with_details, is_fault, read_objects}

@@ -14,8 +14,10 @@ pub mod Walks
 pub mod Forms
 pub mod Meant
 pub mod Heard
+pub mod HandDetails
 pub mod AtHand
 pub mod Asked
+pub mod LongTags
 pub mod TagForms
 pub mod Bounds
 pub mod Matching

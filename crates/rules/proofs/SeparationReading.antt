@@ -21,7 +21,7 @@ use Rattle.rules.specs.Separation.{Asks}
 use borrow.Author.Tests.{leb-true, eqb-true}
 use Rattle.rules.proofs.Laws.{branch, branch₂, same_kind, both_left, both_right, skip}
 use Rattle.rules.specs.AtHand.{details_first, details_told}
-use Rattle.rules.proofs.AtHand.{framed_details}
+use Rattle.rules.proofs.HandDetails.{framed_details}
 use Rattle.rules.proofs.Matching.{Aimed, read_aimed}
 use Rattle.rules.proofs.Walks.{walk_end}
 use Rattle.rules.proofs.Readings.{details_read, counted, details_told_lem, reading_cases, Read}

@@ -1,6 +1,6 @@
 -- Both forms of a tag mean the same object: a command with any of its tags in the other form is read as the same command.
 -- Assumes nothing.
-use Prim.Native.Nat.{ℕ, zero, suc, ◌+◌, ◌*◌, ◌/◌, ◌%◌, ◌≤◌, ◌<◌}
+use Prim.Native.Nat.{ℕ, zero, suc, ◌+◌, ◌*◌, ◌%◌, ◌≤◌, ◌<◌}
 use mathlib.Core.Path.{◌≡◌, refl, sym, ap, subst, ◌∙◌}
 use mathlib.Core.Bool.{Bool, true, false, ◌||◌, false≢true}
 use mathlib.Core.List.{List, [], ◌∷◌, ◌++◌, append_assoc}
@@ -8,9 +8,9 @@ use native.Mathlib.Omega.{arith}
 use native.Mathlib.Nat.{le_of_suc-le-suc, not-suc-le-zero}
 use lib.ListN.{length, drop}
 use lib.Dec.{ltb, eqb}
-use borrow.Author.Tests.{le-ltb, le-leb, lt-leb, eq-eqb, ne_eqb, ltb-false, eqb-false}
+use borrow.Author.Tests.{le-ltb, eq-eqb, ltb-false, eqb-false}
 use Rattle.rules.specs.Checks.{◌⇒◌else◌, is_empty}
-use Rattle.rules.specs.Frames.{LengthRead, len, no_length, long_length, length_at, length_bytes, Object, TagRead, tag, long_tag, tag_at, ObjectRead, object, faulty, value_after, after_tag, object_at, Walk, onward, walk_up_to, walk, object_bytes, fills, following, framed, contents}
+use Rattle.rules.specs.Frames.{LengthRead, len, no_length, long_length, length_at, length_bytes, Object, TagRead, long_tag, tag_at, ObjectRead, object, faulty, value_after, after_tag, object_at, Walk, onward, walk_up_to, walk, object_bytes, fills, following, framed, contents}
 use Rattle.rules.specs.TagForms.{long_tag_bytes, object_in, written_in, retagged}
 use Rattle.rules.specs.State.{State}
 use Rattle.rules.specs.Reading.{Reading, reading, read_objects}
@@ -18,6 +18,7 @@ use Rattle.rules.specs.declared.Refusal.TheVariants.{ShortBuffer, CommandSize}
 use Rattle.rules.specs.Written.{response_bytes}
 use Rattle.rules.specs.Command.{Answer, answered, refusal, meant_by, command, Terms}
 use Rattle.rules.specs.Sound.{Each}
+use Rattle.rules.proofs.LongTags.{long_back}
 use Rattle.rules.proofs.Laws.{branch, skip, either_left, either_right, each_drop}
 use Rattle.rules.proofs.Walks.{ObjectLeaves, object_leaves, walk_end, walk_fault, walk_object}
 use Rattle.rules.proofs.Forms.{length_back, value_back, object_back}
@@ -30,17 +31,7 @@ pub record Tagged (o : Object) : Type 0 where
   pub some : 1 ≤ o.number
   pub fifteen_bits : o.number ≤ 32767
 
--- a tag in three bytes is read as it was written
-long_back : (n : ℕ) (f : Bool) (s : List ℕ) → 1 ≤ n → n ≤ 32767 → tag_at (long_tag_bytes n f ++ s) ≡ tag n f s
-unfolding long_tag_bytes tag_at long_tag ◌⇒◌else◌
-long_back n true s l h =
-    let e : 256 * ((n / 256 + 0x80) % 0x80) + n % 256 ≡ n = omega arith in
-    skip _ _ _ (ne_eqb (256 * ((n / 256 + 0x80) % 0x80) + n % 256) 0 (omega arith)) ∙ (λ i. tag (e i) (le-leb 0x80 (n / 256 + 0x80) (omega arith) i) s)
-long_back n false s l h =
-    let e : 256 * (n / 256 % 0x80) + n % 256 ≡ n = omega arith in
-    skip _ _ _ (ne_eqb (256 * (n / 256 % 0x80) + n % 256) 0 (omega arith)) ∙ (λ i. tag (e i) (lt-leb 0x80 (n / 256) (omega arith) i) s)
-
--- so is an object in either form
+-- an object in either form is read as it was written
 pub object_in_back : (f : Bool) (o : Object) (s : List ℕ) → Tagged o → object_at (object_in f o ++ s) ≡ object o s
 unfolding object_in object_at after_tag
 object_in_back f o s h =

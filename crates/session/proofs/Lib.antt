@@ -11,6 +11,7 @@ pub mod Facts
 pub mod Starts
 pub mod Answers
 pub mod Owners
+pub mod OneWay
 pub mod Elsewhere
 pub mod Separation
 pub mod Alike

@@ -108,11 +108,3 @@ one_channel a n m v w j p q = by (ltb (n.0 - 1) (m.0 - 1)) (ltb (m.0 - 1) (n.0 -
         let x = ltb-false (n.0 - 1) (m.0 - 1) e in
         let y = ltb-false (m.0 - 1) (n.0 - 1) f in
         omega arith
-
--- nor to two ways of one channel
-pub one_way : (a : State) (n : ChannelNumber) (v w : Way) (j : ℕ) → Promised a n v j → Promised a n w j → v ≡ w
-unfolding first_cell
-one_way a n Receive Receive j p q = refl
-one_way a n Send Send j p q = refl
-one_way a n Receive Send j p q = absurd (omega (arith, p.upto, q.from))
-one_way a n Send Receive j p q = absurd (omega (arith, p.from, q.upto))

@@ -11,7 +11,7 @@ use borrow.Author.Tests.{ltb-true, ltb-false, leb-false}
 use Rattle.rules.specs.declared.ChannelNumber.{ChannelNumber}
 use Rattle.rules.specs.declared.Way.{Way}
 use Rattle.rules.specs.declared.Way.TheVariants.{Receive, Send}
-use Rattle.rules.specs.State.{State, Chan, is_open, chan, held}
+use Rattle.rules.specs.State.{Chan, is_open, chan, held}
 use Rattle.rules.specs.Pool.{cell_size, pool_size, cells, promised_to}
 use Rattle.rules.specs.Sound.{SoundChan}
 use Rattle.rules.specs.Radio.{numbered}
