@@ -27,6 +27,6 @@ loop-next-preserved g c = midway_more c.loop-next.invariant c.fill-progress.ensu
 
 pub returns : goal.returns
 returns g c = record {
-    ready = c.loop-next.invariant.ready;
-    line_after = λ m. midway_all c.loop-next.invariant c.loop-next-test.false;
-  }
+  ready = c.loop-next.invariant.ready;
+  line_after = λ m. midway_all c.loop-next.invariant c.loop-next-test.false;
+}
