@@ -119,7 +119,7 @@ uint32_t pomerassol_envelope(pomerassol_session *s, uint8_t *out, size_t out_siz
 /* What command is at hand, from its outer head and its first object alone: number times 10000 plus type times 100 plus
  * qualifier, all hexadecimal, which are the details that the answer to the same bytes has; 0 where the outer frame is wrong,
  * or the first object is none, faulty or not 01 with length 3. `POMERASSOL_REFUSED` plus 2 where there is no byte, or more
- * than 256. The answer is `atHand`. It needs no record. */
+ * than 256. The answer is `at_hand`. It needs no record. */
 uint32_t pomerassol_details(const uint8_t *bytes, size_t bytes_size);
 
 /* The text of an alpha identifier, the value of object 05, as 16-bit units: the default alphabet of TS 23.038, or the codings
