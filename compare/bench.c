@@ -2,6 +2,7 @@
  *
  *   bench                                  lists the lines: number, name, bytes moved, calls
  *   bench SIDE LINE TIMES RESTORES [time]  SIDE is reference or pomerassol
+ *   bench SIDE LINE TIMES RESTORES DATA    the same with other data bytes, by a number
  *
  * The prepared record is restored RESTORES times by a copy, and after the first TIMES of them the line's
  * calls are made; after the others the same loop makes none. Two runs that differ in TIMES alone differ by
@@ -30,6 +31,7 @@ static const side reference_side = {"reference", sizeof(reference_record), refer
 static const side pomerassol_side = {"pomerassol", sizeof(pomerassol_record), pomerassol_run};
 
 static uint8_t data[GRANT];
+static uint32_t data_by = 7; /* the number by which the data bytes are made */
 static uint8_t out[SPACE];
 static uint8_t frames[MIXED][FRAME_CAP];
 static call list[MIXED];  /* the calls of a line */
@@ -531,8 +533,11 @@ static const line *line_numbered(const char *number)
 /* Lists the lines, or runs one of them. */
 int main(int argc, char **argv)
 {
+    timed = argc == 6 && strcmp(argv[5], "time") == 0;
+    if (argc == 6 && !timed)
+        data_by = (uint32_t)strtoul(argv[5], NULL, 10);
     for (uint32_t i = 0; i < GRANT; i++)
-        data[i] = (uint8_t)(i * 7 + (i >> 8));
+        data[i] = (uint8_t)(i * data_by + (i >> 8));
     if (argc != 5 && argc != 6) {
         print_lines();
         return argc == 1 ? 0 : 2;
@@ -545,7 +550,6 @@ int main(int argc, char **argv)
         fprintf(stderr, "bench: the two sides answer differently\n");
         return 1;
     }
-    timed = argc == 6;
     double spent = measure(who, l, times, restores);
     if (timed)
         printf("%.2f\n", spent / restores);

@@ -40,10 +40,10 @@ pub answer_seen : (x : Answer) (l p : List ℕ) (e : Ended) (before after : List
 answer_seen x l p e before after h = (λ i. outcome_of (h.ended i) (h.lent i)) ∙ front_seen x.outcome before
 
 -- one call: the record after it is good, shows the state of the definitions, and what is seen is how it ended
-record Stepped (s : Session) (c : Call) (t : Session) (o : Outcome) : Type 0 where
-  good : Good t
-  shows : view t ≡ (step (view s) c).state
-  seen : o ≡ (step (view s) c).outcome
+pub record Stepped (s : Session) (c : Call) (t : Session) (o : Outcome) : Type 0 where
+  pub good : Good t
+  pub shows : view t ≡ (step (view s) c).state
+  pub seen : o ≡ (step (view s) c).outcome
 
 left_stepped : (s : Session) (c : Call) (buffer : ℕ) (t : Session) (o : Outcome) → Good s → Left (step (view s) c) buffer t o → Stepped s c t o
 left_stepped s c buffer t o g h =
@@ -53,7 +53,7 @@ left_stepped s c buffer t o g h =
       seen = h.seen ∙ answer_seen _ _ _ _ _ _ h.answers;
     }
 
-stepped : (s : Session) (c : Call) (t : Session) (o : Outcome) → Good s → Called s c t o → Stepped s c t o
+pub stepped : (s : Session) (c : Call) (t : Session) (o : Outcome) → Good s → Called s c t o → Stepped s c t o
 unfolding step
 stepped s (starting p) t o g h =
     record { good = h.good; shows = shows_back (start p) t.ledger t.pool (start_sound p) h.shows; seen = h.seen }

@@ -1,3 +1,4 @@
 pub mod Bridge
 pub mod Contracts
 pub mod Bursts
+pub mod Separation

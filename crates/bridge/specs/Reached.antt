@@ -2,7 +2,7 @@
 use Rattle.std.specs.Prelude.{ℕ, ◌≡◌, List, [], ◌∷◌, length}
 use Rattle.rules.specs.State.{start}
 use Rattle.rules.specs.Command.{Outcome, wrote, Answer, command, Terms}
-use Rattle.rules.specs.Fetch.{Fetched}
+use Rattle.rules.specs.Fetch.{Fetched, fetch}
 use Rattle.rules.specs.Radio.{radio_call}
 use Rattle.rules.specs.TimerCalls.{TimerAct, second, envelope, timer_call}
 use Rattle.rules.specs.Run.{Call, starting, commanding, radio, timing}
@@ -12,8 +12,9 @@ use Rattle.rules.specs.declared.Ended.{Ended}
 use Rattle.session.specs.Picture.{Good, Shows, view}
 use Rattle.session.specs.Calls.{Answers}
 use Rattle.text.specs.Prints.{outcome_of}
-use Rattle.rules.specs.Acts.{burst_seen, gathered_by}
-use Rattle.fetch.specs.Gathers.{gathered_in, Gathers, Leaves}
+use Rattle.rules.specs.Acts.{Act, calls, bursts, clears, burst_seen, gathered_by}
+use Rattle.rules.specs.Separation.{Shown}
+use Rattle.fetch.specs.Gathers.{gathered_of, gathered_in, Gathers, Leaves}
 
 -- a call with a buffer of so many bytes left the record t, and this could be seen of it
 pub record Left (x : Answer) (buffer : ℕ) (t : Session) (o : Outcome) : Type 0 where
@@ -68,3 +69,22 @@ pub record BurstFollows (s : Session) (g : List ℕ) (terms : Terms) (bytes : Li
   pub runs : Runs s (burst_seen terms (gathered_in g) bytes left o) t
   pub gathered : gathered_in r ≡ gathered_by (gathered_in g) bytes o
   pub gathers : Gathers r
+
+-- the record t and the gathered record r follow from s and g by an act of the host, of which this was seen
+abbrev pub ActedOn : Session → List ℕ → Act → Session → List ℕ → Shown → Type 0
+ActedOn s g (calls c) t r o = Called s c t o.outcome × (g ≡ r) × (o.left ≡ 0)
+ActedOn s g (bursts terms bytes) t r o = Burst (fetch (view s) terms (gathered_in g) bytes) terms.buffer t r o.outcome o.left
+ActedOn s g clears t r o = (s ≡ t) × (r ≡ gathered_of []) × (o ≡ record { outcome = wrote []; left = 0 })
+
+-- and by these acts, act by act
+abbrev pub ActsOn : Session → List ℕ → List Act → List Shown → Session → List ℕ → Type 0
+ActsOn s g [] [] t r = (s ≡ t) × (g ≡ r)
+ActsOn s g [] (o ∷ os) t r = ⊥
+ActsOn s g (x ∷ xs) [] t r = ⊥
+ActsOn s g (x ∷ xs) (o ∷ os) t r = (m : Session) × (k : List ℕ) × ActedOn s g x m k o × ActsOn m k xs os t r
+
+-- the two records came from a start with this profile, from a start of what is gathered, and from these acts
+pub record Hosted (p : List ℕ) (xs : List Act) (os : List Shown) (s : Session) (r : List ℕ) : Type 0 where
+  pub first : Session
+  pub begun : Started p first (wrote [])
+  pub acts : ActsOn first (gathered_of []) xs os s r

@@ -4,18 +4,22 @@
 use Prim.Native.Nat.{ℕ, min}
 use mathlib.Core.Path.{◌≡◌, refl, ap, ◌∙◌}
 use mathlib.Core.List.{List, []}
+use contract.Lifetimes.{Lfts}
 use lib.ListN.{length}
+use denote.Triple.Clauses.{Lasts, at_exit}
+use borrow.Fn.Kinds.{Dens, res_t, ended_of as exits}
 use Rattle.outcomes.specs.Claims.{Claims}
 use Rattle.outcomes.proofs.Claims.{from_claim, from_last}
 use Rattle.rules.specs.Command.{wrote, ended_of, lending}
 use Rattle.rules.specs.Fetch.{fetch}
+use Rattle.rules.specs.Acts.{bursts, clears}
 use Rattle.rules.specs.Run.{Call, starting, commanding, timing, arriving, taking_out, dropping_link, step}
 use Rattle.rules.specs.TimerCalls.{second, envelope}
 use Rattle.session.specs.declared.Session.{Session}
 use Rattle.rules.specs.declared.Ended.{Ended}
 use Rattle.session.specs.Picture.{Good, view}
 use Rattle.text.specs.Prints.{outcome_of}
-use Rattle.bridge.specs.Reached.{Left, Called, Burst}
+use Rattle.bridge.specs.Reached.{Left, Called, Burst, ActedOn}
 use Rattle.bridge.proofs.Contracts.{left_by_lem}
 use Rattle.fetch.specs.declared.Fetched.{Fetched}
 use Rattle.fetch.specs.Gathers.{gathered_in, Gathers}
@@ -29,6 +33,8 @@ use Rattle.host.specs.contracts.pomerassol_drop as drop-call
 use Rattle.host.specs.contracts.pomerassol_second as second_call
 use Rattle.host.specs.contracts.pomerassol_envelope as envelope-call
 use Rattle.host.specs.contracts.pomerassol_fetch as fetch-call
+use Rattle.host.proofs.pomerassol_fetch_start.Kinds as fetch-start-kinds
+use Rattle.host.proofs.pomerassol_fetch_start.Reads as fetch-start-reads
 
 -- a call over a good record s, as its contract says, left t, and its number and the buffer show what was seen of it
 tied :
@@ -117,3 +123,17 @@ pub fetch_tied :
     Burst (fetch (view a.0.now) (lending (length a.1.1.1.0.now)) (gathered_in a.1.0.now) a.1.1.0.now) (length a.1.1.1.0.now) v.0 v.1.0 (outcome_of (ended_in x) v.1.1.1.0) left)
 fetch_tied M 𝓤 𝓛 mem run κs a g x v =
     from_claim 𝓤 _ _ _ (burst_tied a.0.now a.1.0.now a.1.1.0.now v.0 v.1.0 x a.1.1.1.0.now v.1.1.1.0)
+
+-- M-110 from C: a burst is an act of a host, a start of what is gathered too, and so is each call above (`called_acted` in bridge/proofs/Separation.antt); so `hosts_separate` there speaks of two hosts that make these calls
+pub fetch_acted :
+    Claims fetch-call.ended (λ M 𝓤 𝓛. fetch-call.clauses 𝓛)
+    (λ κs a x v.
+    (left : ℕ) × (left_in x ≡ min left left_cap) ×
+    ActedOn a.0.now a.1.0.now (bursts (lending (length a.1.1.1.0.now)) a.1.1.0.now) v.0 v.1.0 (record { outcome = outcome_of (ended_in x) v.1.1.1.0; left = left }))
+fetch_acted = fetch_tied
+
+pub fetch_start_acted :
+    (κs : Lfts 1) (a : Dens κs fetch-start-kinds.ps) (r : (res_t fetch-start-kinds.r κs).Denot) (v : Lasts (exits 1 fetch-start-kinds.ps fetch-start-kinds.r) κs a) →
+    fetch-start-reads.Post κs a r (at_exit (exits 1 fetch-start-kinds.ps fetch-start-kinds.r) κs a v) →
+    (s : Session) → ActedOn s a.0.now clears s v.0 (record { outcome = wrote []; left = 0 })
+fetch_start_acted κs a r v h s = (refl, h, refl)

@@ -32,6 +32,17 @@ unfolding ◌⇒◌else◌
 branch P true x y f g = f refl
 branch P false x y f g = g refl
 
+-- two orders of checks with equal tests, line by line
+pub branch₂ :
+    {A : Type 0} (R : A → A → Type 0) (b d : Bool) (x y u v : A) → b ≡ d → (b ≡ true → R x u) → (b ≡ false → R y v) →
+    R (b ⇒ x else y) (d ⇒ u else v)
+unfolding ◌⇒◌else◌
+branch₂ R b d x y u v e f g = subst (λ (z : Bool). R (b ⇒ x else y) (z ⇒ u else v)) e (by b refl)
+  where
+    by : (z : Bool) → b ≡ z → R (z ⇒ x else y) (z ⇒ u else v)
+    by true q = f q
+    by false q = g q
+
 -- a test of two parts
 pub both_left : (a b : Bool) → a && b ≡ true → a ≡ true
 both_left true b e = refl

@@ -29,4 +29,11 @@ pub mod Openings
 pub mod Stages
 pub mod Fetch
 pub mod Acts
+pub mod SeparationReading
+pub mod SeparationBytes
+pub mod SeparationChannels
+pub mod SeparationCalls
+pub mod Separation
+pub mod SeparationBursts
+pub mod SeparationExample
 pub mod Settled

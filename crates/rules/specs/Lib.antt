@@ -27,4 +27,5 @@ pub mod Acts
 pub mod Demands
 pub mod TimerHistory
 pub mod Sound
+pub mod Separation
 pub mod Numbers

@@ -12,5 +12,6 @@ pub mod Starts
 pub mod Answers
 pub mod Owners
 pub mod Elsewhere
+pub mod Separation
 pub mod Alike
 pub mod Settled

@@ -4,7 +4,7 @@ use mathlib.Core.Path.{sym}
 use native.Mathlib.Omega.{arith}
 use lib.Seq.{length-take-le}
 use Rattle.flow.proofs.Filling.{fills_within}
-use Rattle.flow.proofs.Pieces.{midway_none, midway_within, midway_less, midway_more}
+use Rattle.flow.proofs.Pieces.{midway_none, midway_all, midway_within, midway_less, midway_more}
 use Rattle.stream.proofs.feed_all.Goals as goal
 
 pub loop-next-init : goal.loop-next-init
@@ -24,3 +24,9 @@ loop-next-smaller g c = omega (arith, midway_less c.loop-next.invariant c.fill-p
 
 pub loop-next-preserved : goal.loop-next-preserved
 loop-next-preserved g c = midway_more c.loop-next.invariant c.fill-progress.ensures (omega (arith, c.fill-progress.auto.out))
+
+pub returns : goal.returns
+returns g c = record {
+    ready = c.loop-next.invariant.ready;
+    line_after = λ m. midway_all c.loop-next.invariant c.loop-next-test.false;
+  }

@@ -4,7 +4,7 @@ use Rattle.tools.proofs.Answering.{lines_answer, calls_answer, bench_answer, det
 use Rattle.tools.proofs.answer.Goals as goal
 
 pub returns-in-Lines : goal.returns-in-Lines
-returns-in-Lines c = lines_answer _ _ _ _ _ _ c.requires.0 _ _ _ _ _ _ c.in-Lines.is c.end_line.ensures
+returns-in-Lines c = search lines_answer
 
 pub returns-in-Calls : goal.returns-in-Calls
 returns-in-Calls c = calls_answer _ _ _ _ _ _ c.requires.0 _ _ _ _ _ _ c.in-Calls.is c.tell_call.ensures
@@ -16,7 +16,7 @@ pub returns-in-Details : goal.returns-in-Details
 returns-in-Details c = details_answer _ _ _ _ _ _ c.requires.0 _ _ _ _ c.in-Details.is c.tell_details.ensures
 
 pub returns-in-Fetch : goal.returns-in-Fetch
-returns-in-Fetch c = fetch_answer _ _ _ _ _ _ c.requires.0 _ _ _ _ _ _ _ c.in-Fetch.is c.tell_burst.ensures
+returns-in-Fetch c = search fetch_answer
 
 pub returns-in-Mend : goal.returns-in-Mend
 returns-in-Mend c = mend_answer _ _ _ _ _ _ c.requires.0 _ _ _ _ c.in-Mend.is c.tell_mended.ensures
