@@ -7,7 +7,9 @@
 #include <stdio.h>
 #include <stdlib.h>
 #include <string.h>
+#if SIZE_MAX > 0xFFFFFFFF
 #include <sys/mman.h>
+#endif
 
 enum { LARGEST = 65535, GUARD = 64, SPACE = GUARD + LARGEST + 1 + GUARD, NOISE = 1 << 18 };
 enum { REFUSED = REFERENCE_REFUSED, COMMAND_CAP = 256, FRAME_CAP = 300, DATA_CAP = 241, CELLS = 256, CELL = 32 };
@@ -365,6 +367,49 @@ static void differ(const char *what, const call *c, uint64_t from_reference, uin
     exit(1);
 }
 
+/* ---- What a record's bytes are ---- */
+
+static uint32_t record_sum; /* over every byte of the library's record, after each call of the history */
+
+/* Adds bytes to the sum, four at a time, the last ones alone. */
+static void add_to_sum(const void *from, size_t n)
+{
+    const uint8_t *bytes = from;
+    for (; n >= 4; n -= 4, bytes += 4) {
+        uint32_t word;
+        memcpy(&word, bytes, 4);
+        record_sum = (record_sum ^ word) * 16777619u;
+    }
+    for (; n > 0; n--)
+        record_sum = (record_sum ^ *bytes++) * 16777619u;
+}
+
+/* Whether a part of the library's pool has what a queue holds, from its front on, and 0 behind that. */
+static bool part_holds(const uint8_t *part, uint32_t size, const reference_queue *q)
+{
+    for (uint32_t i = 0; i < size; i++)
+        if (part[i] != (i < q->held ? q->bytes[(q->first + i) % REFERENCE_RING] : 0))
+            return false;
+    return true;
+}
+
+/* Whether the pool is as the header says: the parts of the open channels in order, and 0 behind them. */
+static bool pool_kept(const records *r)
+{
+    static const reference_queue none;
+    const uint8_t *part = r->pomerassol.session.pool, *end = part + sizeof r->pomerassol.session.pool;
+    for (uint32_t channel = 1; channel <= POMERASSOL_CHANNELS; channel++) {
+        const reference_channel *c = &r->reference.session.channel[channel - 1];
+        uint32_t size = POMERASSOL_PART((uint32_t)r->pomerassol.session.ledger[POMERASSOL_GRANT(channel)]);
+        if (size == 0)
+            continue;
+        if (!part_holds(part, size, &c->receive) || !part_holds(part + size, size, &c->send))
+            return false;
+        part += 2 * size;
+    }
+    return part_holds(part, (uint32_t)(end - part), &none);
+}
+
 /* ---- One call on both sides ---- */
 
 /* Whether a number is that of a refusal of these calls. */
@@ -535,6 +580,9 @@ static void compare_timers(void)
 static void compare_state(void)
 {
     static const uint8_t opening[7] = {0xB5, 1, 3, 0xB9, 2, 0x05, 0xDC};
+    static const call none = {NOTHING, 0, noise, 0, 0};
+    if (!pool_kept(&run))
+        differ("the places of held bytes in the pool", &none, 0, 0);
     copies = run;
     on_copies = true;
     compare_timers();
@@ -892,6 +940,12 @@ static object *add(uint8_t number, uint32_t flagged, const uint8_t *value, uint3
     return o;
 }
 
+/* Plans an object of n random bytes. */
+static object *add_random(uint8_t number, uint32_t flagged, uint32_t n)
+{
+    return add(number, flagged, random_bytes(), n);
+}
+
 /* Plans objects 01 and 02. */
 static void begin(uint8_t type, uint8_t destination)
 {
@@ -912,7 +966,7 @@ static void begin(uint8_t type, uint8_t destination)
 static void add_shown(void)
 {
     if (chance(8))
-        add(0x05, 50, random_bytes(), below(20));
+        add_random(0x05, 50, below(20));
     if (chance(8))
         add(0x1E, 50, random_bytes(), 2);
 }
@@ -958,7 +1012,8 @@ static void add_bearer(void)
 /* Plans object 3C: datagrams, a stream, or seldom another. */
 static void add_transport(void)
 {
-    uint8_t transport[3] = {chance(70) ? 0x01 : 0x02, random_byte(), random_byte()};
+    uint8_t transport[3] = {chance(70) ? 0x01 : 0x02};
+    memcpy(transport + 1, random_bytes(), 2);
     if (chance(8))
         transport[0] = (uint8_t)below(8);
     add(0x3C, 50, transport, 3);
@@ -976,13 +1031,13 @@ static void plan_open(void)
         add_transport();
     add_shown();
     if (chance(8))
-        add(0x47, 50, random_bytes(), below(30));
+        add_random(0x47, 50, below(30));
     for (uint32_t i = below(4); i > 0 && chance(20); i--)
         add(0x04, 50, random_bytes(), 2);
     for (uint32_t i = below(4); i > 0 && chance(20); i--)
-        add(0x0D, 50, random_bytes(), below(20));
+        add_random(0x0D, 50, below(20));
     for (uint32_t i = below(4); i > 0 && chance(20); i--)
-        add(0x3E, 50, random_bytes(), below(9));
+        add_random(0x3E, 50, below(9));
 }
 
 /* CLOSE CHANNEL: mostly of a channel whose link was dropped, so that few such stay. */
@@ -1007,7 +1062,7 @@ static void plan_send(void)
 {
     uint8_t channel = pick_channel(is_focus);
     begin(0x43, identity(channel));
-    add(0x36, 90, random_bytes(), send_size(channel));
+    add_random(0x36, 90, send_size(channel));
     add_shown();
 }
 
@@ -1038,6 +1093,7 @@ static void write_some_time(uint8_t *to)
         {0x32, 0x95, 0x95}, {0x42, 0, 0}, {0, 0x06, 0}, {0, 0, 0x06}, {0, 0, 0}, {0xA0, 0, 0x10}, {0x0A, 0, 0x10},
         {0, 0xA0, 0x10}, {0, 0, 0x0A}, {0, 0, 0x10}, {0, 0x10, 0}, {0x10, 0, 0}, {0x32, 0, 0}, {0, 0x95, 0x95},
     };
+    uint32_t hours = below(24), minutes = below(60), seconds = below(60);
     switch (below(12)) {
     case 0:
         memcpy(to, bounds[below(sizeof bounds / sizeof bounds[0])], 3);
@@ -1046,16 +1102,16 @@ static void write_some_time(uint8_t *to)
         memcpy(to, random_bytes(), 3);
         break;
     case 2:
-        write_time(to, below(24), below(60), below(60));
+        write_time(to, hours, minutes, seconds);
         break;
     case 3:
-        write_time(to, 0, 1 + below(59), below(3));
+        write_time(to, 0, 1 + minutes % 59, seconds % 3);
         break;
     case 4:
-        write_time(to, 1 + below(23), 0, below(3));
+        write_time(to, 1 + hours % 23, 0, seconds % 3);
         break;
     default:
-        write_time(to, 0, 0, 1 + below(20));
+        write_time(to, 0, 0, 1 + seconds % 20);
     }
 }
 
@@ -1078,7 +1134,8 @@ static void plan_timer(void)
 static void plan_other(void)
 {
     static const uint8_t types[] = {0x00, 0x01, 0x03, 0x04, 0x06, 0x26, 0x28, 0x3F, 0x45, 0x7F, 0x82, 0xC0, 0xC2, 0xFF};
-    begin(chance(70) ? types[below(sizeof types)] : random_byte(), chance(50) ? 0x82 : 0x21);
+    uint8_t type = chance(70) ? types[below(sizeof types)] : random_byte();
+    begin(type, chance(50) ? 0x82 : 0x21);
     if (chance(30))
         plan[0].value[0] = plan[0].value[2] = 0;
 }
@@ -1109,12 +1166,13 @@ static void add_unexpected(void)
     static const uint8_t tags[] = {0x01, 0x02, 0x04, 0x05, 0x0D, 0x19, 0x1E, 0x24, 0x25, 0x35, 0x36, 0x37, 0x38, 0x39, 0x3C,
                                    0x3E, 0x47};
     uint8_t number = chance(60) ? tags[below(sizeof tags)] : (uint8_t)(1 + below(126));
-    object *o = add(number, 30, random_bytes(), chance(90) ? below(9) : below(140));
+    object *o = add_random(number, 30, chance(90) ? below(9) : below(140));
     if (chance(80))
         return;
     o->tag = 0x7E;
     o->long_tag = true;
-    o->behind_7f = (uint16_t)(random_byte() << 8 | (chance(60) ? number : random_byte()));
+    o->behind_7f = (uint16_t)(random_byte() << 8);
+    o->behind_7f |= chance(60) ? number : random_byte();
 }
 
 /* Plans a second of an object that stands already. */
@@ -1138,9 +1196,10 @@ static void resize_one(void)
 static void change_device(void)
 {
     static const uint8_t devices[] = {0x00, 0x01, 0x20, 0x21, 0x27, 0x28, 0x80, 0x81, 0x82, 0x83, 0xA1};
+    uint32_t end = below(2);
     for (uint32_t i = 0; i < planned; i++)
         if ((plan[i].tag & 0x7F) == 0x02) {
-            plan[i].value[below(2)] = chance(80) ? devices[below(sizeof devices)] : random_byte();
+            plan[i].value[end] = chance(80) ? devices[below(sizeof devices)] : random_byte();
             return;
         }
 }
@@ -1277,10 +1336,12 @@ static void damage(void)
         memcpy(frame + n, random_bytes(), 4);
         break;
     case 2:
-        frame[below(n)] = random_byte();
+        n = below(n);
+        frame[n] = random_byte();
         break;
     default:
-        frame[below(n < 16 ? n : 16)] ^= (uint8_t)(1u << below(8));
+        n = below(n < 16 ? n : 16);
+        frame[n] ^= (uint8_t)(1u << below(8));
     }
 }
 
@@ -1489,6 +1550,7 @@ static void burst_long(const uint8_t *bytes, size_t n)
     }
 }
 
+#if SIZE_MAX > 0xFFFFFFFF
 /* Compares bursts of about FFFFFFFF bytes of 0 on copies. */
 static void compare_long_bursts(void)
 {
@@ -1505,6 +1567,16 @@ static void compare_long_bursts(void)
     on_copies = false;
     munmap(zeros, most);
 }
+#else
+/* Where size_t has 32 bits no such burst can be lent; a short one is made in its place. */
+static void compare_long_bursts(void)
+{
+    copies = run;
+    on_copies = true;
+    burst_long(noise, sizeof noise);
+    on_copies = false;
+}
+#endif
 
 /* ---- Counting an answer ---- */
 
@@ -1967,6 +2039,8 @@ static uint64_t make(const call *c)
     memcpy(timers_before, run.reference.session.timer, sizeof timers_before);
     uint64_t number = perform(&run, c);
     uint32_t returned = POMERASSOL_ENDED(number);
+    add_to_sum(&run.pomerassol.session, sizeof run.pomerassol.session);
+    add_to_sum(&run.pomerassol.gathered, sizeof run.pomerassol.gathered);
     if (returned >= REFUSED)
         refusals[c->kind][returned - REFUSED]++;
     if (from_card)
@@ -2004,8 +2078,10 @@ static void sensible_profile(uint8_t *profile)
         profile[5] ^= (uint8_t)(0x04 << below(2));
     if (chance(10))
         profile[7] ^= (uint8_t)(0x01 << below(2));
-    for (uint32_t i = below(20); i < 4; i++)
-        profile[below(13)] ^= (uint8_t)(1u << below(8));
+    for (uint32_t i = below(20); i < 4; i++) {
+        uint32_t place_of_bit = below(13);
+        profile[place_of_bit] ^= (uint8_t)(1u << below(8));
+    }
 }
 
 /* A start: the profile sensible, cut, lengthened, or random. */
@@ -2039,7 +2115,8 @@ static void make_fetch_start(void)
 /* A burst off the line. What is left is handed in again or dropped; all that is on the line too, mostly at wrong heads. */
 static void make_burst(void)
 {
-    call c = {FETCH, 0, line, burst_size(), buffer_size(255)};
+    size_t n = burst_size();
+    call c = {FETCH, 0, line, n, buffer_size(255)};
     uint64_t number = make(&c);
     bool no_details = POMERASSOL_ENDED(number) == 12 && row_of(reference_space + GUARD) == ZERO_DETAILS;
     take_off_line(chance(10) ? c.n : c.n - POMERASSOL_LEFT(number));
@@ -2058,7 +2135,9 @@ static void make_command(void)
 static void make_arrival(void)
 {
     uint8_t channel = pick_channel(chance(70) ? is_focus : is_established);
-    call c = {ARRIVAL, channel, random_bytes(), arrival_size(channel), buffer_size(16)};
+    const uint8_t *bytes = random_bytes();
+    uint32_t n = arrival_size(channel);
+    call c = {ARRIVAL, channel, bytes, n, buffer_size(16)};
     make(&c);
 }
 
@@ -2073,7 +2152,8 @@ static void make_take(void)
 /* A drop: mostly where the link is established. */
 static void make_drop(void)
 {
-    call c = {DROP, pick_channel(is_established), noise, 0, buffer_size(16)};
+    uint8_t channel = pick_channel(is_established);
+    call c = {DROP, channel, noise, 0, buffer_size(16)};
     make(&c);
 }
 
@@ -2266,6 +2346,7 @@ int main(int argc, char **argv)
     fill_noise();
     history();
     printf("seed %" PRIu64 ": %" PRIu64 " calls, %" PRIu64 " more on copies, no difference\n", seed, made, made_on_copies);
+    printf("sum over the record's bytes after each call: %08" PRIX32 "\n", record_sum);
     print_answers();
     print_refusals();
     print_places();
