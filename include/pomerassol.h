@@ -36,6 +36,14 @@ extern "C" {
 POMERASSOL_ASSERT(sizeof(uint64_t) == 8 && (unsigned char)-1 == 255, "bytes of 8 bits");
 POMERASSOL_ASSERT(sizeof(void *) <= sizeof(uint64_t), "pointers");
 
+/* A count that is handed in: size_t where that has 64 bits, and else a number of 64 bits. */
+#if defined(__SIZEOF_SIZE_T__) && __SIZEOF_SIZE_T__ == 8
+typedef size_t pomerassol_size;
+#else
+typedef uint64_t pomerassol_size;
+#endif
+POMERASSOL_ASSERT(sizeof(pomerassol_size) == 8, "counts");
+
 /* A number that a call returns is the count of bytes written, at most 1500, or this flag plus the refusal's number: 1 to 12. */
 #define POMERASSOL_REFUSED UINT32_C(0x1000000)
 
@@ -137,26 +145,26 @@ POMERASSOL_ASSERT(offsetof(pomerassol_gathered, count) == 256, "count");
 
 /* A fresh session from profile bytes of any length; at a card's reset, anew. The record may hold anything, as memory that is
  * all 0. Afterwards it shows `start` of the profile: no channel, no event, no timer, an empty pool, every cell unpromised. */
-void pomerassol_start(pomerassol_session *s, const uint8_t *profile, uint64_t profile_size);
+void pomerassol_start(pomerassol_session *s, const uint8_t *profile, pomerassol_size profile_size);
 
 /* The card sends a command. The answer is `command` of the session, the buffer's size and the bytes: the response that the
  * modem writes, at most 255 bytes, and the session behind it. R1 where the buffer has fewer than 255 bytes, then R2. */
-uint32_t pomerassol_command(pomerassol_session *s, const uint8_t *bytes, uint64_t bytes_size, uint8_t *out, uint64_t out_size);
+uint32_t pomerassol_command(pomerassol_session *s, const uint8_t *bytes, pomerassol_size bytes_size, uint8_t *out, pomerassol_size out_size);
 
 /* The radio brings bytes for a channel. The answer is `arrival`: the bytes are stored whole, and event 09, 16 bytes, tells
  * of them where it is listed and nothing was held to be received; else no byte is written. On a datagram channel they are
  * one datagram; R11 where it would be the seventeenth held. R1 where the buffer has fewer than 16 bytes, then R3 to R6,
  * then R11. */
-uint32_t pomerassol_arrival(pomerassol_session *s, uint8_t channel, const uint8_t *bytes, uint64_t bytes_size, uint8_t *out, uint64_t out_size);
+uint32_t pomerassol_arrival(pomerassol_session *s, uint8_t channel, const uint8_t *bytes, pomerassol_size bytes_size, uint8_t *out, pomerassol_size out_size);
 
 /* The radio takes the bytes of a channel that are ready. The answer is `taking`: as many of them as fit the buffer, in
  * order, and they are held no longer. Of a datagram channel it is the oldest finished datagram, whole; R12 where the buffer
  * is shorter. R3 to R5, then R12. */
-uint32_t pomerassol_take(pomerassol_session *s, uint8_t channel, uint8_t *out, uint64_t out_size);
+uint32_t pomerassol_take(pomerassol_session *s, uint8_t channel, uint8_t *out, pomerassol_size out_size);
 
 /* The radio tells that the link of a channel was dropped. The answer is `dropping`: the link is dropped, what is held stays,
  * and event 0A, 13 bytes, tells of it where it is listed. R1 where the buffer has fewer than 16 bytes, then R3 to R5. */
-uint32_t pomerassol_drop(pomerassol_session *s, uint8_t channel, uint8_t *out, uint64_t out_size);
+uint32_t pomerassol_drop(pomerassol_session *s, uint8_t channel, uint8_t *out, pomerassol_size out_size);
 
 /* A second has passed. The session is that of `passing`: every timer that runs loses a second, and one that comes to zero
  * stops and waits. Nothing is written and nothing is refused. */
@@ -164,24 +172,24 @@ void pomerassol_second(pomerassol_session *s);
 
 /* The envelope of the lowest timer that waits, 14 bytes with the time that it was started with; then it waits no more. The
  * answer is `enveloping`. R1 where the buffer has fewer than 14 bytes, then R10 where no timer waits. */
-uint32_t pomerassol_envelope(pomerassol_session *s, uint8_t *out, uint64_t out_size);
+uint32_t pomerassol_envelope(pomerassol_session *s, uint8_t *out, pomerassol_size out_size);
 
 /* What command is at hand, from its outer head and its first object alone: number times 10000 plus type times 100 plus
  * qualifier, all hexadecimal, which are the details that the answer to the same bytes has; 0 where the outer frame is wrong,
  * or the first object is none, faulty or not 01 with length 3. `POMERASSOL_REFUSED` plus 2 where there is no byte, or more
  * than 256. The answer is `at_hand`. It needs no record. */
-uint32_t pomerassol_details(const uint8_t *bytes, uint64_t bytes_size);
+uint32_t pomerassol_details(const uint8_t *bytes, pomerassol_size bytes_size);
 
 /* The text of an alpha identifier, the value of object 05, as 16-bit units: the default alphabet of TS 23.038, or the codings
  * 80, 81 and 82 of TS 102 221 annex A. The answer is `reads`; the number is the count of units, which stand at the front of
  * `out`, whose size is counted in units. R13 where the value is malformed, then R14 where `out` has fewer units than the
  * text; then no unit is written. It needs no record. With as many units in `out` as the value has bytes it is never R14. */
-uint64_t pomerassol_alpha_read(const uint8_t *value, uint64_t value_size, uint16_t *out, uint64_t out_size);
+uint64_t pomerassol_alpha_read(const uint8_t *value, pomerassol_size value_size, uint16_t *out, pomerassol_size out_size);
 
 /* The alpha identifier of a text: the shortest coding, on a tie the first of default, 80, 81 and 82. The answer is `writes`;
  * the number is the count of bytes. R14 where `out` has fewer, which is then as it was; there is no other refusal. 1 byte and
  * 2 for each unit are always enough. */
-uint64_t pomerassol_alpha_write(const uint16_t *units, uint64_t units_size, uint8_t *out, uint64_t out_size);
+uint64_t pomerassol_alpha_write(const uint16_t *units, pomerassol_size units_size, uint8_t *out, pomerassol_size out_size);
 
 /* The number of these two is a count, which is below this flag, or the flag plus the refusal's number, 13 or 14. */
 #define POMERASSOL_TEXT_REFUSED UINT64_C(0x8000000000000000)
@@ -194,7 +202,7 @@ void pomerassol_fetch_start(pomerassol_gathered *gathered);
  * one, by the outer head, which is answered at the byte that shows it; or call for more than 256 bytes, which is R2. Then
  * nothing is gathered, and the bytes behind are left. Else all are taken, and nothing is written: more is to come.
  * R1 where the buffer has fewer than 255 bytes, before everything: the burst is not taken, and what was gathered stays. */
-uint64_t pomerassol_fetch(pomerassol_session *s, pomerassol_gathered *gathered, const uint8_t *bytes, uint64_t bytes_size, uint8_t *out, uint64_t out_size);
+uint64_t pomerassol_fetch(pomerassol_session *s, pomerassol_gathered *gathered, const uint8_t *bytes, pomerassol_size bytes_size, uint8_t *out, pomerassol_size out_size);
 
 /* What that number says: how many of the burst's bytes are left, FFFFFFFF for that many and more; and how the call ended, as
  * in the other calls, 0 being that more is to come. */
