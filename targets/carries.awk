@@ -2,12 +2,13 @@
 # little-endian machine whose pointers have 64 bits or fewer. Whatever else stands there is told with its line and refused:
 # an address as a number, compared pointers, a constant that could hold a pointer, a structure that LLVM would lay out in more
 # ways than one, code for one processor, an attribute that is not known, a pointer's slot used as something else.
-# Two numbers as a structure, each aligned to its own size, lie alike wherever numbers of 64 bits are aligned to 8 bytes.
+# Two numbers as a structure, each aligned to its own size, lie alike wherever numbers of 64 bits are aligned to 8 bytes; so do a
+# pointer and a number of 64 bits behind it, which stands at 8 bytes whatever the pointer takes.
 BEGIN {
     name = "(%[A-Za-z0-9_.]+|%\"[^\"]*\")"
     symbol = "(@[A-Za-z0-9_.]+|@\"[^\"]*\")"
     whole = "(i1|i8|i16|i32|i64)"
-    pair = "\\{ (i8|i16|i32|i64), (i8|i16|i32|i64) \\}"
+    pair = "\\{ ((i8|i16|i32|i64), (i8|i16|i32|i64)|ptr, i64) \\}"
     value = "(" name "|-?[0-9]+|true|false)"
     typed = "(" whole " " value "|ptr " name ")"
     result = name " = "

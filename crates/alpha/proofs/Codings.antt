@@ -1,6 +1,6 @@
 -- The codings of units, unit by unit: what stands in front of the rest, and how long they are.
 -- Assumes nothing.
-use Prim.Native.Nat.{ℕ, suc, ◌+◌, ◌*◌, ◌≤◌, ◌<◌}
+use Prim.Native.Nat.{ℕ, suc, ◌+◌, ◌*◌, ◌/◌, ◌%◌, ◌≤◌, ◌<◌}
 use mathlib.Core.Path.{◌≡◌, refl, sym, ap, ◌∙◌}
 use mathlib.Core.Bool.{true, false, false≢true}
 use mathlib.Core.List.{List, [], ◌∷◌, ◌++◌}
@@ -10,22 +10,8 @@ use lib.ListN.{length}
 use borrow.Author.Tests.{lt-ltb, le-ltb}
 use Rattle.rules.proofs.Laws.{stop, skip}
 use Rattle.text.specs.Frames.{readable, frame_bytes}
-use Rattle.alpha.specs.declared.Code.{Code}
-use Rattle.alpha.specs.declared.Code.TheVariants.{Of, Nothing}
 use Rattle.alpha.specs.Alphabet.{escape, code_of, extension_code_of}
 use Rattle.alpha.specs.Writes.{before, default_extended, default_bytes, default_before, default_coding, pair_bytes, pair_coding, is_none, needs, based_bytes, block_with, base_with, shorter, first_or}
-use Rattle.alpha.specs.Passes.{code_told}
-
--- what is told of a code
-pub code_is : (o : Option ℕ) (t : Code) (c : ℕ) → t ≡ code_told o → t ≡ Of c → o ≡ some c
-unfolding code_told
-code_is none t c e f = absurd (let z : ◌≡◌ {A = ℕ} 0 1 = cc in omega arith)
-code_is (some d) t c e f = cc
-
-pub code_none : (o : Option ℕ) (t : Code) → t ≡ code_told o → t ≡ Nothing → o ≡ none
-unfolding code_told
-code_none none t e f = refl
-code_none (some d) t e f = absurd (let z : ◌≡◌ {A = ℕ} 0 1 = cc in omega arith)
 
 -- a unit needs the pointer where it has no code
 pub needs_none : (u : ℕ) → code_of u ≡ none → needs u ≡ true
@@ -64,6 +50,10 @@ module _ (u : ℕ) (us : List ℕ) where
   pub coding_none : code_of u ≡ none → extension_code_of u ≡ none → default_coding (u ∷ us) ≡ none
   unfolding default_extended default_before
   coding_none e f = without e ∙ ap (λ (o : Option ℕ). default_before (default_extended o) (default_coding us)) f
+
+-- the two bytes of a unit
+pub halves : (u : ℕ) → u < 65536 → (u / 256 % 256) ∷ (u % 256) ∷ [] ≡ (u / 256) ∷ (u % 256) ∷ []
+halves u h = ap (λ (x : ℕ). x ∷ (u % 256) ∷ []) (let e : u / 256 % 256 ≡ u / 256 = omega arith in e)
 
 -- how long they are
 pub pairs_long : (us : List ℕ) → length (pair_bytes us) ≡ 2 * length us

@@ -14,8 +14,8 @@ use lib.Dec.{ltb, leb}
 use borrow.Author.Tests.{lt-ltb, le-ltb, leb-true, ltb-true}
 use Rattle.rules.specs.Checks.{◌⇒◌else◌}
 use Rattle.rules.specs.Sound.{Each}
-use Rattle.rules.specs.declared.Ended.{Ended}
-use Rattle.rules.specs.declared.Ended.TheVariants.{Wrote, Refused}
+use Rattle.rules.specs.Words.{Ended}
+use Rattle.std.specs.Prelude.{Ok, Err, Option as CodeOption, Some, None, IsSome}
 use Rattle.rules.specs.declared.Refusal.TheVariants.{ShortText}
 use Rattle.rules.proofs.Laws.{stop, skip, both, both_left, both_right}
 use Rattle.octets.specs.Parts.{pasted, overlaid}
@@ -23,14 +23,13 @@ use Rattle.octets.proofs.Pastes.{front_over, paste_after, length_pasted}
 use Rattle.octets.proofs.Stores.{store_one}
 use Rattle.octets.proofs.Copies.{Copied, copied_none, copied_more, copied_all}
 use Rattle.text.specs.Frames.{readable, frame_bytes}
-use Rattle.alpha.specs.declared.Code.{Code}
-use Rattle.alpha.specs.declared.Code.TheVariants.{Of, Nothing}
 use Rattle.alpha.specs.Alphabet.{escape, code_of, extension_code_of}
 use Rattle.alpha.specs.Writes.{before, needs, default_coding, pair_bytes, pair_coding, serves, based_byte, based_bytes, block_with, block_serves, base_with, base_serves}
 use Rattle.alpha.specs.Calls.{fitted, laid}
-use Rattle.alpha.specs.Passes.{code_told, CodedBy, Ends}
-use Rattle.alpha.proofs.Texts.{head_within, head_is, head_rest, rest_none}
-use Rattle.alpha.proofs.Codings.{code_is, code_none, needs_none, coding_plain, coding_extended, coding_none, pairs_long, pair_size, based_long, there_is}
+use Rattle.alpha.specs.Passes.{told, CodedBy, Ends}
+use Rattle.alpha.proofs.Fronts.{Front, front_none, front_room, front_more, front_all}
+use Rattle.alpha.proofs.Texts.{told_some, told_none, head_within, head_is, head_rest, rest_none}
+use Rattle.alpha.proofs.Codings.{halves, needs_none, coding_plain, coding_extended, coding_none, pairs_long, pair_size, based_long, there_is}
 
 -- bytes that stand in front of a coding that is there
 pub record Fronts (s : List ℕ) (o : Option (List ℕ)) (t : List ℕ) : Type 0 where
@@ -45,74 +44,64 @@ fronts s (some w) t e = record { rest = w; there = refl; is = ap frame_bytes (sy
 
 -- the first n bytes of the default alphabet stand in the buffer, and the rest of the units gives the others
 pub record Laying (us before : List ℕ) (n i : ℕ) (after : List ℕ) : Type 0 where
-  pub within : i ≤ length us
   pub left : default_coding (drop i us) ≡ some (drop n (frame_bytes (default_coding us)))
-  pub copied : Copied before 0 (frame_bytes (default_coding us)) n after
+  pub front : Front (frame_bytes (default_coding us)) before n after
 
 pub laying_none : (us before : List ℕ) → readable (default_coding us) ≡ true → length (frame_bytes (default_coding us)) ≤ length before → Laying us before 0 0 before
-laying_none us before e h =
-    record {
-      within = omega arith;
-      left = there_is (default_coding us) e;
-      copied = copied_none before 0 _ (let z = zero-add (length (frame_bytes (default_coding us))) in omega arith);
-    }
+laying_none us before e h = record { left = there_is (default_coding us) e; front = front_none _ before h }
+
+pub laying_as : {us before : List ℕ} {n m i : ℕ} {after behind : List ℕ} → m ≡ n → behind ≡ after → Laying us before n i after → Laying us before m i behind
+laying_as {us} {before} {n} {m} {i} {after} {behind} e f w = subst (λ (k : ℕ). Laying us before k i behind) (sym e) (subst (λ (d : List ℕ). Laying us before n i d) (sym f) w)
 
 module _ (us before : List ℕ) (n i : ℕ) (after : List ℕ) (w : Laying us before n i after) where
-  pub laying_same : length after ≡ length before
-  laying_same = w.copied.same
-
   pub laying_end : length us ≤ i → after ≡ overlaid (frame_bytes (default_coding us)) before
   unfolding default_coding frame_bytes
   laying_end h =
       let e : some [] ≡ some (drop n (frame_bytes (default_coding us))) = sym (ap default_coding (drop_of_length-le us h)) ∙ w.left in
-      copied_all before 0 _ n after w.copied (rest_none _ n (sym (ap frame_bytes e))) ∙ front_over before _
+      front_all _ before n after w.front (rest_none _ n (sym (ap frame_bytes e)))
 
-  module _ (h : i < length us) (t : Code) (e : t ≡ code_told (code_of (get_or us i 0))) where
+  module _ (h : i < length us) where
     here : drop i us ≡ get_or us i 0 ∷ drop (i + 1) us
     here = drop-cons us i 0 h ∙ ap (λ (k : ℕ). get_or us i 0 ∷ drop k us) (sym (add-one i))
 
-    pub laying_code : (c : ℕ) → t ≡ Of c → (n < length after) × Laying us before (n + 1) (i + 1) (set after n c)
+    pub laying_code : (c : ℕ) → Some c ≡ told (code_of (get_or us i 0)) → (n < length after) × Laying us before (n + 1) (i + 1) (set after n c)
     laying_code c f =
         let s = frame_bytes (default_coding us) in
-        let d = sym (ap default_coding here ∙ coding_plain (get_or us i 0) (drop (i + 1) us) c (code_is _ t c e f)) ∙ w.left in
+        let d = sym (ap default_coding here ∙ coding_plain (get_or us i 0) (drop (i + 1) us) c (told_some _ _ c f refl)) ∙ w.left in
         let r = fronts (c ∷ []) _ _ d in
         let k = head_within s n c r.rest r.is in (
-          omega (arith, w.copied.fits, w.copied.same),
+          front_room s before n after w.front k,
           record {
-            within = omega arith;
             left = r.there ∙ ap some (sym (head_rest s n c r.rest r.is));
-            copied =
-                subst (λ (j : ℕ). Copied before 0 s (n + 1) (set after j c)) (zero-add n)
-                (copied_more before 0 s n after c w.copied k (sym (head_is s n c r.rest r.is)));
+            front = front_more s before n after w.front c k (sym (head_is s n c r.rest r.is));
           },
         )
 
-    module _ (f : t ≡ Nothing) (x : Code) (g : x ≡ code_told (extension_code_of (get_or us i 0))) where
-      pub laying_coded : x ≡ Nothing → ⊥
-      laying_coded y =
-          let d = sym (ap default_coding here ∙ coding_none (get_or us i 0) (drop (i + 1) us) (code_none _ t e f) (code_none _ x g y)) ∙ w.left in
-          let z : ◌≡◌ {A = ℕ} 0 1 = cc in
-          omega arith
+    module _ (f : None ≡ told (code_of (get_or us i 0))) where
+      pub laying_coded : (x : CodeOption ℕ) → x ≡ told (extension_code_of (get_or us i 0)) → IsSome x
+      laying_coded None g =
+          let d = sym (ap default_coding here ∙ coding_none (get_or us i 0) (drop (i + 1) us) (told_none _ _ f refl) (told_none _ _ g refl)) ∙ w.left in
+          absurd (let z : ◌≡◌ {A = ℕ} 0 1 = cc in omega arith)
+      laying_coded (Some c) g = refl
 
-      pub laying_extended : (c : ℕ) → x ≡ Of c → (n + 1 < length after) × Laying us before (n + 2) (i + 1) (set (set after n escape) (n + 1) c)
+      pub laying_extended :
+          (c : ℕ) → told (extension_code_of (get_or us i 0)) ≡ Some c →
+          (n + 1 < length after) × Laying us before (n + 2) (i + 1) (set (set after n escape) (n + 1) c)
       laying_extended c y =
           let s = frame_bytes (default_coding us) in
-          let d = sym (ap default_coding here ∙ coding_extended (get_or us i 0) (drop (i + 1) us) c (code_none _ t e f) (code_is _ x c g y)) ∙ w.left in
+          let d = sym (ap default_coding here ∙ coding_extended (get_or us i 0) (drop (i + 1) us) c (told_none _ _ f refl) (told_some _ _ c refl y)) ∙ w.left in
           let r = fronts (escape ∷ c ∷ []) _ _ d in
           let k = head_within s n escape (c ∷ r.rest) r.is in
           let q = head_rest s n escape (c ∷ r.rest) r.is in
           let l = head_within s (n + 1) c r.rest q in
-          let two : n + 1 + 1 ≡ n + 2 = omega arith in (
-            omega (arith, w.copied.fits, w.copied.same),
+          let two : n + 1 + 1 ≡ n + 2 = omega arith in
+          let one = front_more s before n after w.front escape k (sym (head_is s n escape (c ∷ r.rest) r.is)) in (
+            (let m = length-set after n escape in let o = front_room s before (n + 1) (set after n escape) one l in omega arith),
             record {
-              within = omega arith;
               left = r.there ∙ ap some (sym (head_rest s (n + 1) c r.rest q)) ∙ ap (λ (j : ℕ). some (drop j s)) two;
-              copied =
-                  subst (λ (j : ℕ). Copied before 0 s j (set (set after n escape) (n + 1) c)) two
-                  (subst (λ (j : ℕ). Copied before 0 s (n + 1 + 1) (set (set after n escape) j c)) (zero-add (n + 1))
-                  (copied_more before 0 s (n + 1) (set after n escape) c
-                  (subst (λ (j : ℕ). Copied before 0 s (n + 1) (set after j escape)) (zero-add n)
-                  (copied_more before 0 s n after escape w.copied k (sym (head_is s n escape (c ∷ r.rest) r.is)))) l (sym (head_is s (n + 1) c r.rest q))));
+              front =
+                  subst (λ (j : ℕ). Front s before j (set (set after n escape) (n + 1) c)) two
+                  (front_more s before (n + 1) (set after n escape) one c l (sym (head_is s (n + 1) c r.rest q)));
             },
           )
 
@@ -128,56 +117,52 @@ pair_at (u ∷ us) (suc i) h =
     let r = pair_at us i (omega arith) in
     (ap (λ (j : ℕ). get_or (pair_bytes (u ∷ us)) j 0) k ∙ r.0, ap (λ (j : ℕ). get_or (pair_bytes (u ∷ us)) j 0) m ∙ r.1)
 
--- the bytes of the first i pairs stand in the buffer
-pub record Pairing (us before : List ℕ) (at i : ℕ) (after : List ℕ) : Type 0 where
-  pub copied : Copied before at (pair_bytes us) (2 * i) after
+-- the bytes of the first i pairs stand behind the mark
+pub record Pairing (us before : List ℕ) (i : ℕ) (after : List ℕ) : Type 0 where
+  pub copied : Copied before 1 (pair_bytes us) (2 * i) after
 
-pub pairing_none : (us before : List ℕ) (at : ℕ) → at + 2 * length us ≤ length before → Pairing us before at 0 before
-pairing_none us before at h = record { copied = copied_none before at (pair_bytes us) (let e = pairs_long us in omega arith) }
+pub pairing_none : (us before : List ℕ) → 1 + 2 * length us ≤ length before → Pairing us before 0 before
+pairing_none us before h = record { copied = copied_none before 1 (pair_bytes us) (let e = pairs_long us in omega arith) }
 
-module _ (us before : List ℕ) (at i : ℕ) (after : List ℕ) (w : Pairing us before at i after) where
-  pub pairing_same : length after ≡ length before
-  pairing_same = w.copied.same
-
-  pub pairing_room : i < length us → at + (2 * i + 1) < length after
+module _ (us before : List ℕ) (i : ℕ) (after : List ℕ) (w : Pairing us before i after) where
+  pub pairing_room : i < length us → 2 * i + 2 < length after
   pairing_room h = let e = pairs_long us in omega (arith, w.copied.fits, w.copied.same)
 
   pub pairing_more :
-      (v u : ℕ) → i < length us → v ≡ get_or us i 0 / 256 → u ≡ get_or us i 0 % 256 → Pairing us before at (i + 1) (set (set after (at + 2 * i) v) (at + (2 * i + 1)) u)
+      (v u : ℕ) → i < length us → v ≡ get_or us i 0 / 256 → u ≡ get_or us i 0 % 256 → Pairing us before (i + 1) (set (set after (2 * i + 1) v) (2 * i + 2) u)
   pairing_more v u h a b =
       let e = pairs_long us in
       let r = pair_at us i h in
+      let y : 1 + 2 * i ≡ 2 * i + 1 = omega arith in
+      let x : 1 + (2 * i + 1) ≡ 2 * i + 2 = omega arith in
       let z : 2 * i + 1 + 1 ≡ 2 * (i + 1) = omega arith in
       record {
         copied =
-            subst (λ (j : ℕ). Copied before at (pair_bytes us) j (set (set after (at + 2 * i) v) (at + (2 * i + 1)) u)) z
-            (copied_more before at (pair_bytes us) (2 * i + 1) _ u (copied_more before at (pair_bytes us) (2 * i) after v w.copied (omega arith) (a ∙ sym r.0))
-            (omega arith) (b ∙ sym r.1));
+            subst (λ (d : List ℕ). Copied before 1 (pair_bytes us) (2 * (i + 1)) d) (λ j. set (set after (y j) v) (x j) u)
+            (subst (λ (j : ℕ). Copied before 1 (pair_bytes us) j (set (set after (1 + 2 * i) v) (1 + (2 * i + 1)) u)) z
+            (copied_more before 1 (pair_bytes us) (2 * i + 1) _ u (copied_more before 1 (pair_bytes us) (2 * i) after v w.copied (omega arith) (a ∙ sym r.0))
+            (omega arith) (b ∙ sym r.1)));
       }
 
-  pub pairing_all : length us ≤ i → after ≡ pasted before at (pair_bytes us)
-  pairing_all h = let e = pairs_long us in copied_all before at (pair_bytes us) (2 * i) after w.copied (omega arith)
+  pub pairing_all : length us ≤ i → after ≡ pasted before 1 (pair_bytes us)
+  pairing_all h = let e = pairs_long us in copied_all before 1 (pair_bytes us) (2 * i) after w.copied (omega arith)
 
 -- the byte of a unit in 81 and 82
-module _ (p u : ℕ) (s : serves p (u ∷ []) ≡ true) (t : Code) (e : t ≡ code_told (code_of u)) where
-  pub byte_code : (c : ℕ) → t ≡ Of c → c ≡ based_byte p u (code_of u)
+module _ (p u : ℕ) where
+  pub byte_code : (c : ℕ) → Some c ≡ told (code_of u) → c ≡ based_byte p u (code_of u)
   unfolding based_byte
-  byte_code c f = sym (ap (based_byte p u) (code_is (code_of u) t c e f))
+  byte_code c f = sym (ap (based_byte p u) (told_some _ _ c f refl))
 
-  module _ (f : t ≡ Nothing) where
-    within_reach : leb p u && ltb u (p + 128) ≡ true
-    unfolding serves
-    within_reach = both_left (leb p u && ltb u (p + 128)) true (sym (stop _ _ _ (needs_none u (code_none (code_of u) t e f))) ∙ s)
-
-    pub byte_low : p ≤ u
-    byte_low = leb-true p u (both_left (leb p u) (ltb u (p + 128)) within_reach)
-
-    pub byte_high : u < p + 128
-    byte_high = ltb-true u (p + 128) (both_right (leb p u) (ltb u (p + 128)) within_reach)
-
+  module _ (f : None ≡ told (code_of u)) where
     pub byte_based : 128 + (u - p) ≡ based_byte p u (code_of u)
     unfolding based_byte
-    byte_based = sym (ap (based_byte p u) (code_none (code_of u) t e f))
+    byte_based = sym (ap (based_byte p u) (told_none _ _ f refl))
+
+    pub byte_reach : serves p (u ∷ []) ≡ true → (p ≤ u) × (u < p + 128)
+    unfolding serves
+    byte_reach s =
+        let w = both_left (leb p u && ltb u (p + 128)) true (sym (stop _ _ _ (needs_none u (told_none _ _ f refl))) ∙ s) in
+        (leb-true p u (both_left (leb p u) (ltb u (p + 128)) w), ltb-true u (p + 128) (both_right (leb p u) (ltb u (p + 128)) w))
 
 -- a pointer that serves units serves each of them
 pub serves_parts : (p u : ℕ) (us : List ℕ) → serves p (u ∷ us) ≡ true → (serves p (u ∷ []) ≡ true) × (serves p us ≡ true)
@@ -216,9 +201,6 @@ module _ (p : ℕ) (us before : List ℕ) (at i : ℕ) (after : List ℕ) (w : B
   pub basing_room : i < length us → at + i < length after
   basing_room h = let l = based_long p us in omega (arith, w.copied.fits, w.copied.same)
 
-  pub basing_same : length after ≡ length before
-  basing_same = w.copied.same
-
   pub basing_more : (v : ℕ) → i < length us → v ≡ based_byte p (get_or us i 0) (code_of (get_or us i 0)) → Basing p us before at (i + 1) (set after (at + i) v)
   basing_more v h e =
       let l = based_long p us in
@@ -228,20 +210,20 @@ module _ (p : ℕ) (us before : List ℕ) (at i : ℕ) (after : List ℕ) (w : B
   basing_all h = let l = based_long p us in copied_all before at (based_bytes p us) i after w.copied (omega arith)
 
 -- a call that has no room, and one that has
-pub ends_short : (s before : List ℕ) → length before < length s → Ends s (Refused ShortText) before before
+pub ends_short : (s before : List ℕ) → length before < length s → Ends s (Err ShortText) before before
 unfolding fitted laid
 ends_short s before h = let e = lt-ltb (length before) (length s) h in record { told = sym (stop _ _ _ e); left = sym (stop _ _ _ e) }
 
-pub ends_wrote : (s before after : List ℕ) (k : ℕ) → length s ≤ length before → k ≡ length s → after ≡ overlaid s before → Ends s (Wrote k) before after
+pub ends_wrote : (s before after : List ℕ) (k : ℕ) → length s ≤ length before → k ≡ length s → after ≡ overlaid s before → Ends s (Ok k) before after
 unfolding fitted laid overlaid
 ends_wrote s before after k h e w =
     let f = le-ltb (length before) (length s) h in
-    record { told = sym (skip _ _ _ f ∙ ap Wrote (sym e)); left = w ∙ sym (skip _ _ _ f) }
+    record { told = sym (skip _ _ _ f ∙ ap Ok (sym e)); left = w ∙ sym (skip _ _ _ f) }
 
 -- a head, and bytes behind it
 headed :
     (head body before middle after : List ℕ) (k : ℕ) → length head + length body ≤ length before → middle ≡ pasted before 0 head →
-    after ≡ pasted middle (length head) body → k ≡ length head + length body → Ends (head ++ body) (Wrote k) before after
+    after ≡ pasted middle (length head) body → k ≡ length head + length body → Ends (head ++ body) (Ok k) before after
 headed head body before middle after k h a b e =
     let l = length-append head body in
     let o = zero-add (length head) in
@@ -251,12 +233,12 @@ headed head body before middle after k h a b e =
 
 pub headed_based :
     (head : List ℕ) (p : ℕ) (us before middle after : List ℕ) → length head + length us ≤ length before → middle ≡ pasted before 0 head →
-    after ≡ pasted middle (length head) (based_bytes p us) → Ends (head ++ based_bytes p us) (Wrote (length head + length us)) before after
+    after ≡ pasted middle (length head) (based_bytes p us) → Ends (head ++ based_bytes p us) (Ok (length head + length us)) before after
 headed_based head p us before middle after h a b =
     let l = based_long p us in
     headed head (based_bytes p us) before middle after (length head + length us) (omega arith) a b (omega arith)
 
-pub headed_short : (head : List ℕ) (p : ℕ) (us before : List ℕ) → length before < length head + length us → Ends (head ++ based_bytes p us) (Refused ShortText) before before
+pub headed_short : (head : List ℕ) (p : ℕ) (us before : List ℕ) → length before < length head + length us → Ends (head ++ based_bytes p us) (Err ShortText) before before
 headed_short head p us before h =
     let l = length-append head (based_bytes p us) in
     let m = based_long p us in
@@ -264,13 +246,13 @@ headed_short head p us before h =
 
 pub headed_pairs :
     (us before after : List ℕ) → 1 + 2 * length us ≤ length before → after ≡ pasted (set before 0 128) 1 (pair_bytes us) →
-    Ends (pair_coding us) (Wrote (1 + 2 * length us)) before after
+    Ends (pair_coding us) (Ok (1 + 2 * length us)) before after
 unfolding pair_coding
 headed_pairs us before after h w =
     let l = pairs_long us in
     headed (128 ∷ []) (pair_bytes us) before (set before 0 128) after (1 + 2 * length us) (omega arith) (store_one before 0 128 (omega arith)) w (omega arith)
 
-pub short_pairs : (us before : List ℕ) → length before < 1 + 2 * length us → Ends (pair_coding us) (Refused ShortText) before before
+pub short_pairs : (us before : List ℕ) → length before < 1 + 2 * length us → Ends (pair_coding us) (Err ShortText) before before
 short_pairs us before h = let e = pair_size us in ends_short (pair_coding us) before (omega arith)
 
 -- what a block and a base that serve say of the units
@@ -294,13 +276,16 @@ module _ (us before : List ℕ) (r : Ended) (after : List ℕ) where
   unfolding block_with
   block_ended b p e w = subst (λ (q : ℕ). Ends ((129 ∷ length us ∷ b ∷ []) ++ based_bytes q us) r before after) e w
 
-  pub base_ended : (b : ℕ) → Ends ((130 ∷ length us ∷ b / 256 ∷ b % 256 ∷ []) ++ based_bytes b us) r before after → Ends (base_with b us) r before after
+  pub base_ended :
+      (b : ℕ) (bytes : List ℕ) → b < 65536 → bytes ≡ (b / 256 % 256) ∷ (b % 256) ∷ [] →
+      Ends ((130 ∷ length us ∷ get_or bytes 0 0 ∷ get_or bytes 1 0 ∷ []) ++ based_bytes b us) r before after → Ends (base_with b us) r before after
   unfolding base_with
-  base_ended b w = w
+  base_ended b bytes h e w =
+      subst (λ (x : List ℕ). Ends ((130 ∷ length us ∷ get_or x 0 0 ∷ get_or x 1 0 ∷ []) ++ based_bytes b us) r before after) (e ∙ halves b h) w
 
 -- the default alphabet that is there
 module _ (extras : ℕ) (us before : List ℕ) (c : CodedBy extras us) where
-  pub coded_short : length before < extras + length us → Ends (frame_bytes (default_coding us)) (Refused ShortText) before before
+  pub coded_short : length before < extras + length us → Ends (frame_bytes (default_coding us)) (Err ShortText) before before
   coded_short h = ends_short (frame_bytes (default_coding us)) before (omega (arith, c.size))
 
   pub coded_fits : extras + length us ≤ length before → length (frame_bytes (default_coding us)) ≤ length before
@@ -308,7 +293,7 @@ module _ (extras : ℕ) (us before : List ℕ) (c : CodedBy extras us) where
 
   pub coded_wrote :
       (after : List ℕ) → extras + length us ≤ length before → after ≡ overlaid (frame_bytes (default_coding us)) before →
-      Ends (frame_bytes (default_coding us)) (Wrote (extras + length us)) before after
+      Ends (frame_bytes (default_coding us)) (Ok (extras + length us)) before after
   coded_wrote after h w = ends_wrote (frame_bytes (default_coding us)) before after (extras + length us) (coded_fits h) (sym c.size) w
 
 -- units of 16 bits

@@ -1,9 +1,11 @@
 pub mod Tables
 pub mod Texts
 pub mod Scans
+pub mod Fronts
 pub mod Defaults
 pub mod Pairings
 pub mod Bases
+pub mod Bodies
 pub mod Marks
 pub mod Codings
 pub mod Surveys

@@ -1,124 +1,88 @@
--- An alpha identifier by its first byte, and what a call hands back by what its passes found.
+-- An alpha identifier by its first byte, and what the call hands back by what was found.
 -- Assumes nothing.
-use Prim.Native.Nat.{ℕ, ◌+◌, ◌-◌, ◌*◌, ◌≤◌, ◌<◌}
-use mathlib.Core.Path.{◌≡◌, refl, sym, ap, subst, ◌∙◌}
-use mathlib.Core.Bool.{true, false, false≢true}
-use mathlib.Core.List.{List, []}
+use Prim.Native.Nat.{ℕ, suc, ◌+◌, ◌-◌, ◌*◌, ◌≤◌, ◌<◌}
+use mathlib.Core.Path.{◌≡◌, refl, sym, ap, ◌∙◌}
+use mathlib.Core.Bool.{false}
+use mathlib.Core.List.{List, [], ◌∷◌}
 use native.Mathlib.Omega.{arith}
 use lib.ListN.{length, get_or, take, drop}
 use lib.Dec.{ltb}
 use borrow.Author.Rules.{part_to_end}
-use borrow.Author.Tests.{lt-ltb, le-ltb, eq-eqb, ne_eqb}
+use borrow.Author.Tests.{lt-ltb, le-ltb, ne_eqb}
+use Rattle.std.specs.Prelude.{Ok, Err, Some, None}
 use Rattle.rules.specs.Checks.{◌⇒◌else◌, is_empty}
-use Rattle.rules.specs.declared.Ended.TheVariants.{Wrote, Refused}
 use Rattle.rules.specs.declared.Refusal.TheVariants.{ShortText}
 use Rattle.rules.specs.declared.Refusal.TheVariants.{Malformed as MalformedText}
-use Rattle.rules.proofs.Laws.{stop, skip, empty_length}
+use Rattle.rules.proofs.Laws.{stop, skip}
 use Rattle.octets.specs.Parts.{overlaid}
-use Rattle.alpha.specs.declared.Size.{Size}
-use Rattle.alpha.specs.declared.Size.TheVariants.{Units, Malformed}
-use Rattle.alpha.specs.Reads.{Text, units, malformed, pairs, based, default_from, block_pointer, base_pointer, reads}
+use Rattle.alpha.specs.Reads.{Text, units, malformed, pairs, based, default_from, block_pointer, base_pointer, block_mark, base_mark, reads}
 use Rattle.alpha.specs.Calls.{fitted, laid, ended_of, leaves}
-use Rattle.alpha.specs.Passes.{size_of, units_in, well, Fills}
-use Rattle.alpha.proofs.Texts.{below, size_well, well_units}
+use Rattle.alpha.specs.Bodies.{text_told}
 
--- no bytes
-pub reads_none : (s : List ℕ) → length s ≡ 0 → units [] ≡ reads s
-unfolding reads
-reads_none s e = sym (stop _ _ _ (sym (empty_length s) ∙ eq-eqb (length s) 0 e))
+-- no byte, and another than the three marks
+pub reads_empty : (s : List ℕ) → length s ≡ 0 → default_from false s ≡ reads s
+unfolding reads default_from is_empty ◌⇒◌else◌
+reads_empty [] e = refl
+reads_empty (b ∷ s) e = absurd (let z : suc (length s) ≡ 0 = e in omega arith)
 
-module _ (s : List ℕ) (n : length s ≡ 0 → ⊥) where
-  some_bytes : is_empty s ≡ false
-  some_bytes = sym (empty_length s) ∙ ne_eqb (length s) 0 n
+pub reads_default : (v s : List ℕ) (m : ℕ) → v ≡ m ∷ s → (m ≡ 128 → ⊥) → (m ≡ 129 → ⊥) → (m ≡ 130 → ⊥) → default_from false v ≡ reads v
+unfolding reads is_empty ◌⇒◌else◌
+reads_default v s m e a b c = ap (default_from false) e ∙ sym (ap reads e ∙ skip _ _ _ (ne_eqb m 128 a) ∙ skip _ _ _ (ne_eqb m 129 b) ∙ skip _ _ _ (ne_eqb m 130 c))
 
-  pub reads_pairs : get_or s 0 0 ≡ 128 → pairs (take (length s - 1) (drop 1 s)) ≡ reads s
-  unfolding reads
-  reads_pairs e = ap pairs (part_to_end s 1) ∙ sym (skip _ _ _ some_bytes ∙ stop _ _ _ (eq-eqb (get_or s 0 0) 128 e))
+-- 80
+pub reads_pairs : (v s : List ℕ) (m : ℕ) → v ≡ m ∷ s → m ≡ 128 → pairs s ≡ reads v
+unfolding reads is_empty ◌⇒◌else◌
+reads_pairs v s m e f = sym (ap reads e ∙ ap (λ (n : ℕ). reads (n ∷ s)) f)
 
-  module _ (e : get_or s 0 0 ≡ 129) where
-    at_block : reads s ≡ (ltb (length s) 3 ⇒ malformed else based (get_or s 1 0) (block_pointer s) (drop 3 s))
-    unfolding reads
-    at_block = skip _ _ _ some_bytes ∙ skip _ _ _ (ne_eqb (get_or s 0 0) 128 (λ f. omega (arith, e, f))) ∙ stop _ _ _ (eq-eqb (get_or s 0 0) 129 e)
+-- 81 and 82: a head that is cut short, and one that is whole
+module _ (s : List ℕ) where
+  block_is : reads (block_mark ∷ s) ≡ (ltb (length (129 ∷ s)) 3 ⇒ malformed else based (get_or s 0 0) (128 * get_or s 1 0) (drop 2 s))
+  unfolding reads is_empty block_pointer ◌⇒◌else◌
+  block_is = refl
 
-    pub reads_block_short : length s < 3 → malformed ≡ reads s
-    reads_block_short h = sym (at_block ∙ stop _ _ _ (lt-ltb (length s) 3 h))
+  pub block_short : length s < 2 → reads (block_mark ∷ s) ≡ malformed
+  block_short h = block_is ∙ stop _ _ _ (lt-ltb (length (129 ∷ s)) 3 (omega arith))
 
-    pub reads_block : (count p : ℕ) → 3 ≤ length s → count ≡ get_or s 1 0 → p ≡ 128 * get_or s 2 0 → based count p (take (length s - 3) (drop 3 s)) ≡ reads s
-    unfolding block_pointer
-    reads_block count p h c q = (λ i. based (c i) (q i) (part_to_end s 3 i)) ∙ sym (at_block ∙ skip _ _ _ (le-ltb (length s) 3 h))
+  pub block_reads : (p : ℕ) → 2 ≤ length s → p ≡ 128 * get_or s 1 0 → based (get_or s 0 0) p (take (length s - 2) (drop 2 s)) ≡ reads (block_mark ∷ s)
+  block_reads p h e = (λ i. based (get_or s 0 0) (e i) (part_to_end s 2 i)) ∙ sym (block_is ∙ skip _ _ _ (le-ltb (length (129 ∷ s)) 3 (omega arith)))
 
-  module _ (e : get_or s 0 0 ≡ 130) where
-    at_base : reads s ≡ (ltb (length s) 4 ⇒ malformed else based (get_or s 1 0) (base_pointer s) (drop 4 s))
-    unfolding reads
-    at_base =
-        skip _ _ _ some_bytes ∙ skip _ _ _ (ne_eqb (get_or s 0 0) 128 (λ f. omega (arith, e, f)))
-        ∙ skip _ _ _ (ne_eqb (get_or s 0 0) 129 (λ f. omega (arith, e, f))) ∙ stop _ _ _ (eq-eqb (get_or s 0 0) 130 e)
+  base_is : reads (base_mark ∷ s) ≡ (ltb (length (130 ∷ s)) 4 ⇒ malformed else based (get_or s 0 0) (256 * get_or s 1 0 + get_or s 2 0) (drop 3 s))
+  unfolding reads is_empty base_pointer ◌⇒◌else◌
+  base_is = refl
 
-    pub reads_base_short : length s < 4 → malformed ≡ reads s
-    reads_base_short h = sym (at_base ∙ stop _ _ _ (lt-ltb (length s) 4 h))
+  pub base_short : length s < 3 → reads (base_mark ∷ s) ≡ malformed
+  base_short h = base_is ∙ stop _ _ _ (lt-ltb (length (130 ∷ s)) 4 (omega arith))
 
-    pub reads_base :
-        (count p : ℕ) → 4 ≤ length s → count ≡ get_or s 1 0 → p ≡ 256 * get_or s 2 0 + get_or s 3 0 → based count p (take (length s - 4) (drop 4 s)) ≡ reads s
-    unfolding base_pointer
-    reads_base count p h c q = (λ i. based (c i) (q i) (part_to_end s 4 i)) ∙ sym (at_base ∙ skip _ _ _ (le-ltb (length s) 4 h))
+  pub base_reads : (p : ℕ) → 3 ≤ length s → p ≡ 256 * get_or s 1 0 + get_or s 2 0 → based (get_or s 0 0) p (take (length s - 3) (drop 3 s)) ≡ reads (base_mark ∷ s)
+  base_reads p h e = (λ i. based (get_or s 0 0) (e i) (part_to_end s 3 i)) ∙ sym (base_is ∙ skip _ _ _ (le-ltb (length (130 ∷ s)) 4 (omega arith)))
 
-  pub reads_default : (get_or s 0 0 ≡ 128 → ⊥) → (get_or s 0 0 ≡ 129 → ⊥) → (get_or s 0 0 ≡ 130 → ⊥) → default_from false s ≡ reads s
-  unfolding reads
-  reads_default a b c =
-      sym (skip _ _ _ some_bytes ∙ skip _ _ _ (ne_eqb (get_or s 0 0) 128 a) ∙ skip _ _ _ (ne_eqb (get_or s 0 0) 129 b) ∙ skip _ _ _ (ne_eqb (get_or s 0 0) 130 c))
-
--- a text that is well formed is not malformed: its head is there
-not_malformed : (t : Text) (out : List ℕ) → Fills t out → malformed ≡ t → ⊥
-unfolding well
-not_malformed t out f e = false≢true (ap well e ∙ f.formed)
-
-pub block_long : (s out : List ℕ) → Fills (reads s) out → (length s ≡ 0 → ⊥) → get_or s 0 0 ≡ 129 → 3 ≤ length s
-block_long s out f n e = let z = below 2 (length s) (λ h. not_malformed (reads s) out f (reads_block_short s n e (omega arith))) in omega arith
-
-pub base_long : (s out : List ℕ) → Fills (reads s) out → (length s ≡ 0 → ⊥) → get_or s 0 0 ≡ 130 → 4 ≤ length s
-base_long s out f n e = let z = below 3 (length s) (λ h. not_malformed (reads s) out f (reads_base_short s n e (omega arith))) in omega arith
-
--- a text by another name
-pub fills_as : {t u : Text} {out : List ℕ} → t ≡ u → Fills u out → Fills t out
-fills_as {out = out} e f = subst (λ (x : Text). Fills x out) (sym e) f
-
-pub laid_as : {t u : Text} (before : List ℕ) {after : List ℕ} → t ≡ u → after ≡ overlaid (units_in t) before → after ≡ overlaid (units_in u) before
-laid_as before e f = f ∙ ap (λ (x : Text). overlaid (units_in x) before) e
-
-pub laid_none : (t : Text) (out : List ℕ) → units [] ≡ t → out ≡ overlaid (units_in t) out
-unfolding overlaid units_in
-laid_none t out e = ap (λ (x : Text). overlaid (units_in x) out) e
-
--- the end of the call, by the size of the text
-module _ (t : Text) (z : Size) (e : z ≡ size_of t) (out : List ℕ) where
-  pub ended_malformed : z ≡ Malformed → (Refused MalformedText ≡ ended_of t (length out)) × (out ≡ leaves t out)
-  unfolding ended_of leaves size_of
-  ended_malformed f = by t (sym f ∙ e)
+-- the end of the call, by what was told of the units
+module _ (t : Text) (out : List ℕ) where
+  pub ended_malformed : None ≡ text_told t → (Err MalformedText ≡ ended_of t (length out)) × (out ≡ leaves t out)
+  unfolding ended_of leaves text_told
+  ended_malformed e = by t e
     where
-      by : (u : Text) → Malformed ≡ size_of u → (Refused MalformedText ≡ ended_of u (length out)) × (out ≡ leaves u out)
-      by malformed g = (refl, refl)
-      by (units us) g = absurd (let o : ◌≡◌ {A = ℕ} 0 1 = cc in omega arith)
+      by : (u : Text) → None ≡ text_told u → (Err MalformedText ≡ ended_of u (length out)) × (out ≡ leaves u out)
+      by malformed f = (refl, refl)
+      by (units us) f = absurd (let o : ◌≡◌ {A = ℕ} 0 1 = cc in omega arith)
 
-  module _ (k : ℕ) (f : z ≡ Units k) where
-    formed : (well t ≡ true) × (length (units_in t) ≡ k)
-    formed = size_well t k (sym e ∙ f)
+  module _ (us : List ℕ) (e : Some us ≡ text_told t) where
+    is_units : t ≡ units us
+    unfolding text_told
+    is_units = by t e
+      where
+        by : (u : Text) → Some us ≡ text_told u → u ≡ units us
+        by malformed f = absurd (let o : ◌≡◌ {A = ℕ} 0 1 = cc in omega arith)
+        by (units ws) f = ap units (cc)
 
-    is_units : t ≡ units (units_in t)
-    is_units = well_units t formed.0
-
-    pub ended_short : length out < k → (Refused ShortText ≡ ended_of t (length out)) × (out ≡ leaves t out)
+    pub ended_short : length out < length us → (Err ShortText ≡ ended_of t (length out)) × (out ≡ leaves t out)
     unfolding ended_of leaves fitted laid
     ended_short h =
-        let l = formed.1 in
-        let s = lt-ltb (length out) (length (units_in t)) (omega arith) in
+        let s = lt-ltb (length out) (length us) h in
         (sym (ap (λ (u : Text). ended_of u (length out)) is_units ∙ stop _ _ _ s), sym (ap (λ (u : Text). leaves u out) is_units ∙ stop _ _ _ s))
 
-    pub ended_fills : k ≤ length out → Fills t out
-    ended_fills h = record { formed = formed.0; fits = let l = formed.1 in omega arith }
-
-    pub ended_units : (after : List ℕ) → k ≤ length out → after ≡ overlaid (units_in t) out → (Wrote k ≡ ended_of t (length out)) × (after ≡ leaves t out)
+    pub ended_units : (k : ℕ) (after : List ℕ) → k ≡ length us → length us ≤ length out → after ≡ overlaid us out → (Ok k ≡ ended_of t (length out)) × (after ≡ leaves t out)
     unfolding ended_of leaves fitted laid overlaid
-    ended_units after h w =
-        let l = formed.1 in
-        let s = le-ltb (length out) (length (units_in t)) (omega arith) in
-        (sym (ap (λ (u : Text). ended_of u (length out)) is_units ∙ skip _ _ _ s ∙ ap Wrote l), w ∙ sym (ap (λ (u : Text). leaves u out) is_units ∙ skip _ _ _ s))
+    ended_units k after l h w =
+        let s = le-ltb (length out) (length us) h in
+        (ap Ok l ∙ sym (ap (λ (u : Text). ended_of u (length out)) is_units ∙ skip _ _ _ s), w ∙ sym (ap (λ (u : Text). leaves u out) is_units ∙ skip _ _ _ s))

@@ -11,34 +11,29 @@ use native.Mathlib.Numerals.{add-one}
 use lib.ListN.{length, get_or, drop, drop_of_length-le}
 use lib.Seq.{drop-cons}
 use lib.Dec.{ltb, leb, eqb}
-use borrow.Author.Tests.{lt-ltb, le-ltb, le-leb, lt-leb, eq-eqb, leb-true, leb-false, ltb-true, ltb-false, eqb-true}
+use borrow.Author.Tests.{lt-ltb, le-ltb, le-leb, lt-leb, eq-eqb, ne_eqb, leb-true, leb-false, ltb-true, ltb-false, eqb-true}
+use Rattle.std.specs.Prelude.{Option as CodeOption, Some, None, IfSome, SomeIff, is_some, unwrap_or, option_map}
+use Rattle.std.specs.Option.{option_and}
 use Rattle.rules.specs.Checks.{◌⇒◌else◌}
 use Rattle.rules.specs.Sound.{Each}
 use Rattle.rules.proofs.Laws.{stop, skip, branch, both, both_left, both_right, and-false}
 use Rattle.text.specs.Frames.{readable, frame_bytes}
-use Rattle.alpha.specs.declared.Code.{Code}
-use Rattle.alpha.specs.declared.Code.TheVariants.{Of, Nothing}
 use Rattle.alpha.specs.declared.Coding.{Coding}
 use Rattle.alpha.specs.declared.Coding.TheVariants.{Default, Pairs, Block, Base}
 use Rattle.alpha.specs.declared.Survey.{Survey}
 use Rattle.alpha.specs.Alphabet.{escape, code_of, extension_code_of}
 use Rattle.alpha.specs.Writes.{before, needs, default_coding, pair_coding, serves, block_with, block_serves, block_of, block_coding, base_with, base_serves, highest, base_of, base_coding, shorter, first_or, writes}
-use Rattle.rules.specs.declared.Ended.{Ended}
+use Rattle.rules.specs.Words.{Ended}
 use Rattle.alpha.specs.Calls.{fitted, laid}
-use Rattle.alpha.specs.Passes.{code_told, survey_none, survey_needing, survey_step, survey_from, first_form, excess_of, block_fits, chosen, bytes_of, Serves, Ends}
-use Rattle.alpha.proofs.Codings.{code_is, code_none, needs_none, needs_some, before_there, before_bytes, coding_plain, coding_extended, coding_none, pair_size, block_size, base_size, shorter_kept, shorter_taken, first_there, first_none}
+use Rattle.alpha.specs.Passes.{told, survey_none, survey_needing, survey_step, survey_from, form_with, first_form, excess_of, block_fits, block_told, chosen, bytes_of, Serves, Ends}
+use Rattle.alpha.proofs.Codings.{needs_none, needs_some, before_there, before_bytes, coding_plain, coding_extended, coding_none, pair_size, block_size, base_size, shorter_kept, shorter_taken, first_there, first_none}
 
--- a unit that has no code of the base table
-module _ (s : Survey) (u : ℕ) (t : Code) (e : t ≡ code_told (extension_code_of u)) (lo hi : ℕ) (l : lo ≡ min s.lowest u) (h : hi ≡ max s.highest u) where
-  pub needing_extended : (c : ℕ) → t ≡ Of c → record { coded = s.coded; extras = s.extras + 1; lowest = lo; highest = hi } ≡ survey_needing s u (extension_code_of u)
-  unfolding survey_needing
-  needing_extended c f =
-      (λ i. record { coded = s.coded; extras = s.extras + 1; lowest = l i; highest = h i }) ∙ ap (survey_needing s u) (sym (code_is (extension_code_of u) t c e f))
+-- whether every unit had a code, and how many were extension characters
+abbrev counted : Survey → Bool
+counted s = is_some s.extras
 
-  pub needing_uncoded : t ≡ Nothing → record { coded = false; extras = s.extras; lowest = lo; highest = hi } ≡ survey_needing s u (extension_code_of u)
-  unfolding survey_needing
-  needing_uncoded f =
-      (λ i. record { coded = false; extras = s.extras; lowest = l i; highest = h i }) ∙ ap (survey_needing s u) (sym (code_none (extension_code_of u) t e f))
+abbrev extras_in : Survey → ℕ
+extras_in s = unwrap_or s.extras 0
 
 step_needs : (s : Survey) (u : ℕ) → code_of u ≡ none → survey_step s u ≡ survey_needing s u (extension_code_of u)
 unfolding survey_step
@@ -48,41 +43,61 @@ step_stays : (s : Survey) (u c : ℕ) → code_of u ≡ some c → survey_step s
 unfolding survey_step
 step_stays s u c e = skip _ _ _ (needs_some u c e)
 
--- any unit
-module _ (s : Survey) (u : ℕ) (t : Code) (e : t ≡ code_told (code_of u)) where
-  pub step_coded : (c : ℕ) → t ≡ Of c → s ≡ survey_step s u
-  step_coded c f = sym (step_stays s u c (code_is (code_of u) t c e f))
+-- a unit that has a code of the base table, and one that has none
+module _ (s : Survey) (u : ℕ) where
+  pub step_coded : true ≡ is_some (told (code_of u)) → s ≡ survey_step s u
+  unfolding told
+  step_coded e = by (code_of u) refl e
+    where
+      by : (o : Option ℕ) → code_of u ≡ o → true ≡ is_some (told o) → s ≡ survey_step s u
+      by none f g = absurd (false≢true (sym g))
+      by (some c) f g = sym (step_stays s u c f)
 
-  pub step_needing : (r : Survey) → t ≡ Nothing → r ≡ survey_needing s u (extension_code_of u) → r ≡ survey_step s u
-  step_needing r f g = g ∙ sym (step_needs s u (code_none (code_of u) t e f))
+  needing_as : (o : Option ℕ) (x : CodeOption ℕ) → x ≡ option_map (λ (n : ℕ). n + 1) (option_and (told o) s.extras) → record { extras = x; lowest = min s.lowest u; highest = max s.highest u } ≡ survey_needing s u o
+  unfolding told survey_needing
+  needing_as none x e = λ i. record { extras = e i; lowest = min s.lowest u; highest = max s.highest u }
+  needing_as (some c) x e = λ i. record { extras = e i; lowest = min s.lowest u; highest = max s.highest u }
 
--- the survey of the units before a place
+  pub step_needing :
+      false ≡ is_some (told (code_of u)) → (x : CodeOption ℕ) (l h : ℕ) → x ≡ option_map (λ (n : ℕ). n + 1) (option_and (told (extension_code_of u)) s.extras) →
+      l ≡ min s.lowest u → h ≡ max s.highest u → record { extras = x; lowest = l; highest = h } ≡ survey_step s u
+  unfolding told
+  step_needing e x l h f p q = (λ i. record { extras = x; lowest = p i; highest = q i }) ∙ needing_as (extension_code_of u) x f ∙ sym (step_needs s u (by (code_of u) e))
+    where
+      by : (o : Option ℕ) → false ≡ is_some (told o) → o ≡ none
+      by none g = refl
+      by (some c) g = absurd (false≢true g)
+
+-- the survey of the first i units
 pub record Surveys (us : List ℕ) (i : ℕ) (s : Survey) : Type 0 where
-  pub within : i ≤ length us
-  pub few : s.extras ≤ i
+  pub few : IfSome s.extras (λ n. n ≤ i)
   pub same : survey_from survey_none us ≡ survey_from s (drop i us)
 
-pub surveys_none : (us : List ℕ) → Surveys us 0 survey_none
-surveys_none us = record { within = omega arith; few = omega arith; same = refl }
+more_few : (x : CodeOption ℕ) (i : ℕ) → IfSome x (λ n. n ≤ i) → IfSome x (λ n. n ≤ i + 1)
+more_few None i h = tt
+more_few (Some n) i h = let z : n ≤ i = h in omega arith
 
-needing_few : (s : Survey) (u : ℕ) (o : Option ℕ) → (survey_needing s u o).extras ≤ s.extras + 1
+needing_few : (s : Survey) (u i : ℕ) (o : Option ℕ) → IfSome s.extras (λ n. n ≤ i) → IfSome (survey_needing s u o).extras (λ n. n ≤ i + 1)
 unfolding survey_needing
-needing_few s u none = omega arith
-needing_few s u (some c) = omega arith
+needing_few s u i none h = tt
+needing_few s u i (some c) h = by s.extras h
+  where
+    by : (x : CodeOption ℕ) → IfSome x (λ n. n ≤ i) → IfSome (option_map (λ (n : ℕ). n + 1) x) (λ n. n ≤ i + 1)
+    by None k = tt
+    by (Some n) k = let z : n ≤ i = k in omega arith
 
-step_few : (s : Survey) (u : ℕ) → (survey_step s u).extras ≤ s.extras + 1
+step_few : (s : Survey) (u i : ℕ) → IfSome s.extras (λ n. n ≤ i) → IfSome (survey_step s u).extras (λ n. n ≤ i + 1)
 unfolding survey_step
-step_few s u = branch (λ (r : Survey). r.extras ≤ s.extras + 1) (needs u) (survey_needing s u (extension_code_of u)) s (λ _. needing_few s u (extension_code_of u)) (λ _. omega arith)
+step_few s u i h =
+    branch (λ (r : Survey). IfSome r.extras (λ n. n ≤ i + 1)) (needs u) (survey_needing s u (extension_code_of u)) s
+    (λ _. needing_few s u i (extension_code_of u) h) (λ _. more_few s.extras i h)
 
 module _ (us : List ℕ) (i : ℕ) (s : Survey) (w : Surveys us i s) where
   pub surveys_more : (r : Survey) → i < length us → r ≡ survey_step s (get_or us i 0) → Surveys us (i + 1) r
   unfolding survey_from
   surveys_more r h e =
-      let f = step_few s (get_or us i 0) in
-      let g = ap (λ (x : Survey). x.extras) e in
       record {
-        within = omega arith;
-        few = omega (arith, w.few);
+        few = subst (λ (x : Survey). IfSome x.extras (λ n. n ≤ i + 1)) (sym e) (step_few s (get_or us i 0) i w.few);
         same =
             w.same ∙ ap (survey_from s) (drop-cons us i 0 h)
             ∙ (λ j. survey_from (sym e j) (drop (sym (add-one i) j) us));
@@ -99,8 +114,8 @@ low_need (u ∷ us) = let rest = low_need us in needs u ⇒ min u rest else rest
 
 -- what a survey that began with s comes to
 record Surveyed (s : Survey) (us : List ℕ) (r : Survey) : Type 0 where
-  coded : r.coded ≡ s.coded && readable (default_coding us)
-  extras : readable (default_coding us) ≡ true → r.extras + length us ≡ s.extras + length (frame_bytes (default_coding us))
+  coded : counted r ≡ counted s && readable (default_coding us)
+  extras : counted s ≡ true → readable (default_coding us) ≡ true → extras_in r + length us ≡ extras_in s + length (frame_bytes (default_coding us))
   few : readable (default_coding us) ≡ true → length (frame_bytes (default_coding us)) ≤ 2 * length us
   lowest : r.lowest ≡ min s.lowest (low_need us)
   highest : r.highest ≡ max s.highest (highest us)
@@ -117,6 +132,11 @@ low_no : (u : ℕ) (us : List ℕ) → needs u ≡ false → (low_need (u ∷ us
 unfolding low_need highest
 low_no u us e = (skip _ _ _ e, skip _ _ _ e)
 
+-- an extension character more
+one_more_extra : (x : CodeOption ℕ) → (is_some (option_map (λ (n : ℕ). n + 1) x) ≡ is_some x) × (is_some x ≡ true → unwrap_or (option_map (λ (n : ℕ). n + 1) x) 0 ≡ unwrap_or x 0 + 1)
+one_more_extra None = (refl, λ e. absurd (false≢true e))
+one_more_extra (Some n) = (refl, λ e. refl)
+
 module _ (s : Survey) (u : ℕ) (us : List ℕ) (r : Survey) where
   by_code : (c : ℕ) → code_of u ≡ some c → Surveyed s us r → Surveyed s (u ∷ us) r
   by_code c e w =
@@ -124,8 +144,8 @@ module _ (s : Survey) (u : ℕ) (us : List ℕ) (r : Survey) where
       let t = ap readable d ∙ before_there (c ∷ []) (default_coding us) in
       let n = low_no u us (needs_some u c e) in
       record {
-        coded = w.coded ∙ ap (λ (b : Bool). s.coded && b) (sym t);
-        extras = λ y. let k = ap (λ (o : Option (List ℕ)). length (frame_bytes o)) d ∙ ap length (before_bytes (c ∷ []) (default_coding us) (sym t ∙ y)) in omega (arith, w.extras (sym t ∙ y), k);
+        coded = w.coded ∙ ap (λ (b : Bool). counted s && b) (sym t);
+        extras = λ z y. let k = ap (λ (o : Option (List ℕ)). length (frame_bytes o)) d ∙ ap length (before_bytes (c ∷ []) (default_coding us) (sym t ∙ y)) in omega (arith, w.extras z (sym t ∙ y), k);
         few = λ y. let k = ap (λ (o : Option (List ℕ)). length (frame_bytes o)) d ∙ ap length (before_bytes (c ∷ []) (default_coding us) (sym t ∙ y)) in omega (arith, w.few (sym t ∙ y), k);
         lowest = w.lowest ∙ ap (min s.lowest) (sym n.0);
         highest = w.highest ∙ ap (max s.highest) (sym n.1);
@@ -137,10 +157,17 @@ module _ (s : Survey) (u : ℕ) (us : List ℕ) (r : Survey) where
       let d = coding_extended u us c e f in
       let t = ap readable d ∙ before_there (escape ∷ c ∷ []) (default_coding us) in
       let n = low_yes u us (needs_none u e) in
+      let o = one_more_extra s.extras in
       record {
-        coded = w.coded ∙ ap (λ (b : Bool). s.coded && b) (sym t);
-        extras = λ y. let k = ap (λ (o : Option (List ℕ)). length (frame_bytes o)) d ∙ ap length (before_bytes (escape ∷ c ∷ []) (default_coding us) (sym t ∙ y)) in omega (arith, w.extras (sym t ∙ y), k);
-        few = λ y. let k = ap (λ (o : Option (List ℕ)). length (frame_bytes o)) d ∙ ap length (before_bytes (escape ∷ c ∷ []) (default_coding us) (sym t ∙ y)) in omega (arith, w.few (sym t ∙ y), k);
+        coded = w.coded ∙ (λ i. o.0 i && sym t i);
+        extras =
+            λ z y.
+            let k = ap (λ (x : Option (List ℕ)). length (frame_bytes x)) d ∙ ap length (before_bytes (escape ∷ c ∷ []) (default_coding us) (sym t ∙ y)) in
+            omega (arith, w.extras (o.0 ∙ z) (sym t ∙ y), o.1 z, k);
+        few =
+            λ y.
+            let k = ap (λ (x : Option (List ℕ)). length (frame_bytes x)) d ∙ ap length (before_bytes (escape ∷ c ∷ []) (default_coding us) (sym t ∙ y)) in
+            omega (arith, w.few (sym t ∙ y), k);
         lowest = omega (arith, w.lowest, n.0);
         highest = omega (arith, w.highest, n.1);
       }
@@ -151,8 +178,8 @@ module _ (s : Survey) (u : ℕ) (us : List ℕ) (r : Survey) where
       let t : readable (default_coding (u ∷ us)) ≡ false = ap readable (coding_none u us e f) in
       let n = low_yes u us (needs_none u e) in
       record {
-        coded = w.coded ∙ sym (ap (λ (b : Bool). s.coded && b) t ∙ and-false s.coded);
-        extras = λ y. absurd (false≢true (sym t ∙ y));
+        coded = w.coded ∙ sym (ap (λ (b : Bool). counted s && b) t ∙ and-false (counted s));
+        extras = λ z y. absurd (false≢true (sym t ∙ y));
         few = λ y. absurd (false≢true (sym t ∙ y));
         lowest = omega (arith, w.lowest, n.0);
         highest = omega (arith, w.highest, n.1);
@@ -182,7 +209,7 @@ by_unit s u us h rest = by (code_of u) refl
 
 surveyed : (s : Survey) (us : List ℕ) → s.lowest ≤ 0xFFFF → Surveyed s us (survey_from s us)
 unfolding survey_from default_coding readable frame_bytes low_need highest
-surveyed s [] h = record { coded = sym (and_true s.coded); extras = λ _. refl; few = λ _. omega arith; lowest = omega arith; highest = omega arith }
+surveyed s [] h = record { coded = sym (and_true (counted s)); extras = λ _ _. refl; few = λ _. omega arith; lowest = omega arith; highest = omega arith }
 surveyed s (u ∷ us) h = by_unit s u us h (λ x k. surveyed x us k)
 
 -- a pointer serves where it lies within 128 of both
@@ -306,29 +333,30 @@ module _ (us : List ℕ) (small : Each (λ (u : ℕ). u < 0x10000) us) (r : Surv
     size : length (first_or (default_coding us) (pair_coding us)) ≡ length us + excess_of r (length us)
 
   first_is : First
-  unfolding first_form excess_of bytes_of Serves
-  first_is = by r.coded refl
+  unfolding first_form form_with excess_of bytes_of Serves
+  first_is = by r.extras refl
     where
-      by : (t : Bool) → r.coded ≡ t → First
-      by true e =
-          let there = sym known.coded ∙ e in
-          let k = known.extras there in
+      by : (x : CodeOption ℕ) → r.extras ≡ x → First
+      by (Some n) e =
+          let there : readable (default_coding us) ≡ true = sym known.coded ∙ ap is_some e in
+          let k = known.extras refl there in
           let l = known.few there in
+          let m : extras_in r ≡ n = ap (λ (x : CodeOption ℕ). unwrap_or x 0) e in
           let p = pair_size us in
           let f = first_there (default_coding us) (pair_coding us) there (omega arith) in
-          let form : first_form r ≡ Default r.extras = stop _ _ _ e in
-          let over : excess_of r (length us) ≡ r.extras = stop _ _ _ e in
+          let form : first_form r ≡ Default n = ap form_with e in
+          let over : excess_of r (length us) ≡ n = ap (λ (x : CodeOption ℕ). unwrap_or x (length us + 1)) e in
           record {
             bytes = ap (λ (c : Coding). bytes_of c us) form ∙ sym f;
             serves = subst (λ (c : Coding). Serves c us) (sym form) (record { there = there; size = omega arith });
             size = ap length f ∙ omega arith;
           }
-      by false e =
-          let there = sym known.coded ∙ e in
+      by None e =
+          let there : readable (default_coding us) ≡ false = sym known.coded ∙ ap is_some e in
           let p = pair_size us in
           let f = first_none (default_coding us) (pair_coding us) there in
-          let form : first_form r ≡ Pairs = skip _ _ _ e in
-          let over : excess_of r (length us) ≡ length us + 1 = skip _ _ _ e in
+          let form : first_form r ≡ Pairs = ap form_with e in
+          let over : excess_of r (length us) ≡ length us + 1 = ap (λ (x : CodeOption ℕ). unwrap_or x (length us + 1)) e in
           record {
             bytes = ap (λ (c : Coding). bytes_of c us) form ∙ sym f;
             serves = subst (λ (c : Coding). Serves c us) (sym form) tt;
@@ -340,11 +368,14 @@ module _ (us : List ℕ) (small : Each (λ (u : ℕ). u < 0x10000) us) (r : Surv
   unfolding excess_of
   over_needing h = ⊎_elim (λ p. absurd (none p)) (λ w. w) (needing us)
     where
+      there_is_one : (x : CodeOption ℕ) (d : ℕ) → is_some x ≡ true → unwrap_or x d ≡ unwrap_or x 0
+      there_is_one None d e = absurd (false≢true e)
+      there_is_one (Some n) d e = refl
+
       none : Plainly us → ⊥
       none p =
-          let c : r.coded ≡ true = known.coded ∙ p.there in
-          let k = known.extras p.there in
-          let over : excess_of r (length us) ≡ r.extras = stop _ _ _ c in
+          let k = known.extras refl p.there in
+          let over = there_is_one r.extras (length us + 1) (known.coded ∙ p.there) in
           omega (arith, p.size)
 
   no_block : 255 < length us → block_coding us ≡ none
@@ -495,13 +526,52 @@ module _ (us : List ℕ) (small : Each (λ (u : ℕ). u < 0x10000) us) (r : Surv
 pub chosen_of : (us : List ℕ) → Each (λ (u : ℕ). u < 0x10000) us → Chosen (chosen (survey_from survey_none us) (length us)) us
 chosen_of us small = chosen_right us small (survey_from survey_none us) (surveyed survey_none us (omega arith))
 
+-- the block, by what is told of it
+block_yes_told : (s : Survey) (b : ℕ) → Some b ≡ block_told s → (block_fits s ≡ true) × (b ≡ s.lowest / 128)
+unfolding block_told
+block_yes_told s b e = by (block_fits s) refl
+  where
+    by : (t : Bool) → block_fits s ≡ t → (block_fits s ≡ true) × (b ≡ s.lowest / 128)
+    by true f = (f, let g : Some b ≡ Some (s.lowest / 128) = e ∙ stop _ _ _ f in cc)
+    by false f = absurd (let g : Some b ≡ None = e ∙ skip _ _ _ f in let z : ◌≡◌ {A = ℕ} 0 1 = cc in omega arith)
+
+block_no_told : (s : Survey) → None ≡ block_told s → block_fits s ≡ false
+unfolding block_told
+block_no_told s e = by (block_fits s) refl
+  where
+    by : (t : Bool) → block_fits s ≡ t → block_fits s ≡ false
+    by true f = absurd (let g : None ≡ Some (s.lowest / 128) = e ∙ stop _ _ _ f in let z : ◌≡◌ {A = ℕ} 0 1 = cc in omega arith)
+    by false f = f
+
+pub other_block : (s : Survey) → (s.highest / 128 ≡ s.lowest / 128 → ⊥) → None ≡ block_told s
+unfolding block_told block_fits
+other_block s n = sym (skip _ _ _ (ap (λ (b : Bool). b && ltb (s.lowest / 128) 256) (ne_eqb (s.highest / 128) (s.lowest / 128) n)))
+
+pub same_block : (s : Survey) (r : CodeOption ℕ) → s.highest / 128 ≡ s.lowest / 128 → SomeIff r (s.lowest / 128 < 256) (s.lowest / 128) → r ≡ block_told s
+unfolding block_told block_fits
+same_block s r e h = by r h
+  where
+    is : eqb (s.highest / 128) (s.lowest / 128) && ltb (s.lowest / 128) 256 ≡ ltb (s.lowest / 128) 256
+    is = ap (λ (b : Bool). b && ltb (s.lowest / 128) 256) (eq-eqb (s.highest / 128) (s.lowest / 128) e)
+
+    by : (x : CodeOption ℕ) → SomeIff x (s.lowest / 128 < 256) (s.lowest / 128) → x ≡ (eqb (s.highest / 128) (s.lowest / 128) && ltb (s.lowest / 128) 256 ⇒ Some (s.lowest / 128) else None)
+    by None n = sym (skip _ _ _ (is ∙ le-ltb (s.lowest / 128) 256 (below_not n)))
+      where
+        below_not : (s.lowest / 128 < 256 → ⊥) → 256 ≤ s.lowest / 128
+        below_not m = omega (arith, m)
+    by (Some b) w = ap Some w.1 ∙ sym (stop _ _ _ (is ∙ lt-ltb (s.lowest / 128) 256 w.0))
+
 -- the choice, test by test, by what the code found
 module _ (s : Survey) (n : ℕ) (f : Coding) (is : f ≡ first_form s) where
   pub choose_many : 255 < n → f ≡ chosen s n
   unfolding chosen
   choose_many h = is ∙ sym (stop _ _ _ (lt-ltb 255 n h))
 
-  module _ (few : n ≤ 255) (k : ℕ) (e : k ≡ excess_of s n) where
+  module _ (few : n ≤ 255) (k : ℕ) (e : k ≡ unwrap_or s.extras (n + 1)) where
+    excess_is : k ≡ excess_of s n
+    unfolding excess_of
+    excess_is = e
+
     not_many : chosen s n ≡
         (leb (excess_of s n) 3 ⇒ first_form s else
         block_fits s ⇒ Block (s.lowest / 128) else
@@ -512,36 +582,32 @@ module _ (s : Survey) (n : ℕ) (f : Coding) (is : f ≡ first_form s) where
     not_many = skip _ _ _ (le-ltb 255 n few)
 
     pub choose_low : k ≤ 3 → f ≡ chosen s n
-    choose_low h = is ∙ sym (not_many ∙ stop _ _ _ (le-leb (excess_of s n) 3 (omega arith)))
+    choose_low h = let x = excess_is in is ∙ sym (not_many ∙ stop _ _ _ (le-leb (excess_of s n) 3 (omega arith)))
 
-    module _ (over : 3 < k) (b : Bool) (g : b ≡ block_fits s) where
+    module _ (over : 3 < k) where
       not_low : chosen s n ≡
           (block_fits s ⇒ Block (s.lowest / 128) else
           leb (excess_of s n) 4 ⇒ first_form s else
           leb (s.highest - 127) s.lowest ⇒ Base (s.highest - 127) else
           first_form s)
-      not_low = not_many ∙ skip _ _ _ (lt-leb (excess_of s n) 3 (omega arith))
+      not_low = let x = excess_is in not_many ∙ skip _ _ _ (lt-leb (excess_of s n) 3 (omega arith))
 
-      pub choose_block : b ≡ true → Block (s.lowest / 128) ≡ chosen s n
-      choose_block h = sym (not_low ∙ stop _ _ _ (sym g ∙ h))
+      pub choose_block : (b : ℕ) → Some b ≡ block_told s → Block b ≡ chosen s n
+      choose_block b h = let w = block_yes_told s b h in ap Block w.1 ∙ sym (not_low ∙ stop _ _ _ w.0)
 
-      pub choose_named : b ≡ true → s.lowest / 128 < 256
-      unfolding block_fits
-      choose_named h = ltb-true (s.lowest / 128) 256 (both_right (eqb (s.highest / 128) (s.lowest / 128)) (ltb (s.lowest / 128) 256) (sym g ∙ h))
-
-      module _ (no : b ≡ false) where
+      module _ (no : None ≡ block_told s) where
         no_fit : chosen s n ≡
             (leb (excess_of s n) 4 ⇒ first_form s else
             leb (s.highest - 127) s.lowest ⇒ Base (s.highest - 127) else
             first_form s)
-        no_fit = not_low ∙ skip _ _ _ (sym g ∙ no)
+        no_fit = not_low ∙ skip _ _ _ (block_no_told s no)
 
         pub choose_even : k ≤ 4 → f ≡ chosen s n
-        choose_even h = is ∙ sym (no_fit ∙ stop _ _ _ (le-leb (excess_of s n) 4 (omega arith)))
+        choose_even h = let x = excess_is in is ∙ sym (no_fit ∙ stop _ _ _ (le-leb (excess_of s n) 4 (omega arith)))
 
         module _ (more : 4 < k) (x : ℕ) (h : x ≡ s.highest - 127) where
           not_even : chosen s n ≡ (leb (s.highest - 127) s.lowest ⇒ Base (s.highest - 127) else first_form s)
-          not_even = no_fit ∙ skip _ _ _ (lt-leb (excess_of s n) 4 (omega arith))
+          not_even = let y = excess_is in no_fit ∙ skip _ _ _ (lt-leb (excess_of s n) 4 (omega arith))
 
           pub choose_base : x ≤ s.lowest → Base x ≡ chosen s n
           choose_base l = ap Base h ∙ sym (not_even ∙ stop _ _ _ (le-leb (s.highest - 127) s.lowest (omega arith)))
@@ -549,11 +615,16 @@ module _ (s : Survey) (n : ℕ) (f : Coding) (is : f ≡ first_form s) where
           pub choose_last : s.lowest < x → f ≡ chosen s n
           choose_last l = is ∙ sym (not_even ∙ skip _ _ _ (lt-leb (s.highest - 127) s.lowest (omega arith)))
 
+-- a coding by another name
+pub serves_as : {c d : Coding} (us : List ℕ) → c ≡ d → Serves c us → Serves d us
+serves_as us e w = subst (λ (x : Coding). Serves x us) e w
+
+pub ends_as : {c d : Coding} (us begun after : List ℕ) (r : Ended) → c ≡ d → Ends (bytes_of d us) r begun after → Ends (bytes_of c us) r begun after
+ends_as us begun after r e w = subst (λ (x : Coding). Ends (bytes_of x us) r begun after) (sym e) w
+
 -- the coding that the code found, and the end of the call in it
-pub chosen_found :
-    (us : List ℕ) → Each (λ (u : ℕ). u < 0x10000) us → (s : Survey) (r c : Coding) → s ≡ survey_from survey_none us → r ≡ chosen s (length us) → r ≡ c → Chosen c us
-chosen_found us small s r c e f g =
-    subst (λ (x : Coding). Chosen x us) (sym (ap (λ (y : Survey). chosen y (length us)) e) ∙ sym f ∙ g) (chosen_of us small)
+pub chosen_found : (us : List ℕ) → Each (λ (u : ℕ). u < 0x10000) us → (s : Survey) (c : Coding) → s ≡ survey_from survey_none us → c ≡ chosen s (length us) → Chosen c us
+chosen_found us small s c e f = subst (λ (x : Coding). Chosen x us) (sym (f ∙ ap (λ (y : Survey). chosen y (length us)) e)) (chosen_of us small)
 
 pub chosen_ended :
     (c : Coding) (us : List ℕ) (r : Ended) (before after : List ℕ) → Chosen c us → Ends (bytes_of c us) r before after →

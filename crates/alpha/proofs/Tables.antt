@@ -7,58 +7,35 @@ use mathlib.Core.List.{List, [], ◌∷◌}
 use mathlib.Core.Option.{Option, none, some}
 use native.Mathlib.Omega.{arith}
 use native.Mathlib.Numerals.{add-one}
-use lib.ListN.{length, get_or, drop, drop_of_length-le}
-use lib.Seq.{drop-cons}
+use lib.ListN.{length, get_or}
 use lib.Dec.{eqb, leb}
 use borrow.Author.Tests.{eq-eqb, ne_eqb, eqb-true, eqb-false, leb-true}
+use Rattle.std.specs.Prelude.{Some, None}
+use Rattle.std.specs.List.{position, position_from}
+use Rattle.std.proofs.lemmas.Iterator.Adapters.{position_from-zero}
 use Rattle.rules.specs.Checks.{◌⇒◌else◌, every}
 use Rattle.rules.proofs.Laws.{stop, skip, both_left, both_right}
-use Rattle.alpha.specs.declared.Code.TheVariants.{Of, Nothing}
 use Rattle.alpha.specs.Alphabet.{escape, table, unit_of, Extended, extensions, extension_among, extension_unit, code_among, code_of, extension_code_among, extension_code_of}
 use Rattle.alpha.specs.Writes.{is_none}
-use Rattle.alpha.specs.Passes.{code_told}
+use Rattle.alpha.specs.Passes.{told}
 
 table_size : length table ≡ 128
 unfolding table
 table_size = refl
 
--- none of the codes before a place is that of the unit
-pub record Looks (u i : ℕ) : Type 0 where
-  pub within : i ≤ 128
-  pub same : code_of u ≡ code_among u i (drop i table)
+-- the place of a unit in the table is its code
+position_among : (u k : ℕ) (xs : List ℕ) → position_from (λ x. eqb x u) k xs ≡ told (code_among u k xs)
+unfolding code_among told ◌⇒◌else◌
+position_among u k [] = refl
+position_among u k (x ∷ xs) = by (eqb u x) refl (position_among u (suc k) xs)
+  where
+    by : (t : Bool) → eqb u x ≡ t → position_from (λ y. eqb y u) (suc k) xs ≡ told (code_among u (suc k) xs) → position_from (λ y. eqb y u) k (x ∷ xs) ≡ told (code_among u k (x ∷ xs))
+    by true e r = let f : eqb x u ≡ true = eq-eqb x u (sym (eqb-true u x e)) in rw (e, f)
+    by false e r = let f : eqb x u ≡ false = ne_eqb x u (λ y. eqb-false u x e (sym y)) in rw (e, f) (rw add-one r)
 
-pub looks_none : (u : ℕ) → Looks u 0
+pub position_code : (u : ℕ) → position (λ x. eqb x u) table ≡ told (code_of u)
 unfolding code_of
-looks_none u = record { within = omega arith; same = refl }
-
-module _ (u i : ℕ) (l : Looks u i) where
-  pub looks_end : 128 ≤ i → Nothing ≡ code_told (code_of u)
-  unfolding code_among code_told
-  looks_end h =
-      let n = table_size in
-      let k : length table ≤ i = omega arith in
-      sym (ap code_told (l.same ∙ ap (code_among u i) (drop_of_length-le table k)))
-
-  module _ (codes : List ℕ) (is : codes ≡ table) (h : i < 128) where
-    here : drop i table ≡ get_or codes i 0 ∷ drop (i + 1) table
-    here =
-        let n = table_size in
-        drop-cons table i 0 (omega arith)
-        ∙ (λ j. get_or (sym is j) i 0 ∷ drop (sym (add-one i) j) table)
-
-    pub looks_found : get_or codes i 0 ≡ u → Of i ≡ code_told (code_of u)
-    unfolding code_among code_told
-    looks_found e = sym (ap code_told (l.same ∙ ap (code_among u i) here ∙ stop _ _ _ (eq-eqb u (get_or codes i 0) (sym e))))
-
-    pub looks_more : (get_or codes i 0 ≡ u → ⊥) → Looks u (i + 1)
-    unfolding code_among
-    looks_more n =
-        record {
-          within = omega arith;
-          same =
-              l.same ∙ ap (code_among u i) here ∙ skip _ _ _ (ne_eqb u (get_or codes i 0) (λ e. n (sym e)))
-              ∙ ap (λ (k : ℕ). code_among u k (drop (i + 1) table)) (sym (add-one i));
-        }
+position_code u = position_from-zero (λ x. eqb x u) table ∙ position_among u 0 table
 
 -- "which code a unit has, no unit twice, 1B none": one computed test for the base table
 same_code : Option ℕ → ℕ → Bool
@@ -208,20 +185,18 @@ above_none m u k (x ∷ xs) e h =
     let l = leb-true x m (both_left (leb x m) (every (λ (y : ℕ). leb y m) xs) e) in
     skip _ _ _ (ne_eqb u x (λ q. omega (arith, q))) ∙ above_none m u (suc k) xs (both_right (leb x m) (every (λ (y : ℕ). leb y m) xs) e) h
 
-pub code_above : (u : ℕ) → 0x3A9 < u → Nothing ≡ code_told (code_of u)
-unfolding code_of code_told
-code_above u h = sym (ap code_told (above_none 0x3A9 u 0 table last_test h))
+pub code_above : (u : ℕ) → 0x3A9 < u → None ≡ told (code_of u)
+unfolding code_of told
+code_above u h = sym (ap told (above_none 0x3A9 u 0 table last_test h))
 
 -- a unit that stands at its own place has that code
 escape_unit : unit_of escape ≡ 0x40
 unfolding unit_of table
 escape_unit = refl
 
-pub code_own : (u : ℕ) (codes : List ℕ) → codes ≡ table → u < 128 → get_or codes u 0 ≡ u → Of u ≡ code_told (code_of u)
-unfolding unit_of code_told
-code_own u codes is h e =
-    let own : unit_of u ≡ u = ap (λ (l : List ℕ). get_or l u 0) (sym is) ∙ e in
-    sym (ap code_told (ap code_of (sym own) ∙ code_of_unit u h (λ f. other f own)))
+pub code_own : (u : ℕ) → u < 128 → get_or table u 0 ≡ u → Some u ≡ told (code_of u)
+unfolding unit_of told
+code_own u h e = sym (ap told (ap code_of (sym e) ∙ code_of_unit u h other))
   where
-    other : u ≡ escape → unit_of u ≡ u → ⊥
-    other f own = let z = sym escape_unit ∙ ap unit_of (sym f) ∙ own in omega arith
+    other : u ≡ escape → ⊥
+    other f = let z = sym escape_unit ∙ ap unit_of (sym f) ∙ e in omega arith

@@ -1,6 +1,6 @@
 -- What the tools print, by what their passes found.
 -- Assumes nothing.
-use Prim.Native.Nat.{ℕ, suc, ◌+◌, ◌-◌, ◌*◌, ◌≤◌, ◌<◌}
+use Prim.Native.Nat.{ℕ, suc, ◌+◌, ◌*◌, ◌≤◌, ◌<◌}
 use mathlib.Core.Path.{◌≡◌, refl, sym, ap, subst, ◌∙◌}
 use mathlib.Core.Bool.{Bool, true, false, not}
 use mathlib.Core.List.{List, [], ◌∷◌, ◌++◌}
@@ -9,15 +9,14 @@ use native.Mathlib.Omega.{arith}
 use lib.ListN.{length, get_or, take, drop, length-append, length-take, length-drop}
 use lib.Seq.{take-append_seam, length-take-le}
 use lib.Dec.{ltb, eqb}
-use borrow.Author.Rules.{part_to_end}
 use borrow.Author.Tests.{le-ltb, ltb-true, ltb-false}
 use Rattle.rules.specs.Checks.{is_empty, every}
-use Rattle.rules.specs.declared.Ended.{Ended}
-use Rattle.rules.specs.declared.Ended.TheVariants.{Wrote, Refused}
+use Rattle.rules.specs.Words.{Ended}
+use Rattle.std.specs.Prelude.{Ok, Err}
 use Rattle.rules.specs.declared.Refusal.{Refusal}
 use Rattle.rules.specs.declared.Refusal.TheVariants.{Malformed as MalformedText}
 use Rattle.rules.specs.Command.{wrote, refused}
-use Rattle.rules.specs.Lines.{frame_of, printed}
+use Rattle.rules.specs.Lines.{printed}
 use Rattle.rules.proofs.Laws.{skip, branch}
 use Rattle.octets.proofs.Pastes.{length_pasted}
 use Rattle.text.specs.Prints.{count_of, outcome_of, line_of, Prints}
@@ -26,7 +25,7 @@ use Rattle.alpha.specs.Alphabet.{escape, unit_of, extension_unit}
 use Rattle.alpha.specs.Reads.{Text, units, malformed, follow, follow_if, padding, pairs_mark, block_mark, base_mark, default_from, pairs, based_unit, based_from, based, block_pointer, base_pointer, reads}
 use Rattle.alpha.specs.Writes.{default_coding, pair_coding, block_coding, base_coding, shorter, first_or, writes}
 use Rattle.alpha.specs.Calls.{fitted, laid, ended_of, leaves}
-use Rattle.alpha.specs.Printed.{unit_text, further_text, units_text, text_line, value_line, alpha_read_line, units_of, coded_line, alpha_write_line}
+use Rattle.alpha.specs.Printed.{unit_text, further_text, units_text, text_line, units_of, coded_line, alpha_write_line}
 use Rattle.alpha.specs.Passes.{units_in}
 use Rattle.alpha.proofs.Codings.{pair_size}
 use Rattle.alpha.proofs.Lines.{unit_size, further_size}
@@ -114,18 +113,18 @@ pub record ReadText (t : Text) (n : ℕ) (buffer : List ℕ) : Type 0 where
   pub text : t ≡ units (take n buffer)
 
 module _ (s before after : List ℕ) (h : length s ≤ length before) (x : Ended) (e : (x ≡ ended_of (reads s) (length before)) × (after ≡ leaves (reads s) before)) where
-  fitting : (us : List ℕ) → reads s ≡ units us → (length us ≤ length before) × (x ≡ Wrote (length us)) × (after ≡ us ++ drop (length us) before)
+  fitting : (us : List ℕ) → reads s ≡ units us → (length us ≤ length before) × (x ≡ Ok (length us)) × (after ≡ us ++ drop (length us) before)
   unfolding ended_of leaves fitted laid few units_in
   fitting us f =
       let k : length us ≤ length s = subst (λ (t : Text). few t (length s)) f (reads_few s) in
       let g = le-ltb (length before) (length us) (omega arith) in
       (omega arith, e.0 ∙ ap (λ (t : Text). ended_of t (length before)) f ∙ skip _ _ _ g, e.1 ∙ ap (λ (t : Text). leaves t before) f ∙ skip _ _ _ g)
 
-  refusing : reads s ≡ malformed → x ≡ Refused MalformedText
+  refusing : reads s ≡ malformed → x ≡ Err MalformedText
   unfolding ended_of
   refusing f = e.0 ∙ ap (λ (t : Text). ended_of t (length before)) f
 
-  pub text_read : (n : ℕ) → x ≡ Wrote n → ReadText (reads s) n after
+  pub text_read : (n : ℕ) → x ≡ Ok n → ReadText (reads s) n after
   text_read n g = by (reads s) refl
     where
       by : (t : Text) → reads s ≡ t → ReadText (reads s) n after
@@ -142,7 +141,7 @@ module _ (s before after : List ℕ) (h : length s ≤ length before) (x : Ended
             text = f ∙ sym (ap units ((λ i. take (size i) (w.2 i)) ∙ take-append_seam us (drop (length us) before)));
           }
 
-  pub text_refused : (r : Refusal) → x ≡ Refused r → line_of (refused r) ≡ text_line (reads s)
+  pub text_refused : (r : Refusal) → x ≡ Err r → line_of (refused r) ≡ text_line (reads s)
   unfolding text_line
   text_refused r g = by (reads s) refl
     where
@@ -150,29 +149,43 @@ module _ (s before after : List ℕ) (h : length s ≤ length before) (x : Ended
       by malformed f = let q = refusing f in let z : r ≡ MalformedText = cc in ap (λ (y : Refusal). line_of (refused y)) z ∙ sym (ap text_line f)
       by (units us) f = absurd (let w = fitting us f in let y = w.1 in let z : ◌≡◌ {A = ℕ} 0 1 = cc in omega arith)
 
--- the line of a value, by what its line was
-pub value_told : (l : List ℕ) (o : Option (List ℕ)) {r at : ℕ} {before after : List ℕ} → frame_of l ≡ o → Prints (value_line o) r before at after → Prints (alpha_read_line l) r before at after
-unfolding alpha_read_line
-value_told l o e p = prints_as (ap value_line (sym e)) p
-
 -- units: none of them, and a first one with others behind it
 pub none_line : (us : List ℕ) → length us ≡ 0 → line_of (wrote []) ≡ text_line (units us)
 unfolding text_line units_text printed
 none_line [] e = refl
 none_line (u ∷ us) e = absurd (let z : suc (length us) ≡ 0 = e in omega arith)
 
-pub units_line :
-    (us : List ℕ) {before x y z : List ℕ} {at m e r : ℕ} → (length us ≡ 0 → ⊥) → at + 5 * length us + 4 ≤ length before →
-    Prints (unit_text (get_or us 0 0)) m before at x → Prints (further_text (take (length us - 1) (drop 1 us))) e x m y → Prints (10 ∷ []) r y e z →
-    Prints (text_line (units us)) r before at z
-unfolding text_line units_text
-units_line [] n h p q w = absurd (n refl)
-units_line (u ∷ us) n h p q w =
-    let f = unit_size u in
-    let g = further_size us in
-    let k = length-append (unit_text u) (further_text us) in
-    let l : suc (length us) ≡ length (u ∷ us) = refl in
-    prints_after (prints_after p (prints_as (ap further_text (part_to_end (u ∷ us) 1)) q) (omega arith)) w (omega arith)
+module _ (us : List ℕ) (u : ℕ) (rest : List ℕ) (is : us ≡ u ∷ rest) (before : List ℕ) (at : ℕ) (h : at + 5 * length us + 4 ≤ length before) where
+  module _ (m : ℕ) (x : List ℕ) (p : Prints (unit_text u) m before at x) where
+    first_same : length x ≡ length before
+    first_same = let f = unit_size u in let l = ap length is in ap length p.stands ∙ length_pasted before at (unit_text u) (omega arith)
+
+    pub further_room : m + 5 * length rest ≤ length x
+    further_room =
+        let f = unit_size u in
+        let s = first_same in
+        let l = ap length is in
+        omega (arith, p.place)
+
+    module _ (e : ℕ) (y : List ℕ) (q : Prints (further_text rest) e x m y) where
+      pub feed_room : e < length y
+      feed_room =
+          let k = further_room in
+          let g = further_size rest in
+          let f = unit_size u in
+          let s = first_same in
+          let i = ap length is in
+          let l = ap length q.stands ∙ length_pasted x m (further_text rest) (omega arith) in
+          omega (arith, p.place, q.place)
+
+      pub units_line : (r : ℕ) (z : List ℕ) → Prints (10 ∷ []) r y e z → Prints (text_line (units us)) r before at z
+      unfolding text_line units_text
+      units_line r z w =
+          let f = unit_size u in
+          let g = further_size rest in
+          let k = length-append (unit_text u) (further_text rest) in
+          let l = ap length is in
+          prints_as (ap (λ (t : List ℕ). text_line (units t)) (sym is)) (prints_after (prints_after p q (omega arith)) w (omega arith))
 
 -- a coding is at most as long as pairs
 shorter_few : (s : List ℕ) (o : Option (List ℕ)) (n : ℕ) → length s ≤ n → length (shorter s o) ≤ n
@@ -202,7 +215,7 @@ module _ (s before : List ℕ) where
   unfolding outcome_of fitted laid
   outcome_back h =
       let e = le-ltb (length before) (length s) h in
-      let x : fitted s (length before) ≡ Wrote (length s) = skip _ _ _ e in
+      let x : fitted s (length before) ≡ Ok (length s) = skip _ _ _ e in
       let y : laid s before ≡ s ++ drop (length s) before = skip _ _ _ e in
       (λ i. outcome_of (x i) (y i)) ∙ ap wrote (take-append_seam s (drop (length s) before))
 
@@ -220,28 +233,3 @@ module _ (us before : List ℕ) (h : 1 + 2 * length us ≤ length before) (x : E
 pub coded_told : (l : List ℕ) (o : Option (List ℕ)) {r at : ℕ} {before after : List ℕ} → units_of l ≡ o → Prints (coded_line o) r before at after → Prints (alpha_write_line l) r before at after
 unfolding alpha_write_line
 coded_told l o e p = prints_as (ap coded_line (sym e)) p
-
--- the room for the units behind the first, and for the line feed
-module _ (us : List ℕ) (n : length us ≡ 0 → ⊥) (before : List ℕ) (at : ℕ) (h : at + 5 * length us + 4 ≤ length before) (m : ℕ) (x : List ℕ) (p : Prints (unit_text (get_or us 0 0)) m before at x) where
-  rest_size : length (take (length us - 1) (drop 1 us)) ≡ length us - 1
-  rest_size = ap length (part_to_end us 1) ∙ length-drop 1 us
-
-  first_same : length x ≡ length before
-  first_same = let f = unit_size (get_or us 0 0) in ap length p.stands ∙ length_pasted before at (unit_text (get_or us 0 0)) (omega arith)
-
-  pub further_room : m + 5 * length (take (length us - 1) (drop 1 us)) ≤ length x
-  further_room =
-      let f = unit_size (get_or us 0 0) in
-      let s = first_same in
-      let r = rest_size in
-      omega (arith, p.place, n)
-
-  pub feed_room : (e : ℕ) (y : List ℕ) → Prints (further_text (take (length us - 1) (drop 1 us))) e x m y → e < length y
-  feed_room e y q =
-      let k = further_room in
-      let g = further_size (take (length us - 1) (drop 1 us)) in
-      let f = unit_size (get_or us 0 0) in
-      let s = first_same in
-      let r = rest_size in
-      let l = ap length q.stands ∙ length_pasted x m (further_text (take (length us - 1) (drop 1 us))) (omega arith) in
-      omega (arith, p.place, q.place, n)

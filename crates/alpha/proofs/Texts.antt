@@ -11,10 +11,10 @@ use lib.ListN.{length, get_or, drop, length-drop}
 use lib.Seq.{drop-cons}
 use lib.Dec.{ltb}
 use borrow.Author.Tests.{ltb-true, ltb-false}
-use Rattle.alpha.specs.declared.Size.{Size}
-use Rattle.alpha.specs.declared.Size.TheVariants.{Units, Malformed}
-use Rattle.alpha.specs.Reads.{Text, units, malformed, follow, follow_if}
-use Rattle.alpha.specs.Passes.{is_there, size_of, units_in, well}
+use Rattle.std.specs.Prelude.{Option as CodeOption, Some, None}
+use Rattle.alpha.specs.Reads.{Text, units, malformed, follow}
+use Rattle.alpha.specs.Bodies.{text_told}
+use Rattle.alpha.specs.Passes.{told, size_of, units_in, well}
 
 -- a number that is not at least another is below it
 pub below : (a b : ℕ) → (b ≤ a → ⊥) → a < b
@@ -24,25 +24,36 @@ below a b n = by (ltb a b) refl
     by true e = ltb-true a b e
     by false e = absurd (n (ltb-false a b e))
 
+-- what is told of a unit or a code
+pub told_some : (o : Option ℕ) (t : CodeOption ℕ) (n : ℕ) → t ≡ told o → t ≡ Some n → o ≡ some n
+unfolding told
+told_some none t n e f = absurd (let z : ◌≡◌ {A = ℕ} 0 1 = cc in omega arith)
+told_some (some m) t n e f = cc
+
+pub told_none : (o : Option ℕ) (t : CodeOption ℕ) → t ≡ told o → t ≡ None → o ≡ none
+unfolding told
+told_none none t e f = refl
+told_none (some m) t e f = absurd (let z : ◌≡◌ {A = ℕ} 0 1 = cc in omega arith)
+
 -- so many units before a text
-unfoldable pub plus : ℕ → Size → Size
-plus n Malformed = Malformed
-plus n (Units k) = Units (n + k)
+unfoldable pub plus : ℕ → CodeOption ℕ → CodeOption ℕ
+plus n None = None
+plus n (Some k) = Some (n + k)
 
-pub plus_none : (x : Size) → x ≡ plus 0 x
+pub plus_none : (x : CodeOption ℕ) → x ≡ plus 0 x
 unfolding plus
-plus_none Malformed = refl
-plus_none (Units k) = ap Units (let e : k ≡ 0 + k = omega arith in e)
+plus_none None = refl
+plus_none (Some k) = ap Some (let e : k ≡ 0 + k = omega arith in e)
 
-pub plus_more : (n : ℕ) (x : Size) → plus n (plus 1 x) ≡ plus (n + 1) x
+pub plus_more : (n : ℕ) (x : CodeOption ℕ) → plus n (plus 1 x) ≡ plus (n + 1) x
 unfolding plus
-plus_more n Malformed = refl
-plus_more n (Units k) = ap Units (let e : n + (1 + k) ≡ n + 1 + k = omega arith in e)
+plus_more n None = refl
+plus_more n (Some k) = ap Some (let e : n + (1 + k) ≡ n + 1 + k = omega arith in e)
 
 pub follow_size : (u : ℕ) (t : Text) → size_of (follow u t) ≡ plus 1 (size_of t)
 unfolding plus follow size_of
 follow_size u malformed = refl
-follow_size u (units us) = ap Units (let e : suc (length us) ≡ 1 + length us = omega arith in e)
+follow_size u (units us) = ap Some (let e : suc (length us) ≡ 1 + length us = omega arith in e)
 
 pub follow_well : (u : ℕ) (t : Text) → well (follow u t) ≡ well t
 unfolding follow well
@@ -60,17 +71,32 @@ unfolding well units_in
 well_units malformed e = absurd (false≢true e)
 well_units (units us) e = refl
 
-pub well_size : (t : Text) → well t ≡ true → size_of t ≡ Units (length (units_in t))
-unfolding well units_in size_of
-well_size malformed e = absurd (false≢true e)
-well_size (units us) e = refl
+pub ill : (t : Text) → well t ≡ false → t ≡ malformed
+unfolding well
+ill malformed e = refl
+ill (units us) e = absurd (false≢true (sym e))
 
-pub ill_size : (t : Text) → well t ≡ false → size_of t ≡ Malformed
-unfolding well size_of
-ill_size malformed e = refl
-ill_size (units us) e = absurd (false≢true (sym e))
+-- what is told of its units
+pub text_none : (t : Text) → t ≡ malformed → None ≡ text_told t
+unfolding text_told
+text_none t e = sym (ap text_told e)
 
-pub size_well : (t : Text) (k : ℕ) → size_of t ≡ Units k → (well t ≡ true) × (length (units_in t) ≡ k)
+pub text_some : (t : Text) (us : List ℕ) → t ≡ units us → Some us ≡ text_told t
+unfolding text_told
+text_some t us e = sym (ap text_told e)
+
+-- a text of which no size is told, and one of which it is
+pub size_none : (t : Text) → None ≡ size_of t → t ≡ malformed
+unfolding size_of
+size_none malformed e = refl
+size_none (units us) e = absurd (let z : ◌≡◌ {A = ℕ} 0 1 = cc in omega arith)
+
+pub size_some : (t : Text) (n : ℕ) → Some n ≡ size_of t → t ≡ units (units_in t)
+unfolding size_of units_in
+size_some malformed n e = absurd (let z : ◌≡◌ {A = ℕ} 0 1 = cc in omega arith)
+size_some (units us) n e = refl
+
+pub size_well : (t : Text) (k : ℕ) → size_of t ≡ Some k → (well t ≡ true) × (length (units_in t) ≡ k)
 unfolding well units_in size_of
 size_well malformed k e = absurd (let z : ◌≡◌ {A = ℕ} 0 1 = cc in omega arith)
 size_well (units us) k e = (refl, cc)
@@ -85,11 +111,6 @@ pub follows : (u : ℕ) (t : Text) (vs : List ℕ) → follow u t ≡ units vs �
 unfolding follow units_in
 follows u malformed vs e = absurd (let z : ◌≡◌ {A = ℕ} 0 1 = cc in omega arith)
 follows u (units ws) vs e = record { ws = ws; rest = refl; is = ap units_in (sym e) }
-
-pub follows_if : (o : Option ℕ) (t : Text) (vs : List ℕ) → follow_if o t ≡ units vs → is_there o ≡ true
-unfolding follow_if is_there
-follows_if none t vs e = absurd (let z : ◌≡◌ {A = ℕ} 0 1 = cc in omega arith)
-follows_if (some u) t vs e = refl
 
 -- what stands first in the rest of a list
 module _ (us : List ℕ) (n : ℕ) (u : ℕ) (ws : List ℕ) (e : drop n us ≡ u ∷ ws) where

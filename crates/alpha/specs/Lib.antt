@@ -4,4 +4,5 @@ pub mod Writes
 pub mod Calls
 pub mod Printed
 pub mod Passes
+pub mod Bodies
 pub mod Examples

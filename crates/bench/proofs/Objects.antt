@@ -7,7 +7,6 @@ use mathlib.Core.List.{List, [], ◌∷◌, ◌++◌}
 use native.Mathlib.Omega.{arith}
 use lib.ListN.{length, get_or, set, drop}
 use borrow.Author.Tests.{eq-eqb, ne_eqb}
-use Rattle.rules.specs.declared.Details.{Details}
 use Rattle.rules.specs.declared.Ending.{Ending}
 use Rattle.rules.specs.declared.Refusal.TheVariants.{NoResponse}
 use Rattle.rules.specs.Checks.{◌⇒◌else◌}
@@ -15,7 +14,7 @@ use Rattle.rules.specs.Frames.{Object, Walk, walk, object_at, faulty, length_byt
 use Rattle.rules.specs.Written.{Response, flagged, unflagged, details_bytes, result_bytes, result_objects, response_objects, response_bytes}
 use Rattle.rules.specs.Command.{wrote, refused}
 use Rattle.rules.specs.Lines.{printed}
-use Rattle.rules.specs.Bench.{told, bench_read}
+use Rattle.rules.specs.Bench.{bench_read}
 use Rattle.rules.proofs.Laws.{branch, stop, skip}
 use Rattle.rules.proofs.Walks.{walk_end, walk_fault}
 use Rattle.rules.proofs.Forms.{walk_written}
@@ -27,10 +26,8 @@ use Rattle.objects.specs.Places.{Stands}
 use Rattle.objects.proofs.Walking.{here_object}
 use Rattle.text.specs.Prints.{line_of, Prints}
 use Rattle.text.proofs.Printing.{value_few, prints_after, prints_as}
-use Rattle.bench_reader.specs.declared.Heard.{Heard}
-use Rattle.bench_reader.specs.declared.Heard.TheVariants.{Silence}
-use Rattle.bench_reader.specs.declared.Heard.TheVariants as heard
-use Rattle.bench_reader.specs.declared.Verdict.{Verdict}
+use Rattle.std.specs.Prelude.{Some, None}
+use Rattle.bench_reader.specs.declared.Response as heard
 use Rattle.bench_reader.specs.Heard.{result_of, heard_of}
 use Rattle.bench_reader.specs.Tails.{Hears}
 use Rattle.bench.specs.Printed.{digits_text, object_text, objects_behind, heard_line}
@@ -49,9 +46,6 @@ pub record Going (s before : List ℕ) (at from : ℕ) (out : List ℕ) (end her
   pub room : end + 2 * (length s - here) + 1 ≤ length out
   pub same : length out ≡ length before
   pub completes : (e : ℕ) (after : List ℕ) → Prints (tail s here) e out end after → Prints (tail s from) e before at after
-
-pub going_start : (s out : List ℕ) (at from : ℕ) → at + 2 * (length s - from) + 1 ≤ length out → Going s out at from out at from
-going_start s out at from h = record { room = h; same = refl; completes = λ e after w. w }
 
 -- two digits for each byte of a time
 digits_size : (v : List ℕ) → length (digits_text v) ≡ 2 * length v
@@ -80,13 +74,17 @@ timed_none before at v h = copied_none before at (digits_text v) (let e = digits
 
 pub timed_more :
     (before : List ℕ) (at : ℕ) (v : List ℕ) (i : ℕ) (after : List ℕ) → Timed before at v i after → i < length v →
-    Timed before at v (i + 1) (set (set after (at + 2 * i) (get_or v i 0 % 16 + 48)) (at + (2 * i + 1)) (get_or v i 0 / 16 + 48))
+    Timed before at v (i + 1) (set (set after (at + 2 * i) (get_or v i 0 % 16 + 48)) (at + 2 * i + 1) (get_or v i 0 / 16 + 48))
 timed_more before at v i after c h =
     let z = digits_size v in
     let r = digits_at_lem v i h in
     let k : 2 * i + 1 + 1 ≡ 2 * (i + 1) = omega arith in
-    subst (λ (j : ℕ). Copied before at (digits_text v) j (set (set after (at + 2 * i) (get_or v i 0 % 16 + 48)) (at + (2 * i + 1)) (get_or v i 0 / 16 + 48))) k
-    (copied_more before at (digits_text v) (2 * i + 1) _ _ (copied_more before at (digits_text v) (2 * i) after _ c (omega arith) (sym r.0)) (omega arith) (sym r.1))
+    let p : at + (2 * i + 1) ≡ at + 2 * i + 1 = omega arith in
+    let tens : List ℕ = set after (at + 2 * i) (get_or v i 0 % 16 + 48) in
+    let once = copied_more before at (digits_text v) (2 * i) after _ c (omega arith) (sym r.0) in
+    let twice = copied_more before at (digits_text v) (2 * i + 1) tens _ once (omega arith) (sym r.1) in
+    subst (λ (j : ℕ). Copied before at (digits_text v) j (set tens (at + 2 * i + 1) (get_or v i 0 / 16 + 48))) k
+    (subst (λ (j : ℕ). Copied before at (digits_text v) (2 * i + 1 + 1) (set tens j (get_or v i 0 / 16 + 48))) p twice)
 
 pub timed_all :
     (before : List ℕ) (at : ℕ) (v : List ℕ) (i : ℕ) (after : List ℕ) → Timed before at v i after → length v ≤ i →
@@ -111,34 +109,25 @@ unfolding object_text
 text_few number v =
     branch (λ (l : List ℕ). length l ≤ 2 * length v + 2) _ _ _ (λ _. let e = digits_size v in omega arith) (λ _. let e = value_few v in omega arith)
 
-part_few : (number : ℕ) (s : List ℕ) (start n : ℕ) → start + n ≤ length s → length (object_text (unflagged number (part start (start + n) s))) ≤ 2 * n + 2
-part_few number s start n h =
-    let v = text_few number (part start (start + n) s) in
-    let l = length_part start (start + n) s h in
-    omega arith
-
 module _ {s : List ℕ} {here number : ℕ} {flag : Bool} {start n next : ℕ} (st : Stands s here number flag start n next) where
-  -- it has room
-  pub object_room : (end l : ℕ) → end + 2 * (length s - here) + 1 ≤ l → (start ≤ start + n) × (start + n ≤ length s) × (end + 2 * (start + n - start) + 3 ≤ l)
-  object_room end l h =
-      (omega arith, omega (arith, st.ends, st.within), omega (arith, st.behind, st.ends, st.within))
-
-  -- and behind it the rest is printed
+  -- it is printed, and behind it the rest
   pub going_on :
       {before out after : List ℕ} {at from end m : ℕ} → Going s before at from out end here →
-      Prints (32 ∷ object_text (unflagged number (part start (start + n) s))) m out end after → Going s before at from after m next
+      Prints (32 ∷ object_text (unflagged number (part start next s))) m out end after → Going s before at from after m next
   unfolding objects_behind object_text
   going_on {out = out} {end = end} w p =
-      let text : List ℕ = 32 ∷ object_text (unflagged number (part start (start + n) s)) in
-      let few = part_few number s start n (omega (arith, st.ends, st.within)) in
-      let fits : end + length text ≤ length out = omega (arith, w.room, st.behind, st.ends, st.within) in
-      let l = ap length p.stands ∙ length_pasted out end text fits in
+      let v = part start next s in
+      let few = text_few number v in
+      let size = length_part start next s st.within in
+      let fits : end + length (32 ∷ object_text (unflagged number v)) ≤ length out = omega (arith, w.room, st.behind, st.ends, st.within) in
+      let l = ap length p.stands ∙ length_pasted out end _ fits in
+      let is = ap (λ (e : ℕ). 32 ∷ object_text (unflagged number (part start e s)) ++ tail s next) st.ends in
       record {
         room = omega (arith, w.room, p.place, st.behind, st.ends, st.within);
         same = l ∙ w.same;
         completes = λ e after' q.
             w.completes e after'
-            (prints_as (ap (λ (k : Walk). objects_behind k.objects) (sym (here_object st))) (prints_after p q fits));
+            (prints_as (ap (λ (k : Walk). objects_behind k.objects) (sym (here_object st))) (prints_as is (prints_after p q fits)));
       }
 
 pub going_end :
@@ -153,19 +142,22 @@ unfolding response_bytes response_objects written object_bytes length_bytes deta
 result_behind r =
     ap (λ (w : Walk). w.objects) (walk_written (flagged 0x03 (result_bytes r.result) ∷ result_objects r.result) (response_named r).1.1)
 
-module _ {s : List ℕ} {x : Heard} (h : Hears (bench_read s) s x) where
-  pub silence_line : {before after : List ℕ} {at m : ℕ} → x ≡ Silence → Prints (line_of (refused NoResponse)) m before at after → Prints (heard_line (bench_read s)) m before at after
-  unfolding heard_line heard_of
-  silence_line e w = prints_as (sym (ap heard_line (h.is ∙ ap (λ (y : Heard). heard_of y s) e))) w
+pub silence_line :
+    {s before after : List ℕ} {at m : ℕ} → Hears (bench_read s) s None → Prints (line_of (refused NoResponse)) m before at after →
+    Prints (heard_line (bench_read s)) m before at after
+unfolding heard_line heard_of
+silence_line h w = prints_as (sym (ap heard_line h.is)) w
 
-  pub response_line :
-      (d : Details) (v : Verdict) {before middle after : List ℕ} {at m e : ℕ} → x ≡ heard.Response d v → at + 8 ≤ length before →
-      Prints (printed (wrote (d.number ∷ d.kind ∷ d.qualifier ∷ []))) m before at middle → Prints (tail s 9) e middle m after → Prints (heard_line (bench_read s)) e before at after
-  unfolding heard_line heard_of object_text details_bytes ◌⇒◌else◌
-  response_line d v q room p w =
-      let r : Response = record { details = d; result = result_of v s } in
-      let is : bench_read s ≡ told r = h.is ∙ ap (λ (y : Heard). heard_of y s) q in
-      let few = value_few (d.number ∷ d.kind ∷ d.qualifier ∷ []) in
-      let rest = ap (λ (t : List ℕ). (walk (drop 9 t)).objects) (one_form s r is).1 ∙ result_behind r in
-      prints_as (ap (λ (os : List Object). printed (wrote (d.number ∷ d.kind ∷ d.qualifier ∷ [])) ++ objects_behind os) rest ∙ sym (ap heard_line is))
-      (prints_after p w (omega arith))
+pub response_line :
+    {s : List ℕ} {x : heard.Response} {before middle after : List ℕ} {at m e : ℕ} → Hears (bench_read s) s (Some x) → let d = x.details in
+    at + 8 ≤ length before →
+    Prints (printed (wrote (d.number ∷ d.kind ∷ d.qualifier ∷ []))) m before at middle → Prints (tail s 9) e middle m after →
+    Prints (heard_line (bench_read s)) e before at after
+unfolding heard_line heard_of object_text details_bytes ◌⇒◌else◌
+response_line {s} {x} h room p w =
+    let d = x.details in
+    let r : Response = record { details = d; result = result_of x.verdict s } in
+    let few = value_few (d.number ∷ d.kind ∷ d.qualifier ∷ []) in
+    let rest = ap (λ (t : List ℕ). (walk (drop 9 t)).objects) (one_form s r h.is).1 ∙ result_behind r in
+    prints_as (ap (λ (os : List Object). printed (wrote (d.number ∷ d.kind ∷ d.qualifier ∷ [])) ++ objects_behind os) rest ∙ sym (ap heard_line h.is))
+    (prints_after p w (omega arith))

@@ -5,7 +5,7 @@ use mathlib.Core.Path.{◌≡◌, refl, sym, ap, subst, ◌∙◌}
 use mathlib.Core.Bool.{Bool, true, false, ◌&&◌}
 use mathlib.Core.List.{List, [], ◌∷◌, ◌++◌, map}
 use native.Mathlib.Omega.{arith}
-use lib.ListN.{length, drop, length-append, length-drop, drop_of_length-le}
+use lib.ListN.{length, get_or, drop, length-append, length-drop, drop_of_length-le}
 use lib.Seq.{drop-cons, drop-append_seam}
 use lib.Dec.{ltb, leb}
 use borrow.Author.Tests.{lt-ltb, le-ltb, le-leb, ltb-true, leb-true}
@@ -13,35 +13,20 @@ use Rattle.rules.specs.declared.ChannelNumber.{ChannelNumber}
 use Rattle.rules.specs.declared.Details.{Details}
 use Rattle.rules.specs.declared.Link.{Link}
 use Rattle.rules.specs.declared.Link.TheVariants.{NotYet, Established, Dropped}
+use Rattle.rules.specs.declared.Refusal.TheVariants.{NoResponse}
 use Rattle.rules.specs.Checks.{◌⇒◌else◌, same}
 use Rattle.rules.specs.Frames.{Object, walk, length_bytes, object_bytes, written}
-use Rattle.rules.specs.Reading.{pair_in}
 use Rattle.rules.specs.Own.{Status, statuses, reports, done}
-use Rattle.rules.specs.Written.{pair_bytes, status_bytes, status_object, status_objects, further_objects, report_objects}
-use Rattle.rules.specs.Bench.{rising, further_proper, value_at, status_in, statuses_in, further_in, told, report_proper}
+use Rattle.rules.specs.Written.{status_bytes, status_object, status_objects, further_objects, report_objects}
+use Rattle.rules.specs.Bench.{rising, further_proper, value_at, status_in, statuses_in, further_in, told, untold, report_proper}
 use Rattle.rules.proofs.Laws.{stop, skip, both_left, both_right}
 use Rattle.rules.proofs.Forms.{same_refl, same_true, status_back}
 use Rattle.rules.proofs.Walks.{walk_end}
 use Rattle.octets.specs.Parts.{part}
-use Rattle.objects.specs.declared.Cursor.{Cursor}
-use Rattle.bench_reader.specs.declared.Two.{Two}
-use Rattle.bench_reader.specs.declared.Two.TheVariants as two
-use Rattle.bench_reader.specs.declared.Shown.{Shown}
-use Rattle.bench_reader.specs.declared.Shown.TheVariants as shown
+use Rattle.bench_reader.specs.Heard.{statuses_at, further_of}
 use Rattle.bench_reader.specs.declared.Further.TheVariants.{Statuses}
-use Rattle.bench_reader.specs.declared.Verdict.TheVariants.{Done}
-use Rattle.bench_reader.specs.declared.Heard.{Heard}
-use Rattle.bench_reader.specs.declared.Heard.TheVariants.{Response as Says, Silence}
-use Rattle.bench_reader.specs.Heard.{statuses_at, further_of, result_of, heard_of}
-use Rattle.bench_reader.specs.Tails.{Holds, object_with, Hidden, Double, Displays, ShownAt, checked, followed, listed, Hears}
-use Rattle.bench_reader.proofs.Standing.{named, same_object, pair_there, pair_missed, behind_two, never, silent, hears_as, same_step, step_on}
-
--- what was told, by the case that it is
-pub status_shown : {s : List ℕ} {at : ℕ} {r : Shown} {n : ChannelNumber} {l : Link} {next : Cursor} → r ≡ shown.At n l next → ShownAt r s at → Displays s at (record { number = n; link = l }) next.at
-status_shown {s} {at} e h = subst (λ (x : Shown). ShownAt x s at) e h
-
-pub status_hidden : {s : List ℕ} {at : ℕ} {r : Shown} → r ≡ shown.Not → ShownAt r s at → Hidden s at
-status_hidden {s} {at} e h = subst (λ (x : Shown). ShownAt x s at) e h
+use Rattle.bench_reader.specs.Tails.{Holds, object_with, Bytes, Misfit, Hidden, Displays, checked, followed, listed, Leads}
+use Rattle.bench_reader.proofs.Standing.{named, same_object, pair_there, never, silent, same_step, step_on}
 
 -- a status of a channel from 1 to 7
 pub rising_first : (last : ℕ) (st : Status) (ss : List Status) → rising last (st ∷ ss) ≡ true → (last < st.number.0) × (st.number.0 ≤ 7) × (rising st.number.0 ss ≡ true)
@@ -61,46 +46,53 @@ two_long n NotYet = refl
 two_long n Established = refl
 two_long n Dropped = refl
 
--- the status that two bytes are, and bytes that are none
-module _ (s : List ℕ) (at : ℕ) {r : Two} (m : Double r s at 0x38 false) where
-  pub status_missed : r ≡ two.Not → Hidden s at
+-- no two bytes, the status that two bytes are, and bytes that are none
+pub status_missed : {s : List ℕ} {at : ℕ} → Misfit s at 0x38 false 2 → Hidden s at
+unfolding status_object
+status_missed m = record { never = λ st os _ q. m.never (status_bytes st.number st.link) os (two_long st.number st.link) q }
+
+module _ {s : List ℕ} {at : ℕ} {v : List ℕ} {next : ℕ} (w : Bytes s at 0x38 false 2 v next) where
+  abbrev a : ℕ
+  a = get_or v 0 0
+
+  abbrev b : ℕ
+  b = get_or v 1 0
+
+  displays : (n : ChannelNumber) (l : Link) → 1 ≤ n.0 → n.0 ≤ 7 → a ∷ b ∷ [] ≡ status_bytes n l → Displays s at (record { number = n; link = l }) next
   unfolding status_object
-  status_missed e = record { never = λ st os _ q. (pair_missed e m).never (status_bytes st.number st.link) os (two_long st.number st.link) q }
+  displays n l low high q =
+      record { holds = subst (λ (v : List ℕ). Holds s at (object_with 0x38 false v) next) q (pair_there w); numbered = number_fair _ low high }
 
-  module _ {a b : ℕ} {next : Cursor} (e : r ≡ two.Bytes a b next) where
-    displays : (n : ChannelNumber) (l : Link) → 1 ≤ n.0 → n.0 ≤ 7 → a ∷ b ∷ [] ≡ status_bytes n l → Displays s at (record { number = n; link = l }) next.at
-    unfolding status_object
-    displays n l low high q =
-        record { holds = subst (λ (v : List ℕ). Holds s at (object_with 0x38 false v) next.at) q (pair_there e m); numbered = number_fair _ low high }
+  pub as_not_yet : b ≡ 0 → 1 ≤ a → a < 8 → Displays s at (record { number = record { 0 = a }; link = NotYet }) next
+  unfolding status_bytes
+  as_not_yet q low high = displays _ NotYet low (omega arith) (λ i. a ∷ q i ∷ [])
 
-    pub as_not_yet : b ≡ 0 → 1 ≤ a → a < 8 → Displays s at (record { number = record { 0 = a }; link = NotYet }) next.at
-    unfolding status_bytes
-    as_not_yet q low high = displays _ NotYet low (omega arith) (λ i. a ∷ q i ∷ [])
+  pub as_established : b ≡ 0 → 129 ≤ a → a < 136 → Displays s at (record { number = record { 0 = a - 0x80 }; link = Established }) next
+  unfolding status_bytes
+  as_established q low high =
+      let p : a ≡ a - 0x80 + 0x80 = omega arith in
+      displays _ Established (omega arith) (omega arith) (λ i. p i ∷ q i ∷ [])
 
-    pub as_established : b ≡ 0 → 129 ≤ a → a < 136 → Displays s at (record { number = record { 0 = a - 0x80 }; link = Established }) next.at
-    unfolding status_bytes
-    as_established q low high =
-        let p : a ≡ a - 0x80 + 0x80 = omega arith in
-        displays _ Established (omega arith) (omega arith) (λ i. p i ∷ q i ∷ [])
+  pub as_dropped : b ≡ 5 → 1 ≤ a → a < 8 → Displays s at (record { number = record { 0 = a }; link = Dropped }) next
+  unfolding status_bytes
+  as_dropped q low high = displays _ Dropped low (omega arith) (λ i. a ∷ q i ∷ [])
 
-    pub as_dropped : b ≡ 5 → 1 ≤ a → a < 8 → Displays s at (record { number = record { 0 = a }; link = Dropped }) next.at
-    unfolding status_bytes
-    as_dropped q low high = displays _ Dropped low (omega arith) (λ i. a ∷ q i ∷ [])
+  pub no_status : (b ≡ 0 → 1 ≤ a → a ≤ 7 → ⊥) → (b ≡ 0 → 129 ≤ a → a ≤ 135 → ⊥) → (b ≡ 5 → 1 ≤ a → a ≤ 7 → ⊥) → Hidden s at
+  unfolding status_object status_bytes
+  no_status f g h =
+      record {
+        never =
+            λ st os k q.
+            let p = rising_first 0 st [] k in
+            by st.number st.link p.0 p.1 (ap (λ (o : Object). o.value) (same_object (drop at s) _ os (named (omega arith)) q (pair_there w).is));
+      }
+    where
+      by : (n : ChannelNumber) (l : Link) → 1 ≤ n.0 → n.0 ≤ 7 → status_bytes n l ≡ a ∷ b ∷ [] → ⊥
+      by n NotYet low high q = let p : n.0 ≡ a = cc in f (sym (cc)) (omega arith) (omega arith)
+      by n Established low high q = let p : n.0 + 0x80 ≡ a = cc in g (sym (cc)) (omega arith) (omega arith)
+      by n Dropped low high q = let p : n.0 ≡ a = cc in h (sym (cc)) (omega arith) (omega arith)
 
-    pub no_status : (b ≡ 0 → 1 ≤ a → a ≤ 7 → ⊥) → (b ≡ 0 → 129 ≤ a → a ≤ 135 → ⊥) → (b ≡ 5 → 1 ≤ a → a ≤ 7 → ⊥) → Hidden s at
-    unfolding status_object status_bytes
-    no_status f g h =
-        record {
-          never =
-              λ st os k q.
-              let p = rising_first 0 st [] k in
-              by st.number st.link p.0 p.1 (ap (λ (o : Object). o.value) (same_object (drop at s) _ os (named (omega arith)) q (pair_there e m).is));
-        }
-      where
-        by : (n : ChannelNumber) (l : Link) → 1 ≤ n.0 → n.0 ≤ 7 → status_bytes n l ≡ a ∷ b ∷ [] → ⊥
-        by n NotYet low high q = let p : n.0 ≡ a = cc in f (sym (cc)) (omega arith) (omega arith)
-        by n Established low high q = let p : n.0 + 0x80 ≡ a = cc in g (sym (cc)) (omega arith) (omega arith)
-        by n Dropped low high q = let p : n.0 ≡ a = cc in h (sym (cc)) (omega arith) (omega arith)
+pub ruleset shows = (status_missed, no_status, arith)
 
 -- the statuses of objects, and the objects of statuses
 abbrev seen : List Object → List Status
@@ -110,44 +102,29 @@ abbrev written_as : List Status → List Object
 written_as = map (λ (st : Status). status_object st.number st.link)
 
 -- none, or a list of them
-module _ (d : Details) (x : ℕ) (s : List ℕ) (at : ℕ) {r : Two} (m : Double r s at 0x38 false) where
-  pub statuses_missed : r ≡ two.Not → Hears (followed d 0x44 x (drop at s)) s Silence
+module _ (d : Details) (x : ℕ) {s : List ℕ} {at : ℕ} where
+  pub statuses_missed : Misfit s at 0x38 false 2 → followed d 0x44 x (drop at s) ≡ untold NoResponse
   unfolding followed further_in further_proper further_objects report_objects ◌⇒◌else◌ status_objects status_object
-  statuses_missed e = silent _ _ _ _ (λ _ q. only (statuses_in (walk (drop at s)).objects) q)
+  statuses_missed m = silent _ _ _ _ (λ _ q. only (statuses_in (walk (drop at s)).objects) q)
     where
       only : (ss : List Status) → drop at s ≡ written (status_objects ss) → ⊥
-      only [] q = (pair_missed e m).never _ _ refl q
-      only (st ∷ ss) q = (pair_missed e m).never _ _ (two_long st.number st.link) q
+      only [] q = m.never _ _ refl q
+      only (st ∷ ss) q = m.never _ _ (two_long st.number st.link) q
 
-  module _ {a b : ℕ} {next : Cursor} (e : r ≡ two.Bytes a b next) where
-    pub statuses_inside : at ≤ length s
-    statuses_inside = let h = pair_there e m in omega (arith, behind_two h, h.within)
+  module _ {a b next : ℕ} (h : Holds s at (object_with 0x38 false (a ∷ b ∷ [])) next) where
+    pub statuses_none : a ≡ 0 → b ≡ 0 → Leads (followed d 0x44 x (drop at s)) d x s (Statuses next 0) next
+    unfolding followed further_in further_proper report_proper further_objects report_objects ◌⇒◌else◌ statuses_in status_objects value_at same rising further_of statuses_at
+    statuses_none f g =
+        record {
+          is = rw h.walked (rw (f, g) (step_on h (named (omega arith)) _ _ _ (λ i. sym f i ∷ sym g i ∷ [])));
+          at = λ o. omega (arith, h.within);
+        }
 
-    pub statuses_place : length s ≤ next.at → next.at + 0 ≡ length s
-    statuses_place o = let h = pair_there e m in omega (arith, h.within)
-
-    pub statuses_none :
-        {g : ℕ} {y : Heard} → (g ≡ pair_in (a ∷ b ∷ [])) × (pair_bytes g ≡ a ∷ b ∷ []) → g ≡ 0 →
-        Hears (checked true [] (drop next.at s) (record { details = d; result = result_of (Done x (Statuses next.at 0)) s })) s y → Hears (followed d 0x44 x (drop at s)) s y
-    unfolding followed further_in further_proper report_proper further_objects report_objects ◌⇒◌else◌ statuses_in status_objects value_at same rising result_of further_of statuses_at pair_in
-    statuses_none p q =
-        let h = pair_there e m in
-        let f : a ≡ 0 = omega (arith, p.0) in
-        let g : b ≡ 0 = omega (arith, p.0) in
-        hears_as (rw h.walked (rw (f, g) (step_on h (named (omega arith)) _ _ _ (λ i. sym f i ∷ sym g i ∷ []))))
-
-    statuses_listed : {y : Heard} → same (a ∷ b ∷ []) (0 ∷ 0 ∷ []) ≡ false → Hears (listed d x (drop at s)) s y → Hears (followed d 0x44 x (drop at s)) s y
+    pub statuses_some : ((a ≡ 0) × (b ≡ 0) → ⊥) → followed d 0x44 x (drop at s) ≡ listed d x (drop at s)
     unfolding followed further_in further_proper report_proper further_objects report_objects ◌⇒◌else◌ statuses_in status_objects value_at listed
-    statuses_listed f = hears_as (rw (pair_there e m).walked (rw f))
-
-    pub statuses_some :
-        {g : ℕ} {y : Heard} → (g ≡ pair_in (a ∷ b ∷ [])) × (pair_bytes g ≡ a ∷ b ∷ []) → (g ≡ 0 → ⊥) → Hears (listed d x (drop at s)) s y → Hears (followed d 0x44 x (drop at s)) s y
-    unfolding pair_in
-    statuses_some p n =
-        statuses_listed (never _ (λ q. let z = same_true (a ∷ b ∷ []) (0 ∷ 0 ∷ []) q in
-        let o : a ≡ 0 = cc in
-        let u : b ≡ 0 = cc in
-        n (omega (arith, p.0))))
+    statuses_some n =
+        let f : same (a ∷ b ∷ []) (0 ∷ 0 ∷ []) ≡ false = never _ (λ q. let z = same_true (a ∷ b ∷ []) (0 ∷ 0 ∷ []) q in n (cc, cc)) in
+        rw h.walked (rw f)
 
 -- the statuses from here on rise above a number, and are all that stands here
 unfoldable risen : ℕ → List ℕ → Bool
@@ -230,19 +207,19 @@ pub record Rises (s : List ℕ) (start at count last : ℕ) : Type 0 where
 pub rises_none : {s : List ℕ} {start : ℕ} → start ≤ length s → Rises s start start 0 0
 rises_none h = record { place = omega arith; within = h; test = refl }
 
-module _ (d : Details) (x : ℕ) (s : List ℕ) {start at count last : ℕ} (r : Rises s start at count last) where
-  rising_silent : risen last (drop at s) ≡ false → Hears (listed d x (drop start s)) s Silence
-  unfolding listed checked risen heard_of
-  rising_silent e = record { is = skip _ _ _ (r.test ∙ e); at = tt }
+module _ (d : Details) (x : ℕ) {s : List ℕ} {start at count last : ℕ} (r : Rises s start at count last) where
+  rising_silent : risen last (drop at s) ≡ false → listed d x (drop start s) ≡ untold NoResponse
+  unfolding listed checked risen
+  rising_silent e = skip _ _ _ (r.test ∙ e)
 
-  pub rising_hidden : {y : Shown} → ShownAt y s at → y ≡ shown.Not → at < length s → Hears (listed d x (drop start s)) s Silence
-  rising_hidden m e k = rising_silent (risen_none s at last (status_hidden e m) k)
+  pub rising_hidden : Hidden s at → at < length s → listed d x (drop start s) ≡ untold NoResponse
+  rising_hidden m k = rising_silent (risen_none s at last m k)
 
-  pub rising_order : {y : Shown} {n : ChannelNumber} {l : Link} {next : Cursor} → ShownAt y s at → y ≡ shown.At n l next → n.0 ≤ last → Hears (listed d x (drop start s)) s Silence
-  rising_order m e k = rising_silent (risen_order s at last (status_shown e m) k)
+  pub rising_order : {st : Status} {next : ℕ} → Displays s at st next → st.number.0 ≤ last → listed d x (drop start s) ≡ untold NoResponse
+  rising_order m k = rising_silent (risen_order s at last m k)
 
-  pub rising_heard : length s ≤ at → Hears (listed d x (drop start s)) s (Says d (Done x (Statuses start count)))
-  unfolding listed checked risen heard_of result_of further_of
+  pub rising_heard : length s ≤ at → Leads (listed d x (drop start s)) d x s (Statuses start count) at
+  unfolding listed checked risen further_of written same
   rising_heard h =
       let ss = seen (walk (drop start s)).objects in
       let t = r.test ∙ risen_end s at last h in
@@ -251,19 +228,20 @@ module _ (d : Details) (x : ℕ) (s : List ℕ) {start at count last : ℕ} (r :
       let n : length ss ≡ count = omega (arith, r.place, r.within) in
       let all : ss ≡ statuses_at count (drop start s) = sym (statuses_back 0 ss (both_left _ _ t)) ∙ (λ i. statuses_at (n i) (sym e i)) in
       record {
-        is = stop _ _ _ t ∙ ap (λ (k : List Status). told (record { details = d; result = done x (reports (statuses k)) })) all;
-        at = omega (arith, r.place, r.within);
+        is =
+            stop _ _ _ t ∙ ap (λ (k : List Status). told (record { details = d; result = done x (reports (statuses k)) })) all
+            ∙ sym (stop _ _ _ (ap (same []) (drop_of_length-le s h)));
+        at = λ _. omega (arith, r.place, r.within);
       }
 
-module _ (s : List ℕ) (at : ℕ) {y : Shown} {n : ChannelNumber} {l : Link} {next : Cursor} (m : ShownAt y s at) (e : y ≡ shown.At n l next) where
-  pub nearer : length s - next.at < length s - at
-  nearer = let h = (status_shown e m).holds in omega (arith, h.behind, h.within, four n l)
+module _ {s : List ℕ} {at : ℕ} {st : Status} {next : ℕ} (m : Displays s at st next) where
+  pub nearer : length s - next < length s - at
+  nearer = let h = m.holds in omega (arith, h.behind, h.within, four st.number st.link)
 
-  pub rises_more : {start count last : ℕ} → Rises s start at count last → last < n.0 → Rises s start next.at (count + 1) n.0
+  pub rises_more : {start count last : ℕ} → Rises s start at count last → last < st.number.0 → Rises s start next (count + 1) st.number.0
   rises_more {last = last} r k =
-      let h = status_shown e m in
       record {
-        place = omega (arith, r.place, h.holds.behind, four n l);
-        within = h.holds.within;
-        test = r.test ∙ risen_on s at last h k;
+        place = omega (arith, r.place, m.holds.behind, four st.number st.link);
+        within = m.holds.within;
+        test = r.test ∙ risen_on s at last m k;
       }

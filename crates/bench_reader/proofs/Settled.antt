@@ -5,6 +5,7 @@ use mathlib.Core.Path.{◌≡◌, refl, sym, ap, ◌∙◌}
 use mathlib.Core.List.{List}
 use native.Mathlib.Omega.{arith}
 use lib.ListN.{length, drop, length-drop}
+use Rattle.std.specs.Prelude.{Option, Some, None}
 use Rattle.rules.specs.Reading.{bearer_in}
 use Rattle.rules.specs.Own as own
 use Rattle.rules.specs.Own.{Result, error, problem, done, opened, received, sent, started, leaves, statuses, reports, nothing}
@@ -16,8 +17,7 @@ use Rattle.bench_reader.specs.declared.Further.{Further}
 use Rattle.bench_reader.specs.declared.Further.TheVariants.{Plain, Opened, Received, Sent, Started, Leaves, Statuses}
 use Rattle.bench_reader.specs.declared.Verdict.{Verdict}
 use Rattle.bench_reader.specs.declared.Verdict.TheVariants.{Error, Problem, Done}
-use Rattle.bench_reader.specs.declared.Heard.{Heard}
-use Rattle.bench_reader.specs.declared.Heard.TheVariants.{Response, Silence}
+use Rattle.bench_reader.specs.declared.Response.{Response}
 use Rattle.bench_reader.specs.Heard.{statuses_at, further_of, result_of, heard_of, FurtherAt, VerdictAt, PlacesAt}
 use Rattle.bench_reader.proofs.read.Kinds as read-kinds
 use Rattle.bench_reader.proofs.read.Reads as read-reads
@@ -71,16 +71,16 @@ verdict_back (Error e) s h = refl
 verdict_back (Problem cause) s h = refl
 verdict_back (Done r f) s h = ap (Done r) (further_back f s h)
 
-heard_in : Told → ℕ → Heard
-heard_in (told r) n = Response r.details (verdict_in r.result n)
-heard_in (untold r) n = Silence
+heard_in : Told → ℕ → Option Response
+heard_in (told r) n = Some (record { details = r.details; verdict = verdict_in r.result n })
+heard_in (untold r) n = None
 
-heard_back : (x : Heard) (s : List ℕ) → PlacesAt x s → heard_in (heard_of x s) (length s) ≡ x
+heard_back : (x : Option Response) (s : List ℕ) → PlacesAt x s → heard_in (heard_of x s) (length s) ≡ x
 unfolding heard_in heard_of
-heard_back (Response d v) s h = ap (Response d) (verdict_back v s h)
-heard_back Silence s h = refl
+heard_back (Some r) s h = λ i. Some (record { details = r.details; verdict = verdict_back r.verdict s h i })
+heard_back None s h = refl
 
-heard_alike : (x y : Heard) (s : List ℕ) → heard_of x s ≡ heard_of y s → PlacesAt x s → PlacesAt y s → x ≡ y
+heard_alike : (x y : Option Response) (s : List ℕ) → heard_of x s ≡ heard_of y s → PlacesAt x s → PlacesAt y s → x ≡ y
 heard_alike x y s e h k = sym (heard_back x s h) ∙ ap (λ (t : Told). heard_in t (length s)) e ∙ heard_back y s k
 
 pub read_settled : Determined 1 read-kinds.ps read-kinds.r read-reads.Pre read-reads.Post

@@ -1,11 +1,14 @@
 -- An object that stands at a place stands there in its written form, and no other one does: how it is found, and how what is checked goes on behind it.
 -- Assumes nothing.
-use Prim.Native.Nat.{ℕ, suc, ◌+◌, ◌-◌, ◌%◌, ◌≤◌, ◌<◌}
+use Prim.Native.Nat.{ℕ, ◌+◌, ◌%◌, ◌≤◌, ◌<◌}
 use mathlib.Core.Path.{◌≡◌, refl, sym, ap, subst, ◌∙◌}
 use mathlib.Core.Bool.{Bool, true, false, ◌&&◌, false≢true}
 use mathlib.Core.List.{List, [], ◌∷◌, ◌++◌, append_assoc}
+use Rattle.std.specs.Prelude.{Option, Some, None, Result, Ok, Err, MatchResult}
+use Rattle.std.specs.Array.{IsWholeChunk}
+use Rattle.std.specs.Result.{result_ok}
+use Rattle.std.proofs.Common.{Fits, w8}
 use native.Mathlib.Omega.{arith}
-use native.Mathlib.Numerals.{add-one}
 use lib.ListN.{length, get_or, take, drop, length-append, length-drop, take-append-drop, drop_of_length-le}
 use lib.Seq.{drop-cons, length-take-le}
 use lib.Dec.{leb}
@@ -20,25 +23,18 @@ use Rattle.rules.specs.Bench.{Told, told, untold}
 use Rattle.rules.proofs.Laws.{branch, stop, skip, both_left, both_right, both}
 use Rattle.rules.proofs.Forms.{Named, object_back, same_refl, same_true}
 use Rattle.octets.specs.Parts.{part}
+use Rattle.octets.proofs.Copies.{part_get}
 use Rattle.objects.specs.declared.Cursor.{Cursor}
-use Rattle.objects.specs.declared.Found.{Found}
-use Rattle.objects.specs.declared.Found.TheVariants as found
+use Rattle.objects.specs.declared.Object as objects
 use Rattle.objects.specs.Places.{object_of, Stands, Meets}
 use Rattle.objects.proofs.Alike.{part_size}
-use Rattle.objects.proofs.Reading.{object_told, object_missed}
 use Rattle.objects.proofs.Walking.{here_object}
 use Rattle.objects.proofs.Writing.{short_length, long_length_lem}
-use Rattle.bench_reader.specs.declared.Value.{Value}
-use Rattle.bench_reader.specs.declared.Value.TheVariants as value
-use Rattle.bench_reader.specs.declared.One.{One}
-use Rattle.bench_reader.specs.declared.One.TheVariants as one
-use Rattle.bench_reader.specs.declared.Two.{Two}
-use Rattle.bench_reader.specs.declared.Two.TheVariants as two
+use Rattle.bench_reader.specs.declared.Further.{Further}
 use Rattle.bench_reader.specs.declared.Verdict.{Verdict}
-use Rattle.bench_reader.specs.declared.Heard.{Heard}
-use Rattle.bench_reader.specs.declared.Heard.TheVariants.{Response as Says, Silence}
+use Rattle.bench_reader.specs.declared.Response as heard
 use Rattle.bench_reader.specs.Heard.{result_of, heard_of, VerdictAt}
-use Rattle.bench_reader.specs.Tails.{Holds, Tag, object_with, Valued, Absent, Misfit, Holder, Single, Double, checked, Hears}
+use Rattle.bench_reader.specs.Tails.{Holds, Tag, object_with, Valued, Absent, Misfit, Bytes, Follows, checked, Hears}
 
 -- a length that is read is in its shortest form
 abbrev LengthForm : List ℕ → LengthRead → Type 0
@@ -91,7 +87,7 @@ object_form b u h short =
     (λ _. branch (λ (r : TagRead). Form b u (after_tag r)) _ _ _ (λ _. tt) (λ _. value_form b u (length_at u) h (length_form u)))
 
 module _ {s : List ℕ} {at number : ℕ} {flag : Bool} {start n next : ℕ} (st : Stands s at number flag start n next) where
-  stands_before : at < length s
+  pub stands_before : at < length s
   stands_before = omega (arith, st.behind, st.ends, st.within)
 
   pub stands_valued : get_or s at 0 < 256 → (get_or s at 0 ≡ 0x7F → ⊥) → Valued s at (get_or s at 0 % 0x80) (leb 0x80 (get_or s at 0)) start n next
@@ -132,90 +128,94 @@ module _ (t : List ℕ) (p : Object) (os : List Object) (named : Named p) (e : t
 pub named : {number : ℕ} {flag : Bool} {v : List ℕ} → (1 ≤ number) × (number ≤ 126) → Named (object_with number flag v)
 named h = record { some = h.0; seven_bits = h.1 }
 
-pub tag_inside :
-    (s : List ℕ) (at : ℕ) {r : Found} {number : ℕ} {flag : Bool} {start n : ℕ} {next : Cursor} → Meets r s at → r ≡ found.Object number flag start n next → at < length s
-tag_inside s at m e = stands_before (object_told e m)
+-- the object that was met
+pub object_met : (s : List ℕ) (at : ℕ) (r : Result objects.Object Ending) {o : objects.Object} → Meets r s at → Some o ≡ result_ok r → Stands s at o.number o.flagged o.start o.len o.next.at
+object_met s at (Ok p) {o} m e = let q : p ≡ o = cc in subst (λ (x : objects.Object). Stands s at x.number x.flagged x.start x.len x.next.at) q m
+object_met s at (Err f) m e = cc
 
 -- no object, one with another tag, or with that tag
-module _ (s : List ℕ) (at tag : ℕ) {r : Found} (m : Meets r s at) where
-  pub at_fault : {e : Ending} → Tag tag → r ≡ found.Fault e → Absent s at (tag % 0x80) (leb 0x80 tag)
-  at_fault h e =
-      record { never = λ v os q. never_faulty (drop at s) (object_with (tag % 0x80) (leb 0x80 tag) v) os (named h) q (object_missed s at e m) }
+module _ (s : List ℕ) (at tag : ℕ) where
+  pub object_missed : (r : Result objects.Object Ending) → Meets r s at → None ≡ result_ok r → Tag tag → Absent s at (tag % 0x80) (leb 0x80 tag)
+  object_missed (Ok o) m e h = cc
+  object_missed (Err f) m e h = record { never = λ v os q. never_faulty (drop at s) (object_with (tag % 0x80) (leb 0x80 tag) v) os (named h) q m }
 
-  module _ {number : ℕ} {flag : Bool} {start n : ℕ} {next : Cursor} (e : r ≡ found.Object number flag start n next) (b : tag < 256) where
+  module _ {number : ℕ} {flag : Bool} {start n next : ℕ} (st : Stands s at number flag start n next) (b : tag < 256) where
     pub other_tag : (get_or s at 0 ≡ tag → ⊥) → Absent s at (tag % 0x80) (leb 0x80 tag)
     unfolding written object_bytes
     other_tag k =
-        record { never = λ v os q. k (ap (λ (l : List ℕ). get_or l 0 0) (sym (drop-cons s at 0 (tag_inside s at m e)) ∙ q) ∙ sym (tag_form tag b)) }
+        record { never = λ v os q. k (ap (λ (l : List ℕ). get_or l 0 0) (sym (drop-cons s at 0 (stands_before st)) ∙ q) ∙ sym (tag_form tag b)) }
 
-    pub that_tag : Tag tag → get_or s at 0 ≡ tag → Valued s at (tag % 0x80) (leb 0x80 tag) start n next.at
+    pub that_tag : Tag tag → get_or s at 0 ≡ tag → Valued s at (tag % 0x80) (leb 0x80 tag) start n next
     that_tag h q =
-        subst (λ (k : ℕ). k < 256 → (k ≡ 0x7F → ⊥) → Valued s at (k % 0x80) (leb 0x80 k) start n next.at) q (stands_valued (object_told e m)) b
+        subst (λ (k : ℕ). k < 256 → (k ≡ 0x7F → ⊥) → Valued s at (k % 0x80) (leb 0x80 k) start n next) q (stands_valued st) b
         (λ z. let w = h.1 in let y : tag % 0x80 ≡ 0x7F = ap (λ (k : ℕ). k % 0x80) z in omega arith)
 
--- what was told, by the case that it is
-module _ {s : List ℕ} {at number : ℕ} {flag : Bool} where
-  pub object_there : {r : Value} {start n : ℕ} {next : Cursor} → r ≡ value.At start n next → Holder r s at number flag → Valued s at number flag start n next.at
-  object_there e h = subst (λ (x : Value). Holder x s at number flag) e h
+-- the value of an object that stands, and one of another length
+module _ {s : List ℕ} {at number : ℕ} {flag : Bool} {start n next : ℕ} (w : Valued s at number flag start n next) where
+  pub value_long : length (part start (start + n) s) ≡ n
+  value_long = part_size s start n (omega (arith, w.ends, w.holds.within))
 
-  pub object_absent : {r : Value} → r ≡ value.Not → Holder r s at number flag → Absent s at number flag
-  object_absent e h = subst (λ (x : Value). Holder x s at number flag) e h
+  pub other_length : (k : ℕ) → (1 ≤ number) × (number ≤ 126) → (length (part start next s) ≡ k → ⊥) → Misfit s at number flag k
+  other_length k h x =
+      record {
+        never =
+            λ v os l q.
+            x (ap (λ (e : ℕ). length (part start e s)) w.ends
+            ∙ ap (λ (o : Object). length o.value) (sym (same_object (drop at s) (object_with number flag v) os (named h) q w.holds.is)) ∙ l);
+      }
 
-  pub byte_there : {r : One} {a : ℕ} {next : Cursor} → r ≡ one.Byte a next → Single r s at number flag → Holds s at (object_with number flag (a ∷ [])) next.at
-  byte_there e h = subst (λ (x : One). Single x s at number flag) e h
+  -- the bytes that it has, and those of the array that a call made of them
+  pub bytes_from : (m : ℕ) {v : List ℕ} → part start next s ≡ v → length v ≡ m → ((i : ℕ) → Fits w8 (get_or s i 0)) → Bytes s at number flag m v next
+  bytes_from m {v} p l f =
+      record {
+        holds = subst (λ (x : List ℕ). Holds s at (object_with number flag x) next) (ap (λ (e : ℕ). part start e s) (sym w.ends) ∙ p) w.holds;
+        long = l;
+        fits =
+            λ i h.
+            let all = value_long in
+            let e = ap (λ (k : ℕ). length (part start k s)) w.ends in
+            let g : get_or v i 0 ≡ get_or s (start + i) 0 =
+            ap (λ (x : List ℕ). get_or x i 0) (sym p) ∙ part_get start next i s (omega (arith, w.ends, ap length p)) in
+            omega (arith, f (start + i));
+      }
 
-  pub byte_missed : {r : One} → r ≡ one.Not → Single r s at number flag → Misfit s at number flag 1
-  byte_missed e h = subst (λ (x : One). Single x s at number flag) e h
+  pub bytes_met :
+      {E : Type 0} (Q : E → Type 0) (m : ℕ) (r : Result (List ℕ) E) {v : List ℕ} → MatchResult r (λ y. IsWholeChunk (part start next s) y m) Q → Some v ≡ result_ok r →
+      ((i : ℕ) → Fits w8 (get_or s i 0)) → Bytes s at number flag m v next
+  bytes_met Q m (Ok y) {v} k e f =
+      let q : v ≡ y = cc in
+      let p : part start next s ≡ v = sym (q ∙ k.same) in
+      bytes_from m p (sym (ap length p) ∙ k.long) f
+  bytes_met Q m (Err x) k e f = cc
 
-  pub pair_there : {r : Two} {a b : ℕ} {next : Cursor} → r ≡ two.Bytes a b next → Double r s at number flag → Holds s at (object_with number flag (a ∷ b ∷ [])) next.at
-  pair_there e h = subst (λ (x : Two). Double x s at number flag) e h
+-- as many bytes, one by one
+byte_list : (v : List ℕ) → length v ≡ 1 → v ≡ get_or v 0 0 ∷ []
+byte_list [] l = absurd (omega arith)
+byte_list (a ∷ []) l = refl
+byte_list (a ∷ b ∷ v) l = absurd (let z : length (a ∷ b ∷ v) ≡ 1 = l in omega arith)
 
-  pub pair_missed : {r : Two} → r ≡ two.Not → Double r s at number flag → Misfit s at number flag 2
-  pair_missed e h = subst (λ (x : Two). Double x s at number flag) e h
+pub pair_list : (v : List ℕ) → length v ≡ 2 → v ≡ get_or v 0 0 ∷ get_or v 1 0 ∷ []
+pair_list [] l = absurd (omega arith)
+pair_list (a ∷ []) l = absurd (omega arith)
+pair_list (a ∷ b ∷ []) l = refl
+pair_list (a ∷ b ∷ c ∷ v) l = absurd (let z : length (a ∷ b ∷ c ∷ v) ≡ 2 = l in omega arith)
 
--- the object that is looked for, by its length, and its bytes
-byte_from : (s : List ℕ) (a n : ℕ) → a < length s → take (suc n) (drop a s) ≡ get_or s a 0 ∷ take n (drop (a + 1) s)
-byte_from s a n h = ap (take (suc n)) (drop-cons s a 0 h ∙ ap (λ (k : ℕ). get_or s a 0 ∷ drop k s) (sym (add-one a)))
+three_list : (v : List ℕ) → length v ≡ 3 → v ≡ get_or v 0 0 ∷ get_or v 1 0 ∷ get_or v 2 0 ∷ []
+three_list [] l = absurd (omega arith)
+three_list (a ∷ []) l = absurd (omega arith)
+three_list (a ∷ b ∷ []) l = absurd (omega arith)
+three_list (a ∷ b ∷ c ∷ []) l = refl
+three_list (a ∷ b ∷ c ∷ d ∷ v) l = absurd (let z : length (a ∷ b ∷ c ∷ d ∷ v) ≡ 3 = l in omega arith)
 
-module _ (s : List ℕ) (at number : ℕ) (flag : Bool) {r : Value} (m : Holder r s at number flag) where
-  pub no_length_lem : (k : ℕ) → r ≡ value.Not → Misfit s at number flag k
-  no_length_lem k e = record { never = λ v os l q. (object_absent e m).never v os q }
+module _ {s : List ℕ} {at number : ℕ} {flag : Bool} {v : List ℕ} {next : ℕ} where
+  pub byte_there : Bytes s at number flag 1 v next → Holds s at (object_with number flag (get_or v 0 0 ∷ [])) next
+  byte_there b = subst (λ (x : List ℕ). Holds s at (object_with number flag x) next) (byte_list v b.long) b.holds
 
-  module _ {start n : ℕ} {next : Cursor} (e : r ≡ value.At start n next) where
-    pub value_inside : start + n ≤ length s
-    value_inside = let w = object_there e m in omega (arith, w.ends, w.holds.within)
+  pub pair_there : Bytes s at number flag 2 v next → Holds s at (object_with number flag (get_or v 0 0 ∷ get_or v 1 0 ∷ [])) next
+  pair_there b = subst (λ (x : List ℕ). Holds s at (object_with number flag x) next) (pair_list v b.long) b.holds
 
-    pub value_long : length (part start (start + n) s) ≡ n
-    value_long = part_size s start n value_inside
-
-    pub other_length : (k : ℕ) → (1 ≤ number) × (number ≤ 126) → (n ≡ k → ⊥) → Misfit s at number flag k
-    other_length k h x =
-        record {
-          never =
-              λ v os l q.
-              x (sym value_long ∙ ap (λ (o : Object). length o.value) (sym (same_object (drop at s) (object_with number flag v) os (named h) q (object_there e m).holds.is)) ∙ l);
-        }
-
-    holds_with : (k : ℕ) (v : List ℕ) → n ≡ k → take k (drop start s) ≡ v → Holds s at (object_with number flag v) next.at
-    holds_with k v q f =
-        let j : start + n - start ≡ k = omega arith in
-        subst (λ (x : List ℕ). Holds s at (object_with number flag x) next.at) (ap (λ (i : ℕ). take i (drop start s)) j ∙ f) (object_there e m).holds
-
-    pub one_byte : n ≡ 1 → Holds s at (object_with number flag (get_or s start 0 ∷ [])) next.at
-    one_byte q = holds_with 1 _ q (byte_from s start 0 (omega (arith, value_inside)))
-
-    pub two_bytes : n ≡ 2 → Holds s at (object_with number flag (get_or s start 0 ∷ get_or s (start + 1) 0 ∷ [])) next.at
-    two_bytes q =
-        holds_with 2 _ q
-        (byte_from s start 1 (omega (arith, value_inside)) ∙ ap (λ (l : List ℕ). get_or s start 0 ∷ l) (byte_from s (start + 1) 0 (omega (arith, value_inside))))
-
-    pub three_bytes : n ≡ 3 → Holds s at (object_with number flag (get_or s start 0 ∷ get_or s (start + 1) 0 ∷ get_or s (start + 2) 0 ∷ [])) next.at
-    three_bytes q =
-        let j : start + 1 + 1 ≡ start + 2 = omega arith in
-        holds_with 3 _ q
-        (byte_from s start 2 (omega (arith, value_inside))
-        ∙ ap (λ (l : List ℕ). get_or s start 0 ∷ l) (byte_from s (start + 1) 1 (omega (arith, value_inside))
-        ∙ ap (λ (l : List ℕ). get_or s (start + 1) 0 ∷ l) (byte_from s (start + 1 + 1) 0 (omega (arith, value_inside)) ∙ ap (λ (i : ℕ). get_or s i 0 ∷ []) j)))
+  pub three_there : Bytes s at number flag 3 v next → Holds s at (object_with number flag (get_or v 0 0 ∷ get_or v 1 0 ∷ get_or v 2 0 ∷ [])) next
+  three_there b = subst (λ (x : List ℕ). Holds s at (object_with number flag x) next) (three_list v b.long) b.holds
 
 -- the place behind a short value
 module _ {s : List ℕ} {at number : ℕ} {flag : Bool} {next : ℕ} where
@@ -244,17 +244,20 @@ pub and_true : (b : Bool) → b && true ≡ b
 and_true true = refl
 and_true false = refl
 
-pub hears_as : {t u : Told} {s : List ℕ} {r : Heard} → t ≡ u → Hears u s r → Hears t s r
+pub hears_as : {t u : Told} {s : List ℕ} {r : Option heard.Response} → t ≡ u → Hears u s r → Hears t s r
 hears_as e h = record { is = e ∙ h.is; at = h.at }
 
 -- nothing is checked to be there
-pub silent : {s : List ℕ} (b : Bool) (os : List Object) (t : List ℕ) (r : Response) → (b ≡ true → t ≡ written os → ⊥) → Hears (checked b os t r) s Silence
-unfolding checked heard_of
-silent b os t r h =
-    record {
-      is = skip _ _ _ (never _ (λ e. h (both_left b _ e) (sym (same_true (written os) t (both_right b (same (written os) t) e)))));
-      at = tt;
-    }
+pub silent : (b : Bool) (os : List Object) (t : List ℕ) (r : Response) → (b ≡ true → t ≡ written os → ⊥) → checked b os t r ≡ untold NoResponse
+unfolding checked
+silent b os t r h = skip _ _ _ (never _ (λ e. h (both_left b _ e) (sym (same_true (written os) t (both_right b (same (written os) t) e)))))
+
+pub follows_as : {t u : Told} (d : Details) (x : ℕ) (s : List ℕ) (r : Option (Further × Cursor)) → t ≡ u → Follows u d x s r → Follows t d x s r
+follows_as d x s r e h = subst (λ (y : Told). Follows y d x s r) (sym e) h
+
+pub hears_none : {t : Told} {s : List ℕ} → t ≡ untold NoResponse → Hears t s None
+unfolding heard_of
+hears_none e = record { is = e; at = tt }
 
 module _ {s : List ℕ} {at : ℕ} {o : Object} {next : ℕ} (h : Holds s at o next) (named : Named o) where
   -- the same object is looked for, with a value
@@ -284,10 +287,10 @@ module _ {s : List ℕ} {at : ℕ} {o : Object} {next : ℕ} (h : Holds s at o n
 
 -- the bytes end here, or go on
 module _ (s : List ℕ) (at : ℕ) (d : Details) (v : Verdict) where
-  pub last_heard : length s ≤ at → VerdictAt v s → Hears (checked true [] (drop at s) (record { details = d; result = result_of v s })) s (Says d v)
+  pub last_heard : length s ≤ at → VerdictAt v s → Hears (checked true [] (drop at s) (record { details = d; result = result_of v s })) s (Some (record { details = d; verdict = v }))
   unfolding checked heard_of written same
   last_heard h p = record { is = stop _ _ _ (ap (same []) (drop_of_length-le s h)); at = p }
 
-  pub last_silent : at < length s → Hears (checked true [] (drop at s) (record { details = d; result = result_of v s })) s Silence
+  pub last_silent : at < length s → Hears (checked true [] (drop at s) (record { details = d; result = result_of v s })) s None
   unfolding written
-  last_silent h = silent true [] (drop at s) _ (λ _ e. let z : ◌≡◌ {A = ℕ} 0 1 = cc (drop-cons s at 0 h) in omega arith)
+  last_silent h = hears_none (silent true [] (drop at s) _ (λ _ e. let z : ◌≡◌ {A = ℕ} 0 1 = cc (drop-cons s at 0 h) in omega arith))

@@ -1,5 +1,5 @@
 -- A response that was read, as the code tells it: its data stands in the bytes, at the places told.
-use Rattle.std.specs.Prelude.{ℕ, zero, suc, ◌+◌, ◌*◌, ◌≤◌, ◌≡◌, List, [], ◌∷◌, length, drop}
+use Rattle.std.specs.Prelude.{ℕ, zero, suc, ◌+◌, ◌*◌, ◌≤◌, ◌≡◌, List, [], ◌∷◌, length, drop, Option, Some, None}
 use Rattle.rules.specs.declared.Refusal.TheVariants.{NoResponse}
 use Rattle.rules.specs.Reading.{bearer_in}
 use Rattle.rules.specs.Own as own
@@ -10,8 +10,7 @@ use Rattle.bench_reader.specs.declared.Further.{Further}
 use Rattle.bench_reader.specs.declared.Further.TheVariants.{Plain, Opened, Received, Sent, Started, Leaves, Statuses}
 use Rattle.bench_reader.specs.declared.Verdict.{Verdict}
 use Rattle.bench_reader.specs.declared.Verdict.TheVariants.{Error, Problem, Done}
-use Rattle.bench_reader.specs.declared.Heard.{Heard}
-use Rattle.bench_reader.specs.declared.Heard.TheVariants.{Response, Silence}
+use Rattle.bench_reader.specs.declared.Response.{Response}
 
 -- so many statuses, one behind the other, four bytes each
 unfoldable pub statuses_at : ℕ → List ℕ → List Status
@@ -34,9 +33,9 @@ result_of (Problem cause) s = problem cause
 result_of (Done r f) s = done r (further_of f s)
 
 -- the response, or R8
-unfoldable pub heard_of : Heard → List ℕ → Told
-heard_of (Response d v) s = told (record { details = d; result = result_of v s })
-heard_of Silence s = untold NoResponse
+unfoldable pub heard_of : Option Response → List ℕ → Told
+heard_of (Some r) s = told (record { details = r.details; result = result_of r.verdict s })
+heard_of None s = untold NoResponse
 
 -- where the data stands: the bytes end with what follows it, a grant of four bytes, a count of three, and nothing behind the statuses
 abbrev pub FurtherAt : Further → List ℕ → Type 0
@@ -53,6 +52,6 @@ VerdictAt (Error e) s = Unit {0}
 VerdictAt (Problem cause) s = Unit {0}
 VerdictAt (Done r f) s = FurtherAt f s
 
-abbrev pub PlacesAt : Heard → List ℕ → Type 0
-PlacesAt (Response d v) s = VerdictAt v s
-PlacesAt Silence s = Unit {0}
+abbrev pub PlacesAt : Option Response → List ℕ → Type 0
+PlacesAt (Some r) s = VerdictAt r.verdict s
+PlacesAt None s = Unit {0}

@@ -1,6 +1,8 @@
 -- What the bench reads from a place on, object by object, and what each part of the reader finds there.
-use Rattle.std.specs.Prelude.{ℕ, ◌+◌, ◌%◌, ◌≤◌, ◌≡◌, Bool, true, ◌&&◌, ◌||◌, List, [], ◌∷◌, ◌++◌, map, length, drop, leb, eqb}
+use Rattle.std.specs.Prelude.{ℕ, ◌+◌, ◌%◌, ◌≤◌, ◌<◌, ◌≡◌, Bool, true, ◌&&◌, List, [], ◌∷◌, ◌++◌, map, length, get_or, drop, leb, Option, Some, None}
 use Rattle.rules.specs.declared.Details.{Details}
+use Rattle.rules.specs.declared.ChannelNumber.{ChannelNumber}
+use Rattle.rules.specs.declared.Link.{Link}
 use Rattle.rules.specs.declared.Refusal.TheVariants.{NoResponse}
 use Rattle.rules.specs.Checks.{◌⇒◌else◌, same}
 use Rattle.rules.specs.Frames.{Object, object, object_at, walk, object_bytes, written}
@@ -11,16 +13,11 @@ use Rattle.rules.specs.Own.{Status, opened, leaves, statuses, reports, done}
 use Rattle.rules.specs.Written.{Response, flagged, unflagged, pair_bytes, bearer_bytes, status_object, time_object, further_objects, result_bytes, result_objects}
 use Rattle.rules.specs.Bench.{bearer_proper, rising, further_proper, result_proper, value_at, status_in, further_in, result_in, Told, told, untold}
 use Rattle.objects.specs.Places.{object_of}
-use Rattle.bench_reader.specs.declared.Value.{Value}
-use Rattle.bench_reader.specs.declared.Value.TheVariants as value
-use Rattle.bench_reader.specs.declared.One.{One}
-use Rattle.bench_reader.specs.declared.One.TheVariants as one
-use Rattle.bench_reader.specs.declared.Two.{Two}
-use Rattle.bench_reader.specs.declared.Two.TheVariants as two
-use Rattle.bench_reader.specs.declared.Shown.{Shown}
-use Rattle.bench_reader.specs.declared.Shown.TheVariants as shown
-use Rattle.bench_reader.specs.declared.Heard as heard
-use Rattle.bench_reader.specs.Heard.{heard_of, PlacesAt}
+use Rattle.objects.specs.declared.Cursor.{Cursor}
+use Rattle.objects.specs.declared.Object as objects
+use Rattle.bench_reader.specs.declared.Further.{Further}
+use Rattle.bench_reader.specs.declared.Response as heard
+use Rattle.bench_reader.specs.Heard.{further_of, FurtherAt, heard_of, PlacesAt}
 
 -- the object stands at a place in its written form, and next is the place behind it
 pub record Holds (s : List ℕ) (at : ℕ) (o : Object) (next : ℕ) : Type 0 where
@@ -53,31 +50,29 @@ abbrev pub Tag : ℕ → Type 0
 Tag tag = (1 ≤ tag % 0x80) × (tag % 0x80 ≤ 126)
 
 -- an object of this number and flag, or none
-abbrev pub Holder : Value → List ℕ → ℕ → ℕ → Bool → Type 0
-Holder (value.At start n next) s at number flag = Valued s at number flag start n next.at
-Holder value.Not s at number flag = Absent s at number flag
+abbrev pub Holder : Option objects.Object → List ℕ → ℕ → ℕ → Bool → Type 0
+Holder (Some o) s at number flag = Valued s at number flag o.start o.len o.next.at
+Holder None s at number flag = Absent s at number flag
 
--- one of one byte, or none; one of two bytes, or none
-abbrev pub Single : One → List ℕ → ℕ → ℕ → Bool → Type 0
-Single (one.Byte a next) s at number flag = Holds s at (object_with number flag (a ∷ [])) next.at
-Single one.Not s at number flag = Misfit s at number flag 1
+-- one of these n bytes, and the place behind it
+pub record Bytes (s : List ℕ) (at number : ℕ) (flag : Bool) (n : ℕ) (v : List ℕ) (next : ℕ) : Type 0 where
+  pub holds : Holds s at (object_with number flag v) next
+  pub long : length v ≡ n
+  pub fits : (i : ℕ) → i < n → get_or v i 0 < 256
 
-abbrev pub Double : Two → List ℕ → ℕ → ℕ → Bool → Type 0
-Double (two.Bytes a b next) s at number flag = Holds s at (object_with number flag (a ∷ b ∷ [])) next.at
-Double two.Not s at number flag = Misfit s at number flag 2
+-- one of n bytes, or none
+abbrev pub Lends : Option (List ℕ × Cursor) → List ℕ → ℕ → ℕ → Bool → ℕ → Type 0
+Lends (Some p) s at number flag n = Bytes s at number flag n p.0 p.1.at
+Lends None s at number flag n = Misfit s at number flag n
 
 -- a status stands at a place, and next is the place behind it
 pub record Displays (s : List ℕ) (at : ℕ) (st : Status) (next : ℕ) : Type 0 where
   pub holds : Holds s at (status_object st.number st.link) next
   pub numbered : rising 0 (st ∷ []) ≡ true
 
-abbrev pub ShownAt : Shown → List ℕ → ℕ → Type 0
-ShownAt (shown.At n link next) s at = Displays s at (record { number = n; link = link }) next.at
-ShownAt shown.Not s at = Hidden s at
-
--- a bearer of this type can have so many bytes
-unfoldable pub sized : ℕ → ℕ → Bool
-sized kind n = (eqb kind 0x02 && eqb n 7) || (eqb kind 0x03 && eqb n 1)
+abbrev pub ShownAt : Option (ChannelNumber × Link × Cursor) → List ℕ → ℕ → Type 0
+ShownAt (Some p) s at = Displays s at (record { number = p.0; link = p.1 }) p.2.at
+ShownAt None s at = Hidden s at
 
 -- the response, if a test is true and the objects stand in the bytes up to their end
 unfoldable pub checked : Bool → List Object → List ℕ → Response → Told
@@ -121,7 +116,16 @@ listed d x t =
     let ss = map (λ (o : Object). status_in o.value) (walk t).objects in
     checked (rising 0 ss) (map (λ (st : Status). status_object st.number st.link) ss) t (record { details = d; result = done x (reports (statuses ss)) })
 
+-- what follows the result x of a response with details d: where the bytes end behind it, it is told, and its data stands in them
+pub record Leads (t : Told) (d : Details) (x : ℕ) (s : List ℕ) (f : Further) (end : ℕ) : Type 0 where
+  pub is : t ≡ checked true [] (drop end s) (record { details = d; result = done x (further_of f s) })
+  pub at : length s ≤ end → FurtherAt f s
+
+abbrev pub Follows : Told → Details → ℕ → List ℕ → Option (Further × Cursor) → Type 0
+Follows t d x s (Some p) = Leads t d x s p.0 p.1.at
+Follows t d x s None = t ≡ untold NoResponse
+
 -- what the reader answers says what the bench reads
-pub record Hears (t : Told) (s : List ℕ) (r : heard.Heard) : Type 0 where
+pub record Hears (t : Told) (s : List ℕ) (r : Option heard.Response) : Type 0 where
   pub is : t ≡ heard_of r s
   pub at : PlacesAt r s

@@ -1,29 +1,20 @@
-// The bench's reader: a response from its one form, or silence.
+// The bench's reader: a response from its one form, or none.
 #![tactic(auto)]
 
-ghost use Rattle.std.specs.Prelude.{◌≡◌, true, [], ◌∷◌, ◌%◌, ◌≤◌, length, drop, leb};
-ghost use Rattle.rules.specs.Checks.{member, same};
-ghost use Rattle.rules.specs.Reading.{pair_in};
-ghost use Rattle.rules.specs.Written.{pair_bytes, details_bytes};
-ghost use Rattle.rules.specs.Bench.{unfollowed, asks_left, error_proper, cause_proper, success_proper, bench_read};
+ghost use Rattle.std.specs.Prelude.{◌≡◌, ℕ, true, [], ◌%◌, ◌≤◌, length, drop, leb};
+ghost use Rattle.rules.specs.declared.Details.{Details};
+ghost use Rattle.rules.specs.Bench.{asks_left, error_proper, cause_proper, success_proper, bench_read};
 ghost use Rattle.bench_reader.specs.Heard.{result_of, VerdictAt};
-ghost use Rattle.bench_reader.specs.Tails.{Tag, Misfit, Holder, Single, Double, ShownAt, sized, Hears, checked, resulted, followed, timed, borne, listed};
+ghost use Rattle.bench_reader.specs.Tails.{Tag, Misfit, Holder, Lends, ShownAt, Follows, Hears, checked, resulted, followed, timed, borne, listed};
 
-use objects::{Cursor, Found};
+use objects::{Cursor, Object};
 use pool::Pool;
-use rules::{Causes, ChannelNumber, Details, Limits, Link, Results, Time, is_known, lists};
+use rules::{
+    Action, Causes, ChannelNumber, CommandType, Details, Limits, Link, Results, Time, fits_bearer,
+    is_known,
+};
 use times;
 
-// What is done with a timer, by the two low bits of the qualifier: started, stopped, asked for, or nothing.
-const ACTIONS: u8 = 4;
-
-const START: u8 = 0;
-
-const STOP: u8 = 1;
-
-const ASK: u8 = 2;
-
-const NONE: u8 = 3;
 // How many timers there are.
 const TIMERS: u8 = 8;
 
@@ -31,12 +22,32 @@ const TIMERS: u8 = 8;
 #[derive(Clone, Copy)]
 pub enum Further {
     Plain,
-    Opened(ChannelNumber, Link, usize, usize, u16),
-    Received(usize, usize, u8),
-    Sent(u8),
-    Started(u8),
-    Leaves(u8, Time),
-    Statuses(usize, usize),
+    Opened {
+        number: ChannelNumber,
+        link: Link,
+        start: usize,
+        len: usize,
+        grant: u16,
+    },
+    Received {
+        start: usize,
+        len: usize,
+        left: u8,
+    },
+    Sent {
+        room: u8,
+    },
+    Started {
+        timer: u8,
+    },
+    Leaves {
+        timer: u8,
+        left: Time,
+    },
+    Statuses {
+        start: usize,
+        count: usize,
+    },
 }
 
 // The result of a response: an error, a problem with its cause, or done, with what follows.
@@ -47,112 +58,46 @@ pub enum Verdict {
     Done(u8, Further),
 }
 
-// What the bench heard: a response, or bytes that are no response.
+// A response that was heard: its details and its result.
 #[derive(Clone, Copy)]
-pub enum Heard {
-    Response(Details, Verdict),
-    Silence,
-}
-
-// An object that was looked for: where its value starts, how long it is and the cursor behind it.
-#[derive(Clone, Copy)]
-enum Value {
-    At(usize, usize, Cursor),
-    Not,
-}
-
-// An object of one byte that was looked for: the byte and the cursor behind it.
-#[derive(Clone, Copy)]
-enum One {
-    Byte(u8, Cursor),
-    Not,
-}
-
-// An object of two bytes that was looked for: the bytes and the cursor behind them.
-#[derive(Clone, Copy)]
-enum Two {
-    Bytes(u8, u8, Cursor),
-    Not,
-}
-
-// A status that was looked for: a channel with its link, and the cursor behind it.
-#[derive(Clone, Copy)]
-enum Shown {
-    At(ChannelNumber, Link, Cursor),
-    Not,
+pub struct Response {
+    pub details: Details,
+    pub verdict: Verdict,
 }
 
 // The object at a cursor, if it has this tag.
-fn object_of(s: &[u8], c: Cursor, tag: u8) -> Value
+fn object_of(s: &[u8], c: Cursor, tag: u8) -> Option<Object>
     requires { Tag tag }
     ensures { Holder result s.now c.at (tag % 0x80) (leb 0x80 tag) }
 {
-    let Found::Object(_, _, start, len, next) = c.object(s) else {
-        return Value::Not;
-    };
-    let at = c.at;
-    if s[at] != tag {
-        return Value::Not;
+    let object = c.object(s).ok()?;
+    if s[c.at] != tag {
+        return None;
     }
-    Value::At(start, len, next)
+    Some(object)
 }
 
-// The byte of the object at a cursor, if it has this tag.
-fn byte_of(s: &[u8], c: Cursor, tag: u8) -> One
+// The bytes of the object at a cursor and the cursor behind it, if it has this tag and so many bytes.
+fn bytes_of<const N: usize>(s: &[u8], c: Cursor, tag: u8) -> Option<([u8; N], Cursor)>
     requires { Tag tag }
-    ensures { Single result s.now c.at (tag % 0x80) (leb 0x80 tag) }
+    ensures { Lends result s.now c.at (tag % 0x80) (leb 0x80 tag) N }
 {
-    let Value::At(at, len, next) = object_of(s, c, tag) else {
-        return One::Not;
-    };
-    if len != 1 {
-        return One::Not;
-    }
-    One::Byte(s[at], next)
-}
-
-// The two bytes of the object at a cursor, if it has this tag.
-fn pair_of(s: &[u8], c: Cursor, tag: u8) -> Two
-    requires { Tag tag }
-    ensures { Double result s.now c.at (tag % 0x80) (leb 0x80 tag) }
-{
-    let Value::At(at, len, next) = object_of(s, c, tag) else {
-        return Two::Not;
-    };
-    if len != 2 {
-        return Two::Not;
-    }
-    Two::Bytes(s[at], s[at + 1], next)
-}
-
-// Whether the details are 00 00 00.
-fn is_zero(d: Details) -> bool
-    ensures { result ≡ same (details_bytes d) (0 ∷ 0 ∷ 0 ∷ []) }
-{
-    if d.number != 0 {
-        return false;
-    }
-    if d.kind != 0 {
-        return false;
-    }
-    d.qualifier == 0
+    let object = object_of(s, c, tag)?;
+    let bytes = <[u8; N]>::try_from(&s[object.start..object.next.at]).ok()?;
+    Some((bytes, object.next))
 }
 
 // Whether a timer is stopped or asked for.
+#[tactic(auto, using(rules::proofs::Laws::checks), unfolding(rules::specs::Bench::asks_left, rules::specs::Timers::action_of))]
 fn asks_left(d: Details) -> bool
     ensures { result ≡ asks_left d }
 {
-    if d.kind != 0x27 {
-        return false;
-    }
-    let action = d.qualifier % ACTIONS;
-    if action == STOP {
-        return true;
-    }
-    action == ASK
+    d.kind == CommandType::TimerManagement as u8
+        && matches!(Action::from(d.qualifier), Action::Stop | Action::Ask)
 }
 
 // Whether an error can have these details: 24 a timer stopped or asked for, 30 the types of the table, 31 others, 32 any, 36 those of the table or zeros.
+#[tactic(auto, using(rules::proofs::Laws::checks), unfolding(rules::specs::Bench::error_proper, rules::specs::Checks::same, rules::specs::Written::details_bytes))]
 fn fits_error(d: Details, e: u8) -> bool
     ensures { result ≡ error_proper d e }
 {
@@ -161,329 +106,252 @@ fn fits_error(d: Details, e: u8) -> bool
         Results::BEYOND_CAPABILITIES => is_known(d.kind),
         Results::TYPE_NOT_UNDERSTOOD => !is_known(d.kind),
         Results::DATA_NOT_UNDERSTOOD => true,
-        Results::VALUES_MISSING => is_known(d.kind) || is_zero(d),
+        Results::VALUES_MISSING => is_known(d.kind) || d == Details::ZEROS,
         _ => false,
     }
 }
 
 // Whether a problem of a type can have a cause.
+#[tactic(auto, using(crate::proofs::Results::causes), unfolding(rules::specs::Bench::cause_proper, rules::specs::Checks::member, rules::specs::Checks::some_of))]
 fn fits_cause(kind: u8, cause: u8) -> bool
     ensures { result ≡ cause_proper kind cause }
 {
+    let Ok(kind) = CommandType::try_from(kind) else {
+        return false;
+    };
     match kind {
-        0x40 => match cause {
-            Causes::NO_CHANNEL | Causes::SIZE_UNAVAILABLE | Causes::LEVEL_UNAVAILABLE => true,
-            _ => false,
-        },
-        0x41 | 0x42 => cause == Causes::CHANNEL_INVALID,
-        0x43 => match cause {
-            Causes::CHANNEL_CLOSED | Causes::CHANNEL_INVALID | Causes::SIZE_UNAVAILABLE => true,
-            _ => false,
-        },
+        CommandType::OpenChannel => matches!(
+            cause,
+            Causes::NO_CHANNEL | Causes::SIZE_UNAVAILABLE | Causes::LEVEL_UNAVAILABLE
+        ),
+        CommandType::CloseChannel | CommandType::ReceiveData => cause == Causes::CHANNEL_INVALID,
+        CommandType::SendData => matches!(
+            cause,
+            Causes::CHANNEL_CLOSED | Causes::CHANNEL_INVALID | Causes::SIZE_UNAVAILABLE
+        ),
         _ => false,
     }
 }
 
 // Whether a command of a type can succeed with a result.
+#[tactic(auto, using(rules::proofs::Laws::checks), unfolding(rules::specs::Bench::success_proper))]
 fn fits_success(kind: u8, res: u8) -> bool
     ensures { result ≡ success_proper kind res }
 {
     match res {
         Results::PERFORMED | Results::PARTLY_UNDERSTOOD => is_known(kind),
-        Results::MISSING_INFORMATION => kind == 0x42,
-        Results::MODIFIED => kind == 0x40,
+        Results::MISSING_INFORMATION => kind == CommandType::ReceiveData as u8,
+        Results::MODIFIED => kind == CommandType::OpenChannel as u8,
         _ => false,
     }
 }
 
-// Whether a bearer of a type can have so many bytes: type 02 seven, 03 one.
-fn fits_bearer(kind: u8, len: usize) -> bool
-    ensures { result ≡ sized kind len }
-{
-    match kind {
-        0x02 => len == 7,
-        0x03 => len == 1,
-        _ => false,
-    }
-}
-
-// The status at a cursor: 38 02, the number, 1 to 7, plus 80 if established; then 05 if dropped, else 00.
-fn status_at(s: &[u8], c: Cursor) -> Shown
+// The status at a cursor and the cursor behind it: 38 02, the number, 1 to 7, plus 80 if established; then 05 if dropped, else 00.
+#[tactic(auto, using(crate::proofs::Rising::shows))]
+fn status_at(s: &[u8], c: Cursor) -> Option<(ChannelNumber, Link, Cursor)>
     ensures { ShownAt result s.now c.at }
 {
-    let Two::Bytes(first, second, next) = pair_of(s, c, 0x38) else {
-        return Shown::Not;
-    };
-    match second {
-        0x00 => match first {
-            0x01..=0x07 => Shown::At(ChannelNumber(first), Link::NotYet, next),
-            0x81..=0x87 => Shown::At(ChannelNumber(first - 0x80), Link::Established, next),
-            _ => Shown::Not,
-        },
-        0x05 => match first {
-            0x01..=0x07 => Shown::At(ChannelNumber(first), Link::Dropped, next),
-            _ => Shown::Not,
-        },
-        _ => Shown::Not,
+    let ([first, second], next) = bytes_of::<2>(s, c, 0x38)?;
+    match (first, second) {
+        (0x01..=0x07, 0x00) => Some((ChannelNumber(first), Link::NotYet, next)),
+        (0x81..=0x87, 0x00) => Some((ChannelNumber(first - 0x80), Link::Established, next)),
+        (0x01..=0x07, 0x05) => Some((ChannelNumber(first), Link::Dropped, next)),
+        _ => None,
     }
-}
-
-// Two bytes as a number, high byte first.
-fn pair(high: u8, low: u8) -> u16
-    ensures { (result ≡ pair_in (high ∷ low ∷ [])) × (pair_bytes result ≡ high ∷ low ∷ []) }
-{
-    256 * high as u16 + low as u16
 }
 
 // The response, if the bytes end here.
-fn last(s: &[u8], c: Cursor, d: Details, verdict: Verdict) -> Heard
+fn last(s: &[u8], c: Cursor, d: Details, verdict: Verdict) -> Option<Response>
     requires { length s.now ≤ c.at → VerdictAt verdict s.now }
     ensures { Hears (checked true [] (drop c.at s.now) (record { details = d; result = result_of verdict s.now })) s.now result }
 {
-    let at = c.at;
-    if at < s.len() {
-        return Heard::Silence;
+    if c.at < s.len() {
+        return None;
     }
-    Heard::Response(d, verdict)
+    Some(Response {
+        details: d,
+        verdict,
+    })
 }
 
 // Reads the bearer behind the status of an opened channel, type 02 or 03, and its grant, 1 to 1500.
-fn read_bearer(s: &[u8], c: Cursor, d: Details, res: u8, n: ChannelNumber, link: Link) -> Heard
-    ensures { Hears (borne d res (record { number = n; link = link }) (drop c.at s.now)) s.now result }
+fn read_bearer(s: &[u8], c: Cursor, number: ChannelNumber, link: Link) -> Option<(Further, Cursor)>
+    ensures { (d : Details) (x : ℕ) → Follows (borne d x (record { number = number; link = link }) (drop c.at s.now)) d x s.now result }
 {
-    let Value::At(start, len, next) = object_of(s, c, 0x35) else {
-        return Heard::Silence;
+    let object = object_of(s, c, 0x35)?;
+    let (bearer, parameters) = s[object.start..object.next.at].split_first()?;
+    if !fits_bearer(*bearer, parameters) {
+        return None;
+    }
+    let (pair, end) = bytes_of::<2>(s, object.next, 0x39)?;
+    let grant = u16::from_be_bytes(pair);
+    if grant < 1 || Pool::GRANT_CAP < grant {
+        return None;
+    }
+    let further = Further::Opened {
+        number,
+        link,
+        start: object.start,
+        len: object.len,
+        grant,
     };
-    if len < 1 {
-        return Heard::Silence;
-    }
-    if !fits_bearer(s[start], len) {
-        return Heard::Silence;
-    }
-    let Two::Bytes(high, low, end) = pair_of(s, next, 0x39) else {
-        return Heard::Silence;
-    };
-    let grant = pair(high, low);
-    if grant < 1 {
-        return Heard::Silence;
-    }
-    if Pool::GRANT_CAP < grant {
-        return Heard::Silence;
-    }
-    let further = Further::Opened(n, link, start, len, grant);
-    last(s, end, d, Verdict::Done(res, further))
+    Some((further, end))
 }
 
 // Reads an answer to OPEN CHANNEL: a status that is not dropped, and what follows.
-fn read_opened(s: &[u8], c: Cursor, d: Details, res: u8) -> Heard
-    ensures { Hears (followed d 0x40 res (drop c.at s.now)) s.now result }
+fn read_opened(s: &[u8], c: Cursor) -> Option<(Further, Cursor)>
+    ensures { (d : Details) (x : ℕ) → Follows (followed d 0x40 x (drop c.at s.now)) d x s.now result }
 {
-    let Shown::At(n, link, next) = status_at(s, c) else {
-        return Heard::Silence;
-    };
-    match link {
-        Link::NotYet => read_bearer(s, next, d, res, n, link),
-        Link::Established => read_bearer(s, next, d, res, n, link),
-        Link::Dropped => Heard::Silence,
+    let (number, link, next) = status_at(s, c)?;
+    if link == Link::Dropped {
+        return None;
     }
+    read_bearer(s, next, number, link)
 }
 
 // Reads an answer to RECEIVE DATA: at most 237 bytes of data, and the count of bytes still held.
-fn read_received(s: &[u8], c: Cursor, d: Details, res: u8) -> Heard
-    ensures { Hears (followed d 0x42 res (drop c.at s.now)) s.now result }
+fn read_received(s: &[u8], c: Cursor) -> Option<(Further, Cursor)>
+    ensures { (d : Details) (x : ℕ) → Follows (followed d 0x42 x (drop c.at s.now)) d x s.now result }
 {
-    let Value::At(start, len, next) = object_of(s, c, 0x36) else {
-        return Heard::Silence;
-    };
-    if Limits::DATA < len {
-        return Heard::Silence;
+    let data = object_of(s, c, 0x36)?;
+    if Limits::DATA < data.len {
+        return None;
     }
-    let One::Byte(left, end) = byte_of(s, next, 0x37) else {
-        return Heard::Silence;
+    let ([left], end) = bytes_of::<1>(s, data.next, 0x37)?;
+    let further = Further::Received {
+        start: data.start,
+        len: data.len,
+        left,
     };
-    let further = Further::Received(start, len, left);
-    last(s, end, d, Verdict::Done(res, further))
+    Some((further, end))
 }
 
 // Reads an answer to SEND DATA: the room that is left.
-fn read_sent(s: &[u8], c: Cursor, d: Details, res: u8) -> Heard
-    ensures { Hears (followed d 0x43 res (drop c.at s.now)) s.now result }
+fn read_sent(s: &[u8], c: Cursor) -> Option<(Further, Cursor)>
+    ensures { (d : Details) (x : ℕ) → Follows (followed d 0x43 x (drop c.at s.now)) d x s.now result }
 {
-    let One::Byte(room, next) = byte_of(s, c, 0x37) else {
-        return Heard::Silence;
-    };
-    last(s, next, d, Verdict::Done(res, Further::Sent(room)))
+    let ([room], end) = bytes_of::<1>(s, c, 0x37)?;
+    Some((Further::Sent { room }, end))
 }
 
 // Reads the time that is left of a timer: three bytes of sound digits, from one second up to 23:59:59.
-fn read_left(s: &[u8], c: Cursor, d: Details, res: u8, n: u8) -> Heard
-    ensures { Hears (timed d res n (drop c.at s.now)) s.now result }
+fn read_left(s: &[u8], c: Cursor, timer: u8) -> Option<(Further, Cursor)>
+    ensures { (d : Details) (x : ℕ) → Follows (timed d x timer (drop c.at s.now)) d x s.now result }
 {
-    let Value::At(start, len, next) = object_of(s, c, 0x25) else {
-        return Heard::Silence;
-    };
-    if len != 3 {
-        return Heard::Silence;
+    let (digits, end) = bytes_of::<3>(s, c, 0x25)?;
+    if !times::all_digits(&digits) {
+        return None;
     }
-    let end = start + len;
-    if !times::all_digits(&s[start..end]) {
-        return Heard::Silence;
+    let left = times::time_in(&digits);
+    if !times::of_day(left) || times::is_zero(left) {
+        return None;
     }
-    let left = times::time_in(&s[start..end]);
-    if !times::of_day(left) {
-        return Heard::Silence;
-    }
-    if times::is_zero(left) {
-        return Heard::Silence;
-    }
-    last(s, next, d, Verdict::Done(res, Further::Leaves(n, left)))
+    Some((Further::Leaves { timer, left }, end))
 }
 
 // Reads an answer to TIMER MANAGEMENT: the timer, 1 to 8, and what is left of one that was stopped or asked for.
-fn read_timer(s: &[u8], c: Cursor, d: Details, res: u8) -> Heard
-    ensures { Hears (followed d 0x27 res (drop c.at s.now)) s.now result }
+fn read_timer(s: &[u8], c: Cursor, d: Details) -> Option<(Further, Cursor)>
+    ensures { (x : ℕ) → Follows (followed d 0x27 x (drop c.at s.now)) d x s.now result }
 {
-    let One::Byte(n, next) = byte_of(s, c, 0x24) else {
-        return Heard::Silence;
-    };
-    if n < 1 {
-        return Heard::Silence;
+    let ([timer], next) = bytes_of::<1>(s, c, 0x24)?;
+    if timer < 1 || TIMERS < timer {
+        return None;
     }
-    if TIMERS < n {
-        return Heard::Silence;
+    match Action::from(d.qualifier) {
+        Action::Start => Some((Further::Started { timer }, next)),
+        Action::Stop | Action::Ask => read_left(s, next, timer),
+        Action::Nothing => None,
     }
-    let action = d.qualifier % ACTIONS;
-    if action == START {
-        return last(s, next, d, Verdict::Done(res, Further::Started(n)));
-    }
-    if action == NONE {
-        return Heard::Silence;
-    }
-    read_left(s, next, d, res, n)
 }
 
 // Reads statuses that rise, up to the end.
-fn read_rising(s: &[u8], c: Cursor, d: Details, res: u8) -> Heard
+fn read_rising(s: &[u8], c: Cursor) -> Option<(Further, Cursor)>
     requires { c.at ≤ length s.now }
-    ensures { Hears (listed d res (drop c.at s.now)) s.now result }
+    ensures { (d : Details) (x : ℕ) → Follows (listed d x (drop c.at s.now)) d x s.now result }
 {
     let start = c.at;
     let mut here = c;
-    let mut count: usize = 0;
-    let mut highest: u8 = 0;
-    loop {
-        let at = here.at;
-        if s.len() <= at {
-            break Heard::Response(d, Verdict::Done(res, Further::Statuses(start, count)));
+    let mut count = 0;
+    let mut highest = 0;
+    while here.at < s.len() {
+        let (number, _, next) = status_at(s, here)?;
+        if number.0 <= highest {
+            return None;
         }
-        let Shown::At(n, _, next) = status_at(s, here) else {
-            break Heard::Silence;
-        };
-        if n.0 <= highest {
-            break Heard::Silence;
-        }
-        highest = n.0;
+        highest = number.0;
         here = next;
         count += 1;
     }
+    Some((Further::Statuses { start, count }, here))
 }
 
 // Reads an answer to GET CHANNEL STATUS: statuses, or 00 00 where no channel is open.
-fn read_statuses(s: &[u8], c: Cursor, d: Details, res: u8) -> Heard
-    ensures { Hears (followed d 0x44 res (drop c.at s.now)) s.now result }
+fn read_statuses(s: &[u8], c: Cursor) -> Option<(Further, Cursor)>
+    ensures { (d : Details) (x : ℕ) → Follows (followed d 0x44 x (drop c.at s.now)) d x s.now result }
 {
-    let Two::Bytes(first, second, next) = pair_of(s, c, 0x38) else {
-        return Heard::Silence;
-    };
-    if pair(first, second) != 0 {
-        return read_rising(s, c, d, res);
+    let ([first, second], end) = bytes_of::<2>(s, c, 0x38)?;
+    if first != 0 || second != 0 {
+        return read_rising(s, c);
     }
-    let end = next.at;
-    last(s, next, d, Verdict::Done(res, Further::Statuses(end, 0)))
-}
-
-// Whether nothing follows the result of a type.
-fn is_unfollowed(kind: u8) -> bool
-    ensures { result ≡ member kind unfollowed }
-{
-    let types = [0x02u8, 0x05, 0x41];
-    lists(&types, kind)
+    let none = Further::Statuses {
+        start: end.at,
+        count: 0,
+    };
+    Some((none, end))
 }
 
 // Reads what follows the result of a command that succeeded, by its type.
-fn read_further(s: &[u8], c: Cursor, d: Details, res: u8) -> Heard
-    ensures { Hears (followed d d.kind res (drop c.at s.now)) s.now result }
+fn read_further(s: &[u8], c: Cursor, d: Details) -> Option<(Further, Cursor)>
+    ensures { (x : ℕ) → Follows (followed d d.kind x (drop c.at s.now)) d x s.now result }
 {
-    let kind = d.kind;
-    if is_unfollowed(kind) {
-        return last(s, c, d, Verdict::Done(res, Further::Plain));
-    }
+    let Ok(kind) = CommandType::try_from(d.kind) else {
+        return None;
+    };
     match kind {
-        0x27 => read_timer(s, c, d, res),
-        0x40 => read_opened(s, c, d, res),
-        0x42 => read_received(s, c, d, res),
-        0x43 => read_sent(s, c, d, res),
-        0x44 => read_statuses(s, c, d, res),
-        _ => Heard::Silence,
+        CommandType::MoreTime | CommandType::SetUpEventList | CommandType::CloseChannel => {
+            Some((Further::Plain, c))
+        }
+        CommandType::TimerManagement => read_timer(s, c, d),
+        CommandType::OpenChannel => read_opened(s, c),
+        CommandType::ReceiveData => read_received(s, c),
+        CommandType::SendData => read_sent(s, c),
+        CommandType::GetChannelStatus => read_statuses(s, c),
     }
 }
 
-// Reads a result of two bytes: 3A and its cause.
-fn read_problem(s: &[u8], c: Cursor, d: Details) -> Heard
-    requires { Misfit s.now c.at 0x03 true 1 }
+// Reads a result: of one byte, a success and what follows or an error; or 3A and its cause.
+#[tactic(auto, using(crate::proofs::Ruling::result_unfit))]
+fn read_result(s: &[u8], c: Cursor, d: Details) -> Option<Response>
     ensures { Hears (resulted d (drop c.at s.now)) s.now result }
 {
-    let Two::Bytes(result, cause, next) = pair_of(s, c, 0x83) else {
-        return Heard::Silence;
-    };
-    if result != Results::CHANNEL_PROBLEM {
-        return Heard::Silence;
+    let object = object_of(s, c, 0x83)?;
+    let next = object.next;
+    match &s[object.start..next.at] {
+        [result] if fits_success(d.kind, *result) => {
+            let (further, end) = read_further(s, next, d)?;
+            last(s, end, d, Verdict::Done(*result, further))
+        }
+        [result] if fits_error(d, *result) => last(s, next, d, Verdict::Error(*result)),
+        [Results::CHANNEL_PROBLEM, cause] if fits_cause(d.kind, *cause) => {
+            last(s, next, d, Verdict::Problem(*cause))
+        }
+        _ => None,
     }
-    if !fits_cause(d.kind, cause) {
-        return Heard::Silence;
-    }
-    last(s, next, d, Verdict::Problem(cause))
 }
 
-// Reads a result of one byte: a success and what follows, or an error; else one of two.
-fn read_result(s: &[u8], c: Cursor, d: Details) -> Heard
-    ensures { Hears (resulted d (drop c.at s.now)) s.now result }
-{
-    let One::Byte(result, next) = byte_of(s, c, 0x83) else {
-        return read_problem(s, c, d);
-    };
-    if fits_success(d.kind, result) {
-        return read_further(s, next, d, result);
-    }
-    if !fits_error(d, result) {
-        return Heard::Silence;
-    }
-    last(s, next, d, Verdict::Error(result))
-}
-
-// Reads a response from its one form, or hears silence, which is R8: the details, the devices 82 81, and what follows.
-pub fn read(s: &[u8]) -> Heard
+// Reads a response from its one form, or hears none, which is R8: the details, the devices 82 81, and what follows.
+pub fn read(s: &[u8]) -> Option<Response>
     ensures { Hears (bench_read s.now) s.now result }
 {
-    let Value::At(at, len, next) = object_of(s, Cursor { at: 0 }, 0x81) else {
-        return Heard::Silence;
-    };
-    if len != 3 {
-        return Heard::Silence;
-    }
-    let Two::Bytes(source, destination, behind) = pair_of(s, next, 0x82) else {
-        return Heard::Silence;
-    };
-    if source != 0x82 {
-        return Heard::Silence;
-    }
-    if destination != 0x81 {
-        return Heard::Silence;
+    let ([number, kind, qualifier], next) = bytes_of::<3>(s, Cursor { at: 0 }, 0x81)?;
+    let ([source, destination], behind) = bytes_of::<2>(s, next, 0x82)?;
+    if source != 0x82 || destination != 0x81 {
+        return None;
     }
     let d = Details {
-        number: s[at],
-        kind: s[at + 1],
-        qualifier: s[at + 2],
+        number,
+        kind,
+        qualifier,
     };
     read_result(s, behind, d)
 }

@@ -21,7 +21,7 @@ use Rattle.rules.proofs.Openings.{free_told}
 use Rattle.rules.proofs.Soundness.{start_sound, step_sound}
 use Rattle.octets.specs.Parts.{overlaid}
 use Rattle.session.specs.declared.Session.{Session}
-use Rattle.rules.specs.declared.Ended.{Ended}
+use Rattle.rules.specs.Words.{Ended}
 use Rattle.session.specs.Book.{free_in}
 use Rattle.session.specs.Picture.{Good, view}
 use Rattle.session.specs.Calls.{Answers}

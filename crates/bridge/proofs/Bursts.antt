@@ -89,14 +89,10 @@ burst_follows s g terms bytes t r o left good h =
       gathers = gathers_of r f.gathered k.gathered k.lacks;
     }
 
--- the record of two arrays
-abbrev both : List ℕ → List ℕ → Session
-both l p = record { ledger = l; pool = p }
-
 -- the fetch call over the two arrays and the gathered record is such a burst
 pub fetch_in_burst :
-    (κs : Lfts 5) (a : Dens κs fetch-in-kinds.ps) (r : (res_t fetch-in-kinds.r κs).Denot) (v : Lasts (ended_of 5 fetch-in-kinds.ps fetch-in-kinds.r) κs a) →
-    fetch-in-reads.Post κs a r (at_exit (ended_of 5 fetch-in-kinds.ps fetch-in-kinds.r) κs a v) →
-    Burst (fetch (view (both a.0.now a.1.0.now)) (lending (length a.1.1.1.1.0.now)) (gathered_in a.1.1.0.now) a.1.1.1.0.now)
-    (length a.1.1.1.1.0.now) (both v.0 v.1.0) v.1.1.0 (outcome_of r.ended v.1.1.1.1.0) r.left
-fetch_in_burst κs a r v h = record { before = a.1.1.1.1.0.now; after = v.1.1.1.1.0; ended = r.ended; size = refl; leaves = h.leaves; told = refl; count = h.left }
+    (κs : Lfts 4) (a : Dens κs fetch-in-kinds.ps) (r : (res_t fetch-in-kinds.r κs).Denot) (v : Lasts (ended_of 4 fetch-in-kinds.ps fetch-in-kinds.r) κs a) →
+    fetch-in-reads.Post κs a r (at_exit (ended_of 4 fetch-in-kinds.ps fetch-in-kinds.r) κs a v) →
+    Burst (fetch (view a.0.now) (lending (length a.1.1.1.0.now)) (gathered_in a.1.0.now) a.1.1.0.now)
+    (length a.1.1.1.0.now) v.0 v.1.0 (outcome_of r.ended v.1.1.1.0) r.left
+fetch_in_burst κs a r v h = record { before = a.1.1.1.0.now; after = v.1.1.1.0; ended = r.ended; size = refl; leaves = h.leaves; told = refl; count = h.left }

@@ -16,7 +16,7 @@ use Rattle.rules.specs.TimerCalls.{second, envelope}
 use Rattle.rules.proofs.Soundness.{start_sound}
 use Rattle.text.specs.Prints.{outcome_of}
 use Rattle.session.specs.declared.Session.{Session}
-use Rattle.rules.specs.declared.Ended.{Ended}
+use Rattle.rules.specs.Words.{Ended}
 use Rattle.session.specs.Picture.{Shows}
 use Rattle.session.specs.Calls.{Answers}
 use Rattle.session.proofs.Views.{shows_good}
@@ -24,6 +24,8 @@ use Rattle.session.proofs.Starts.{empty_pool}
 use Rattle.bridge.specs.Reached.{Left, Called}
 use Rattle.session.proofs.start.Kinds as start-kinds
 use Rattle.session.proofs.start.Reads as start-reads
+use Rattle.session.proofs.Session.restart.Kinds as restart-kinds
+use Rattle.session.proofs.Session.restart.Reads as restart-reads
 use Rattle.session.proofs.start_ledger.Kinds as start-ledger-kinds
 use Rattle.session.proofs.start_ledger.Reads as start-ledger-reads
 use Rattle.radio.proofs.arrival.Kinds as arrival-kinds
@@ -102,45 +104,51 @@ start_in_called κs a r v pool zeros h s =
     let shows : Shows (start p) v.0 pool = record { ledger = h; pool = zeros ∙ empty_pool p } in
     record { shows = shows; good = shows_good (start p) v.0 pool (start_sound p) shows; seen = refl }
 
--- the command call over the two arrays: what they are at its exit follows from what they were at its entry
+-- the start over a lent record is a start, whatever the record held
+pub restart_called :
+    (κs : Lfts 2) (a : Dens κs restart-kinds.ps) (r : (res_t restart-kinds.r κs).Denot) (v : Lasts (ended_of 2 restart-kinds.ps restart-kinds.r) κs a) →
+    restart-reads.Post κs a r (at_exit (ended_of 2 restart-kinds.ps restart-kinds.r) κs a v) → (s : Session) → Called s (starting a.1.0.now) v.0 (wrote [])
+restart_called κs a r v h s = record { shows = h.0; good = h.1; seen = refl }
+
+-- the command call over the lent record: what it is at its exit follows from what it was at its entry
 pub command_in_called :
-    (κs : Lfts 4) (a : Dens κs command-in-kinds.ps) (r : (res_t command-in-kinds.r κs).Denot) (v : Lasts (ended_of 4 command-in-kinds.ps command-in-kinds.r) κs a) →
-    command-in-reads.Post κs a r (at_exit (ended_of 4 command-in-kinds.ps command-in-kinds.r) κs a v) →
-    Called (both a.0.now a.1.0.now) (commanding (lending (length a.1.1.1.0.now)) a.1.1.0.now) (both v.0 v.1.0) (outcome_of r v.1.1.1.0)
-command_in_called κs a r v h = left_by_lem (both v.0 v.1.0) h
+    (κs : Lfts 3) (a : Dens κs command-in-kinds.ps) (r : (res_t command-in-kinds.r κs).Denot) (v : Lasts (ended_of 3 command-in-kinds.ps command-in-kinds.r) κs a) →
+    command-in-reads.Post κs a r (at_exit (ended_of 3 command-in-kinds.ps command-in-kinds.r) κs a v) →
+    Called a.0.now (commanding (lending (length a.1.1.0.now)) a.1.0.now) v.0 (outcome_of r v.1.1.0)
+command_in_called κs a r v h = left_by_lem v.0 h
 
--- the arrival over the two arrays
+-- the arrival over the lent record
 pub arrival_in_called :
-    (κs : Lfts 4) (a : Dens κs arrival-in-kinds.ps) (r : (res_t arrival-in-kinds.r κs).Denot) (v : Lasts (ended_of 4 arrival-in-kinds.ps arrival-in-kinds.r) κs a) →
-    arrival-in-reads.Post κs a r (at_exit (ended_of 4 arrival-in-kinds.ps arrival-in-kinds.r) κs a v) →
-    Called (both a.0.now a.1.0.now) (arriving (length a.1.1.1.1.0.now) a.1.1.0 a.1.1.1.0.now) (both v.0 v.1.0) (outcome_of r v.1.1.1.1.0)
-arrival_in_called κs a r v h = left_by_lem (both v.0 v.1.0) h
+    (κs : Lfts 3) (a : Dens κs arrival-in-kinds.ps) (r : (res_t arrival-in-kinds.r κs).Denot) (v : Lasts (ended_of 3 arrival-in-kinds.ps arrival-in-kinds.r) κs a) →
+    arrival-in-reads.Post κs a r (at_exit (ended_of 3 arrival-in-kinds.ps arrival-in-kinds.r) κs a v) →
+    Called a.0.now (arriving (length a.1.1.1.0.now) a.1.0 a.1.1.0.now) v.0 (outcome_of r v.1.1.1.0)
+arrival_in_called κs a r v h = left_by_lem v.0 h
 
--- the take over the two arrays
+-- the take over the lent record
 pub taking_in_called :
-    (κs : Lfts 3) (a : Dens κs taking-in-kinds.ps) (r : (res_t taking-in-kinds.r κs).Denot) (v : Lasts (ended_of 3 taking-in-kinds.ps taking-in-kinds.r) κs a) →
-    taking-in-reads.Post κs a r (at_exit (ended_of 3 taking-in-kinds.ps taking-in-kinds.r) κs a v) →
-    Called (both a.0.now a.1.0.now) (taking_out (length a.1.1.1.0.now) a.1.1.0) (both v.0 v.1.0) (outcome_of r v.1.1.1.0)
-taking_in_called κs a r v h = left_by_lem (both v.0 v.1.0) h
+    (κs : Lfts 2) (a : Dens κs taking-in-kinds.ps) (r : (res_t taking-in-kinds.r κs).Denot) (v : Lasts (ended_of 2 taking-in-kinds.ps taking-in-kinds.r) κs a) →
+    taking-in-reads.Post κs a r (at_exit (ended_of 2 taking-in-kinds.ps taking-in-kinds.r) κs a v) →
+    Called a.0.now (taking_out (length a.1.1.0.now) a.1.0) v.0 (outcome_of r v.1.1.0)
+taking_in_called κs a r v h = left_by_lem v.0 h
 
--- the drop over the two arrays, of which it is lent the pool to read: the pool is the same at its exit
+-- the drop over the lent record
 pub dropping_in_called :
-    (κs : Lfts 3) (a : Dens κs dropping-in-kinds.ps) (r : (res_t dropping-in-kinds.r κs).Denot) (v : Lasts (ended_of 3 dropping-in-kinds.ps dropping-in-kinds.r) κs a) →
-    dropping-in-reads.Post κs a r (at_exit (ended_of 3 dropping-in-kinds.ps dropping-in-kinds.r) κs a v) →
-    Called (both a.0.now a.1.0.now) (dropping_link (length a.1.1.1.0.now) a.1.1.0) (both v.0 a.1.0.now) (outcome_of r v.1.1.1.0)
-dropping_in_called κs a r v h = left_by_lem (both v.0 a.1.0.now) h
+    (κs : Lfts 2) (a : Dens κs dropping-in-kinds.ps) (r : (res_t dropping-in-kinds.r κs).Denot) (v : Lasts (ended_of 2 dropping-in-kinds.ps dropping-in-kinds.r) κs a) →
+    dropping-in-reads.Post κs a r (at_exit (ended_of 2 dropping-in-kinds.ps dropping-in-kinds.r) κs a v) →
+    Called a.0.now (dropping_link (length a.1.1.0.now) a.1.0) v.0 (outcome_of r v.1.1.0)
+dropping_in_called κs a r v h = left_by_lem v.0 h
 
--- a second over the two arrays: it writes nothing, and is lent no buffer
+-- a second over the lent record: it writes nothing, and is lent no buffer
 pub second_called :
-    (κs : Lfts 2) (a : Dens κs pass-second-kinds.ps) (r : (res_t pass-second-kinds.r κs).Denot) (v : Lasts (ended_of 2 pass-second-kinds.ps pass-second-kinds.r) κs a) →
-    pass-second-reads.Post κs a r (at_exit (ended_of 2 pass-second-kinds.ps pass-second-kinds.r) κs a v) →
-    Called (both a.0.now a.1.0.now) (timing second) (both v.0 a.1.0.now) (wrote [])
+    (κs : Lfts 1) (a : Dens κs pass-second-kinds.ps) (r : (res_t pass-second-kinds.r κs).Denot) (v : Lasts (ended_of 1 pass-second-kinds.ps pass-second-kinds.r) κs a) →
+    pass-second-reads.Post κs a r (at_exit (ended_of 1 pass-second-kinds.ps pass-second-kinds.r) κs a v) →
+    Called a.0.now (timing second) v.0 (wrote [])
 unfolding outcome_of
-second_called κs a r v h = left_by_lem (both v.0 a.1.0.now) h
+second_called κs a r v h = left_by_lem v.0 h
 
--- the envelope over the two arrays
+-- the envelope over the lent record
 pub envelope_called :
-    (κs : Lfts 3) (a : Dens κs envelope-in-kinds.ps) (r : (res_t envelope-in-kinds.r κs).Denot) (v : Lasts (ended_of 3 envelope-in-kinds.ps envelope-in-kinds.r) κs a) →
-    envelope-in-reads.Post κs a r (at_exit (ended_of 3 envelope-in-kinds.ps envelope-in-kinds.r) κs a v) →
-    Called (both a.0.now a.1.0.now) (timing (envelope (length a.1.1.0.now))) (both v.0 a.1.0.now) (outcome_of r v.1.1.0)
-envelope_called κs a r v h = left_by_lem (both v.0 a.1.0.now) h
+    (κs : Lfts 2) (a : Dens κs envelope-in-kinds.ps) (r : (res_t envelope-in-kinds.r κs).Denot) (v : Lasts (ended_of 2 envelope-in-kinds.ps envelope-in-kinds.r) κs a) →
+    envelope-in-reads.Post κs a r (at_exit (ended_of 2 envelope-in-kinds.ps envelope-in-kinds.r) κs a v) →
+    Called a.0.now (timing (envelope (length a.1.0.now))) v.0 (outcome_of r v.1.0)
+envelope_called κs a r v h = left_by_lem v.0 h

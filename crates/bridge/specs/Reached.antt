@@ -8,7 +8,7 @@ use Rattle.rules.specs.TimerCalls.{TimerAct, second, envelope, timer_call}
 use Rattle.rules.specs.Run.{Call, starting, commanding, radio, timing}
 use Rattle.rules.specs.History.{Exchange}
 use Rattle.session.specs.declared.Session.{Session}
-use Rattle.rules.specs.declared.Ended.{Ended}
+use Rattle.rules.specs.Words.{Ended}
 use Rattle.session.specs.Picture.{Good, Shows, view}
 use Rattle.session.specs.Calls.{Answers}
 use Rattle.text.specs.Prints.{outcome_of}

@@ -24,8 +24,8 @@ module _ {f : Said Awaits} {t p g u q h before after after' : List ℕ} {m n at 
   gathered_same : g ≡ h
   gathered_same = x.gathers.is ∙ ap (λ (k : Awaits). gathered_of k.gathered) same ∙ sym y.gathers.is
 
-pub tell_burst_settled : Determined 5 tell-burst-kinds.ps tell-burst-kinds.r tell-burst-reads.Pre tell-burst-reads.Post
+pub tell_burst_settled : Determined 4 tell-burst-kinds.ps tell-burst-kinds.r tell-burst-reads.Pre tell-burst-reads.Post
 tell_burst_settled κs a _ x y v w p q = (
   p.prints.place ∙ sym q.prints.place,
-  λ i. (tt, (ledger_same p q i, (pool_same p q i, (gathered_same p q i, (tt, ((p.prints.stands ∙ sym q.prints.stands) i, (tt, tt))))))),
+  λ i. (tt, (record { ledger = ledger_same p q i; pool = pool_same p q i }, (gathered_same p q i, (tt, ((p.prints.stands ∙ sym q.prints.stands) i, (tt, tt)))))),
 )

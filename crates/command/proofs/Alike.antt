@@ -4,7 +4,6 @@ use Prim.Native.Nat.{ℕ}
 use mathlib.Core.Path.{◌≡◌, refl, sym, ap, ◌∙◌}
 use mathlib.Core.Bool.{true≢false, false≢true, true, not, ◌&&◌}
 use mathlib.Core.List.{List}
-use native.Mathlib.Omega.{arith}
 use lib.ListN.{length}
 use lib.Dec.{eqb}
 use borrow.Author.Tests.{eqb-true, not-true}
@@ -16,24 +15,22 @@ use Rattle.rules.specs.Frames.{walk}
 use Rattle.rules.specs.Table.{value_of}
 use Rattle.objects.specs.Places.{place_of}
 use Rattle.objects.proofs.Alike.{drop_alike}
-use Rattle.command.specs.declared.Framed.{Framed}
-use Rattle.command.specs.declared.Framed.TheVariants.{At, Not}
+use Rattle.std.specs.Prelude.{Option, Some, None, Result, Ok, Err}
 use Rattle.command.specs.declared.Handler.{Handler}
 use Rattle.command.specs.declared.Handler.TheVariants.{Bare, EventList, Open, Close, Receive, Send, StartTimer, ManageTimer}
 use Rattle.command.specs.declared.Request.{Request}
-use Rattle.command.specs.declared.Read.{Read}
-use Rattle.command.specs.declared.Read.TheVariants.{Wrong, Asked}
+use Rattle.command.specs.declared.Wrong.{Wrong}
 use Rattle.command.specs.Plans.{handles, own_number, further_number}
 use Rattle.command.specs.Requests.{Frames, AskedFor, Reads}
 use Rattle.rules.specs.Timers.{is_start, action_of, start_action}
 use Rattle.rules.proofs.Readings.{start_kind, starts}
 
 -- where the objects start
-pub framed_alike : (x y : Framed) (s : List ℕ) → Frames x s → Frames y s → x ≡ y
-framed_alike (At a) (At b) s p q = ap At (drop_alike s a b p.within q.within (sym p.objects ∙ q.objects))
-framed_alike (At a) Not s p q = absurd (true≢false (sym p.is ∙ q))
-framed_alike Not (At b) s p q = absurd (false≢true (sym p ∙ q.is))
-framed_alike Not Not s p q = refl
+pub framed_alike : (x y : Option ℕ) (s : List ℕ) → Frames x s → Frames y s → x ≡ y
+framed_alike (Some a) (Some b) s p q = ap Some (drop_alike s a b p.within q.within (sym p.objects ∙ q.objects))
+framed_alike (Some a) None s p q = absurd (true≢false (sym p.is ∙ q))
+framed_alike None (Some b) s p q = absurd (false≢true (sym p ∙ q.is))
+framed_alike None None s p q = refl
 
 -- a handler, read back from its details
 handler_in : Details → Handler
@@ -88,11 +85,11 @@ module _ {q r : Request} {p s : List ℕ} (u : AskedFor q p s) (w : AskedFor r p
         transport = (u.transport_place ∙ sym w.transport_place) i;
       }
 
-pub read_alike : (x y : Read) (p s : List ℕ) → Reads x p s → Reads y p s → x ≡ y
-read_alike (Wrong d e) (Wrong c f) p s u w =
-    let details : d ≡ c = cc (u, w) in
-    let error : e ≡ f = cc (u, w) in
-    λ i. Wrong (details i) (error i)
-read_alike (Wrong d e) (Asked r) p s u w = absurd (let z : ◌≡◌ {A = ℕ} 0 1 = cc (u, w.is) in omega arith)
-read_alike (Asked q) (Wrong c f) p s u w = absurd (let z : ◌≡◌ {A = ℕ} 0 1 = cc (u.is, w) in omega arith)
-read_alike (Asked q) (Asked r) p s u w = ap Asked (request_alike u w)
+pub read_alike : (x y : Result Request Wrong) (p s : List ℕ) → Reads x p s → Reads y p s → x ≡ y
+read_alike (Err a) (Err b) p s u w =
+    let details : a.details ≡ b.details = cc (u, w) in
+    let result : a.result ≡ b.result = cc (u, w) in
+    λ i. Err (record { details = details i; result = result i })
+read_alike (Err a) (Ok r) p s u w = cc (u, w.is)
+read_alike (Ok q) (Err b) p s u w = cc (u.is, w)
+read_alike (Ok q) (Ok r) p s u w = let same : q ≡ r = request_alike u w in λ i. Ok (same i)

@@ -1,6 +1,6 @@
 -- The lengths of values, number by number.
 -- Assumes nothing.
-use Prim.Native.Nat.{ℕ, suc, ◌+◌, ◌≤◌}
+use Prim.Native.Nat.{ℕ, suc, ◌+◌, ◌≤◌, ◌<◌}
 use mathlib.Core.Path.{◌≡◌, refl, sym, ap, ◌∙◌}
 use mathlib.Core.Logic.{inl, inr}
 use mathlib.Core.Bool.{Bool, true, false}
@@ -15,7 +15,6 @@ use Rattle.rules.specs.Table.{bearer_fits, length_fits}
 use Rattle.rules.proofs.Laws.{stop, skip}
 use Rattle.octets.specs.Parts.{part}
 use Rattle.octets.proofs.Copies.{part_get}
-use Rattle.objects.proofs.Alike.{part_size}
 use Rattle.command.proofs.Keys.{arm}
 
 -- no bytes, or some
@@ -38,78 +37,65 @@ part_first s start n h =
 pub part_at : (s : List ℕ) (start n k : ℕ) → k + 1 ≤ n → get_or (part start (start + n) s) k 0 ≡ get_or s (start + k) 0
 part_at s start n k h = part_get start (start + n) k s (omega arith)
 
--- the value of an object, at its place
-module _ (s : List ℕ) (start n : ℕ) (w : start + n ≤ length s) where
-  abbrev v : List ℕ
-  v = part start (start + n) s
-
-  size : (k : ℕ) → eqb n k ≡ eqb (length v) k
-  size k = ap (λ (m : ℕ). eqb m k) (sym (part_size s start n w))
-
-  pub bearer_none : n ≡ 0 → false ≡ bearer_fits v
+-- the value of a bearer
+module _ (v : List ℕ) where
+  pub bearer_none : length v < 1 → false ≡ bearer_fits v
   unfolding bearer_fits
-  bearer_none e = sym (stop _ _ _ (empty v (part_size s start n w ∙ e)))
+  bearer_none h = sym (stop _ _ _ (empty v (omega arith)))
 
-  module _ (h : n ≡ 0 → ⊥) where
+  module _ (h : 1 ≤ length v) where
     some_bytes : is_empty v ≡ false
-    some_bytes = filled v (λ e. h (sym (part_size s start n w) ∙ e))
+    some_bytes = filled v (omega arith)
 
-    first : get_or v 0 0 ≡ get_or s start 0
-    first = part_first s start n (omega arith)
-
-    pub bearer_two : get_or s start 0 ≡ 0x02 → eqb n 7 ≡ bearer_fits v
+    pub bearer_two : get_or v 0 0 ≡ 0x02 → eqb (length v) 7 ≡ bearer_fits v
     unfolding bearer_fits
-    bearer_two e = size 7 ∙ sym (skip _ _ _ some_bytes ∙ stop _ _ _ (eq-eqb (get_or v 0 0) 0x02 (first ∙ e)))
+    bearer_two e = sym (skip _ _ _ some_bytes ∙ stop _ _ _ (eq-eqb (get_or v 0 0) 0x02 e))
 
-    pub bearer_three : get_or s start 0 ≡ 0x03 → eqb n 1 ≡ bearer_fits v
+    pub bearer_three : get_or v 0 0 ≡ 0x03 → eqb (length v) 1 ≡ bearer_fits v
     unfolding bearer_fits
-    bearer_three e =
-        let f = first ∙ e in
-        size 1 ∙ sym (skip _ _ _ some_bytes ∙ skip _ _ _ (ne_eqb (get_or v 0 0) 0x02 (omega arith)) ∙ stop _ _ _ (eq-eqb (get_or v 0 0) 0x03 f))
+    bearer_three e = sym (skip _ _ _ some_bytes ∙ skip _ _ _ (ne_eqb (get_or v 0 0) 0x02 (omega arith)) ∙ stop _ _ _ (eq-eqb (get_or v 0 0) 0x03 e))
 
-    pub bearer_any : (Unit {0} × (get_or s start 0 ≡ 0x02 → ⊥)) × (get_or s start 0 ≡ 0x03 → ⊥) → true ≡ bearer_fits v
+    pub bearer_any : (get_or v 0 0 ≡ 0x02 → ⊥) → (get_or v 0 0 ≡ 0x03 → ⊥) → true ≡ bearer_fits v
     unfolding bearer_fits
-    bearer_any o =
-        sym
-        (skip _ _ _ some_bytes ∙ skip _ _ _ (ne_eqb (get_or v 0 0) 0x02 (λ e. o.0.1 (sym first ∙ e)))
-        ∙ skip _ _ _ (ne_eqb (get_or v 0 0) 0x03 (λ e. o.1 (sym first ∙ e))))
+    bearer_any m n = sym (skip _ _ _ some_bytes ∙ skip _ _ _ (ne_eqb (get_or v 0 0) 0x02 m) ∙ skip _ _ _ (ne_eqb (get_or v 0 0) 0x03 n))
 
-  module _ (t : ℕ) where
-    abbrev fits : ℕ → Bool
-    fits k = length_fits k v
+-- the value of an object, by its number
+module _ (v : List ℕ) (t : ℕ) where
+  abbrev fits : ℕ → Bool
+  fits k = length_fits k v
 
-    pub fits_three : OneOf (0x01 ∷ 0x25 ∷ 0x3C ∷ []) t → eqb n 3 ≡ length_fits t v
-    unfolding length_fits ◌⇒◌else◌
-    fits_three = arm fits (eqb n 3) (0x01 ∷ 0x25 ∷ 0x3C ∷ []) t (size 3, (size 3, (size 3, tt)))
+  pub fits_three : OneOf (0x01 ∷ 0x25 ∷ 0x3C ∷ []) t → eqb (length v) 3 ≡ length_fits t v
+  unfolding length_fits ◌⇒◌else◌
+  fits_three = arm fits (eqb (length v) 3) (0x01 ∷ 0x25 ∷ 0x3C ∷ []) t (refl, (refl, (refl, tt)))
 
-    pub fits_two : OneOf (0x02 ∷ 0x04 ∷ 0x1E ∷ 0x39 ∷ []) t → eqb n 2 ≡ length_fits t v
-    unfolding length_fits ◌⇒◌else◌
-    fits_two = arm fits (eqb n 2) (0x02 ∷ 0x04 ∷ 0x1E ∷ 0x39 ∷ []) t (size 2, (size 2, (size 2, (size 2, tt))))
+  pub fits_two : OneOf (0x02 ∷ 0x04 ∷ 0x1E ∷ 0x39 ∷ []) t → eqb (length v) 2 ≡ length_fits t v
+  unfolding length_fits ◌⇒◌else◌
+  fits_two = arm fits (eqb (length v) 2) (0x02 ∷ 0x04 ∷ 0x1E ∷ 0x39 ∷ []) t (refl, (refl, (refl, (refl, tt))))
 
-    pub fits_one : OneOf (0x24 ∷ 0x37 ∷ []) t → eqb n 1 ≡ length_fits t v
-    unfolding length_fits ◌⇒◌else◌
-    fits_one = arm fits (eqb n 1) (0x24 ∷ 0x37 ∷ []) t (size 1, (size 1, tt))
+  pub fits_one : OneOf (0x24 ∷ 0x37 ∷ []) t → eqb (length v) 1 ≡ length_fits t v
+  unfolding length_fits ◌⇒◌else◌
+  fits_one = arm fits (eqb (length v) 1) (0x24 ∷ 0x37 ∷ []) t (refl, (refl, tt))
 
-    pub fits_bearer : t ≡ 0x35 → bearer_fits v ≡ length_fits t v
-    unfolding length_fits ◌⇒◌else◌
-    fits_bearer = arm fits (bearer_fits v) (0x35 ∷ []) t (refl, tt)
+  pub fits_bearer : t ≡ 0x35 → bearer_fits v ≡ length_fits t v
+  unfolding length_fits ◌⇒◌else◌
+  fits_bearer = arm fits (bearer_fits v) (0x35 ∷ []) t (refl, tt)
 
-    pub fits_any :
-        (((Unit {0} × (OneOf (0x01 ∷ 0x25 ∷ 0x3C ∷ []) t → ⊥)) × (OneOf (0x02 ∷ 0x04 ∷ 0x1E ∷ 0x39 ∷ []) t → ⊥)) × (OneOf (0x24 ∷ 0x37 ∷ []) t → ⊥)) × (t ≡ 0x35 → ⊥) →
-        true ≡ length_fits t v
-    unfolding length_fits ◌⇒◌else◌
-    fits_any o =
-        let three = o.0.0.0.1 in
-        let two = o.0.0.1 in
-        simp (
-          ne_eqb t 0x01 (λ e. three (inl e)),
-          ne_eqb t 0x25 (λ e. three (inr (inl e))),
-          ne_eqb t 0x3C (λ e. three (inr (inr e))),
-          ne_eqb t 0x02 (λ e. two (inl e)),
-          ne_eqb t 0x04 (λ e. two (inr (inl e))),
-          ne_eqb t 0x1E (λ e. two (inr (inr (inl e)))),
-          ne_eqb t 0x39 (λ e. two (inr (inr (inr e)))),
-          ne_eqb t 0x24 (λ e. o.0.1 (inl e)),
-          ne_eqb t 0x37 (λ e. o.0.1 (inr e)),
-          ne_eqb t 0x35 o.1,
-        )
+  pub fits_any :
+      (((Unit {0} × (OneOf (0x01 ∷ 0x25 ∷ 0x3C ∷ []) t → ⊥)) × (OneOf (0x02 ∷ 0x04 ∷ 0x1E ∷ 0x39 ∷ []) t → ⊥)) × (OneOf (0x24 ∷ 0x37 ∷ []) t → ⊥)) × (t ≡ 0x35 → ⊥) →
+      true ≡ length_fits t v
+  unfolding length_fits ◌⇒◌else◌
+  fits_any o =
+      let three = o.0.0.0.1 in
+      let two = o.0.0.1 in
+      simp (
+        ne_eqb t 0x01 (λ e. three (inl e)),
+        ne_eqb t 0x25 (λ e. three (inr (inl e))),
+        ne_eqb t 0x3C (λ e. three (inr (inr e))),
+        ne_eqb t 0x02 (λ e. two (inl e)),
+        ne_eqb t 0x04 (λ e. two (inr (inl e))),
+        ne_eqb t 0x1E (λ e. two (inr (inr (inl e)))),
+        ne_eqb t 0x39 (λ e. two (inr (inr (inr e)))),
+        ne_eqb t 0x24 (λ e. o.0.1 (inl e)),
+        ne_eqb t 0x37 (λ e. o.0.1 (inr e)),
+        ne_eqb t 0x35 o.1,
+      )

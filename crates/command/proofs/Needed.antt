@@ -2,11 +2,12 @@
 -- Assumes nothing.
 use Prim.Native.Nat.{ℕ, ◌<◌}
 use mathlib.Core.Path.{◌≡◌, refl, sym, ap, ◌∙◌}
-use mathlib.Core.Bool.{Bool, true, false, not, ◌&&◌}
+use mathlib.Core.Bool.{Bool, true, false, ◌&&◌}
 use mathlib.Core.List.{List}
+use Rattle.std.specs.Prelude.{Option, Some, None, is_some}
 use lib.Dec.{ltb}
 use borrow.Author.Tests.{ltb-true}
-use Rattle.rules.specs.Checks.{◌⇒◌else◌, every, some_of, member}
+use Rattle.rules.specs.Checks.{every, some_of, member}
 use Rattle.rules.specs.Frames.{Walk, walk}
 use Rattle.rules.specs.Table.{row_of, present, complete}
 use Rattle.rules.proofs.Laws.{both_right}
@@ -24,13 +25,15 @@ pub first_there : {s : List ℕ} {first : ℕ} → Headed s first → present 0x
 unfolding present member some_of
 first_there g = ap (λ (w : Walk). present 0x01 w.objects) (here_object g.stands)
 
+-- a place that is known tells that an object stands
+pub stood : (s : List ℕ) (n : ℕ) (a : Option ℕ) → StandsAt a s n → is_some a ≡ present n (walk s).objects
+stood s n (Some at) w = sym w.there
+stood s n None w = sym w
+
 -- three tests, as they are made and as the rules have them
-all_there : (a b c : Bool) → (not a ⇒ false else not b ⇒ false else not c ⇒ false else true) ≡ a && (b && (c && true))
-unfolding ◌⇒◌else◌
-all_there true true true = refl
-all_there true true false = refl
-all_there true false c = refl
-all_there false b c = refl
+all_there : (a b c : Bool) → a && (b && c) ≡ true && (a && (b && (c && true)))
+all_there a b true = refl
+all_there a b false = refl
 
 module _ (s : List ℕ) {row : Row} (r : RowFor row (the_details s)) where
   -- an object that the row needs is required, so it may stand, and is among those that count as it is among all
@@ -50,14 +53,14 @@ module _ (s : List ℕ) {row : Row} (r : RowFor row (the_details s)) where
   needed_alike n e = alike (row_of (the_details s)) n (walk s).objects (required_may (row_of (the_details s)) n (needed_required n e))
 
   pub complete_is :
-      present 0x01 (walk s).objects ≡ true → {a b c : ℕ} → StandsAt a s 0x02 → StandsAt b s row.own → StandsAt c s row.further →
+      present 0x01 (walk s).objects ≡ true → (a b c : Option ℕ) → StandsAt a s 0x02 → StandsAt b s row.own → StandsAt c s row.further →
       all_stand a b c ≡ complete (row_of (the_details s)) (the_objects s).counting
-  unfolding complete all_stand every member some_of
-  complete_is first u v w =
+  unfolding complete every member some_of
+  complete_is first a b c u v w =
       let there : (n : ℕ) → member n (needed row) ≡ true → present n (walk s).objects ≡ present n (the_objects s).counting = λ n e. sym (needed_alike n e).there in
       let own = there row.own (own_needed row.own row.further) in
       let further = there row.further (further_needed row.own row.further) in
-      (λ i. u.there i ⇒ false else v.there i ⇒ false else w.there i ⇒ false else true)
+      (λ i. stood s 0x02 a u i && (stood s row.own b v i && stood s row.further c w i))
       ∙ all_there (present 0x02 (walk s).objects) (present row.own (walk s).objects) (present row.further (walk s).objects)
       ∙ (λ i. (sym first ∙ there 0x01 refl) i && (there 0x02 refl i && (own i && (further i && true))))
       ∙ every_alike (λ n. present n (the_objects s).counting) (needed row) (row_of (the_details s)).required r.looked_for r.required

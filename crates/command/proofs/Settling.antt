@@ -2,13 +2,15 @@
 -- Assumes nothing.
 use Prim.Native.Nat.{ℕ, ◌+◌, ◌-◌, ◌*◌, ◌≤◌, ◌<◌}
 use mathlib.Core.Path.{◌≡◌, refl, sym, ap, subst, ◌∙◌}
-use mathlib.Core.Bool.{Bool, true, false, not}
+use mathlib.Core.Bool.{Bool, true, false}
 use mathlib.Core.List.{List}
 use mathlib.Core.Option.{Option, none, some}
 use native.Mathlib.Omega.{arith}
 use lib.ListN.{length, get_or}
+use Rattle.std.specs.Prelude as std
+use Rattle.std.specs.Prelude.{Some, None, IfSome}
 use lib.Dec.{eqb}
-use borrow.Author.Tests.{eqb-true, eqb-false, ne_eqb, not-true, not-false}
+use borrow.Author.Tests.{eqb-true, not-true}
 use Rattle.rules.specs.declared.Details.{Details}
 use Rattle.rules.specs.Checks.{◌⇒◌else◌, some_of, member}
 use Rattle.rules.specs.Frames.{Object, walk}
@@ -25,15 +27,15 @@ use Rattle.command.specs.declared.Plan.{Plan}
 use Rattle.command.specs.declared.Request.{Request}
 use Rattle.command.specs.declared.Sorted.{Sorted}
 use Rattle.command.specs.Plans.{handles, own_number, further_number, needed, besides_by, times_by}
-use Rattle.command.specs.Requests.{the_details, the_objects, the_command, size_at, protocol_at, BodyIs, place_or_none, StandsAt, AskedFor, Typed, Fitted}
+use Rattle.command.specs.Requests.{the_details, the_objects, the_command, size_at, protocol_at, BodyIs, place_or_none, ValueAt, StandsAt, AskedFor, Typed}
 use Rattle.command.proofs.Counting.{Alike, alike}
-use Rattle.command.proofs.Known.{known_misaddressed, known_asked, fit, needed_there, needed_value, needed_fits}
+use Rattle.command.proofs.Known.{Fitted, known_misaddressed, known_asked, needed_value, needed_fits}
 use Rattle.command.proofs.Lengths.{part_first, part_at}
 use Rattle.command.proofs.Tables.{own_needed, further_needed}
 use Rattle.rules.specs.Timers.{is_start}
 
 -- a value that stands somewhere, and is so long
-module _ {at n : ℕ} {s : List ℕ} (w : StandsAt at s n) {k : ℕ} (l : length (value_of n (walk s).objects) ≡ k) where
+module _ {at n : ℕ} {s : List ℕ} (w : ValueAt at s n) {k : ℕ} (l : length (value_of n (walk s).objects) ≡ k) where
   stands_within : at + k ≤ length s
   stands_within = omega (arith, w.within)
 
@@ -56,7 +58,7 @@ module _ (d : Details) (os : List Object) where
   body_at : (k : ℕ) → d.kind ≡ k → body_in d os ≡ body_in (record { number = d.number; kind = k; qualifier = d.qualifier }) os
   body_at k e = λ i. body_in (record { number = d.number; kind = e i; qualifier = d.qualifier }) os
 
-module _ {s : List ℕ} {d : Details} {plan : Plan} {v : Sorted} (z : Fitted s d plan v) where
+module _ {s : List ℕ} {d : Details} {plan : Plan} {v : Sorted} {devices own further : ℕ} (z : Fitted s d plan v devices own further) where
   abbrev all : List Object
   all = (walk s).objects
 
@@ -68,40 +70,32 @@ module _ {s : List ℕ} {d : Details} {plan : Plan} {v : Sorted} (z : Fitted s d
   unfolding length_fits member some_of ◌⇒◌else◌
   two = eqb-true (length (value_of 0x02 all)) 2 (needed_fits z 0x02 refl)
 
-  pub devices_within : v.devices + 2 ≤ length s
-  devices_within = stands_within z.begun.sorted.devices two
+  pub devices_within : devices + 2 ≤ length s
+  devices_within = stands_within z.at_devices two
 
-  source_is : (the_command s).source ≡ record { 0 = get_or s v.devices 0 }
+  source_is : (the_command s).source ≡ record { 0 = get_or s devices 0 }
   unfolding command_in member some_of
   source_is =
-      λ i. record { 0 = (ap (λ (l : List ℕ). get_or l 0 0) (needed_value z 0x02 refl) ∙ byte_first z.begun.sorted.devices two (omega arith)) i }
+      λ i. record { 0 = (ap (λ (l : List ℕ). get_or l 0 0) (needed_value z 0x02 refl) ∙ byte_first z.at_devices two (omega arith)) i }
 
-  destination_is : (the_command s).destination ≡ record { 0 = get_or s (v.devices + 1) 0 }
+  destination_is : (the_command s).destination ≡ record { 0 = get_or s (devices + 1) 0 }
   unfolding command_in member some_of
   destination_is =
-      λ i. record { 0 = (ap (λ (l : List ℕ). get_or l 1 0) (needed_value z 0x02 refl) ∙ byte_at z.begun.sorted.devices two 1 (omega arith)) i }
+      λ i. record { 0 = (ap (λ (l : List ℕ). get_or l 1 0) (needed_value z 0x02 refl) ∙ byte_at z.at_devices two 1 (omega arith)) i }
 
   by_bytes :
       addressed (the_details s).kind (the_command s).source (the_command s).destination ≡
-      addressed d.kind (record { 0 = get_or s v.devices 0 }) (record { 0 = get_or s (v.devices + 1) 0 })
+      addressed d.kind (record { 0 = get_or s devices 0 }) (record { 0 = get_or s (devices + 1) 0 })
   by_bytes = λ i. addressed (z.begun.details i).kind (source_is i) (destination_is i)
 
   pub settle_wrong :
-      {b : Bool} → b ≡ addressed d.kind (record { 0 = get_or s v.devices 0 }) (record { 0 = get_or s (v.devices + 1) 0 }) → not b ≡ true →
+      {b : Bool} → b ≡ addressed d.kind (record { 0 = get_or s devices 0 }) (record { 0 = get_or s (devices + 1) 0 }) → b ≡ false →
       (p : List ℕ) → Typed p s → read_objects p s ≡ wrong d 0x32
-  settle_wrong {b} e f = known_misaddressed z (by_bytes ∙ sym e ∙ not-true b f)
+  settle_wrong e f = known_misaddressed z (by_bytes ∙ sym e ∙ f)
 
   -- the own value stands behind a byte
   needs_own : member plan.row.own (needed plan.row) ≡ true
   needs_own = own_needed plan.row.own plan.row.further
-
-  pub own_behind : 1 ≤ v.own
-  own_behind =
-      let h = eqb-false v.own 0 (z.begun.sorted.own.there ∙ ap not (needed_there z plan.row.own needs_own)) in
-      omega arith
-
-  pub own_within : v.own ≤ length s
-  own_within = omega (arith, z.begun.sorted.own.within)
 
   -- the further object, which a row of its own may have
   needs_further : member plan.row.further (needed plan.row) ≡ true
@@ -118,17 +112,17 @@ module _ {s : List ℕ} {d : Details} {plan : Plan} {v : Sorted} (z : Fitted s d
     size_needed : member 0x39 (needed plan.row) ≡ true
     size_needed = subst (λ (n : ℕ). member n (needed plan.row) ≡ true) further_is needs_further
 
-    size_stands : StandsAt v.further s 0x39
-    size_stands = subst (λ (n : ℕ). StandsAt v.further s n) further_is z.begun.sorted.further
+    size_stands : ValueAt further s 0x39
+    size_stands = subst (λ (n : ℕ). ValueAt further s n) further_is z.at_further
 
     size_two : length (value_of 0x39 all) ≡ 2
     unfolding length_fits ◌⇒◌else◌
     size_two = eqb-true (length (value_of 0x39 all)) 2 (needed_fits z 0x39 size_needed)
 
-    size_within : v.further + 2 ≤ length s
+    size_within : further + 2 ≤ length s
     size_within = stands_within size_stands size_two
 
-    size_is : pair_in (value_of 0x39 counts) ≡ size_at s v.further
+    size_is : pair_in (value_of 0x39 counts) ≡ size_at s further
     unfolding pair_in size_at
     size_is =
         let high = ap (λ (l : List ℕ). get_or l 0 0) (needed_value z 0x39 size_needed) ∙ byte_first size_stands size_two (omega arith) in
@@ -143,36 +137,32 @@ module _ {s : List ℕ} {d : Details} {plan : Plan} {v : Sorted} (z : Fitted s d
         branch (λ (k : ℕ). 1 ≤ k) _ _ _ (λ _. omega arith) (λ _. subst (λ (k : ℕ). 1 ≤ k) (sym (skip _ _ _ refl ∙ stop _ _ _ refl ∙ stop _ _ _ o)) (omega arith)) in
         alike (row_of (the_details s)) 0x3C all (omega arith)
 
-    transport_there : not (present 0x3C counts) ≡ eqb v.transport 0
-    transport_there = ap not transport_alike.there ∙ sym z.begun.sorted.transport.there
-
     abbrev level : Option Transport
     level = present 0x3C counts ⇒ some (transport_in (value_of 0x3C counts)) else none
 
-    tcp_is : eqb v.transport 0 ≡ true → protocol_of level ≡ 0x02
+    tcp_is : present 0x3C all ≡ false → protocol_of level ≡ 0x02
     unfolding protocol_of
-    tcp_is c = ap protocol_of (skip _ _ _ (not-true (present 0x3C counts) (transport_there ∙ c)))
+    tcp_is e = ap protocol_of (skip _ _ _ (transport_alike.there ∙ e))
 
-    module _ (c : eqb v.transport 0 ≡ false) where
+    module _ {at : ℕ} (w : ValueAt at s 0x3C) where
       there : present 0x3C counts ≡ true
-      there = not-false (present 0x3C counts) (transport_there ∙ c)
+      there = transport_alike.there ∙ w.there
 
       three : length (value_of 0x3C all) ≡ 3
       unfolding length_fits ◌⇒◌else◌
-      three = eqb-true (length (value_of 0x3C all)) 3 (ap (length_fits 0x3C) (sym transport_alike.value) ∙ value_fits 0x3C counts there (fit z))
+      three = eqb-true (length (value_of 0x3C all)) 3 (ap (length_fits 0x3C) (sym transport_alike.value) ∙ value_fits 0x3C counts there z.fit)
 
-      told_is : protocol_of level ≡ get_or s v.transport 0
+      told_is : protocol_of level ≡ get_or s at 0
       unfolding protocol_of transport_in
-      told_is =
-          ap protocol_of (stop _ _ _ there) ∙ ap (λ (l : List ℕ). get_or l 0 0) transport_alike.value
-          ∙ byte_first z.begun.sorted.transport three (omega arith)
+      told_is = ap protocol_of (stop _ _ _ there) ∙ ap (λ (l : List ℕ). get_or l 0 0) transport_alike.value ∙ byte_first w three (omega arith)
 
-    protocol_is : protocol_of level ≡ protocol_at s v.transport
-    unfolding protocol_at
-    protocol_is = branch (λ (n : ℕ). protocol_of level ≡ n) (eqb v.transport 0) _ _ tcp_is told_is
+    protocol_is : (o : std.Option ℕ) → StandsAt o s 0x3C → protocol_of level ≡ protocol_at s o
+    protocol_is None w = tcp_is w
+    protocol_is (Some at) w = told_is w
 
-    transport_within : 0 < v.transport → v.transport < length s
-    transport_within c = let w = stands_within z.begun.sorted.transport (three (ne_eqb v.transport 0 (omega arith))) in omega arith
+    transport_within : (o : std.Option ℕ) → StandsAt o s 0x3C → IfSome o (λ at. at < length s)
+    transport_within None w = tt
+    transport_within (Some at) w = let l = stands_within w (three w) in omega arith
 
   -- what is asked
   module _ where
@@ -181,22 +171,22 @@ module _ {s : List ℕ} {d : Details} {plan : Plan} {v : Sorted} (z : Fitted s d
         record {
           details = d;
           handler = h;
-          destination = record { 0 = get_or s (v.devices + 1) 0 };
-          ignored = v.ignored;
-          start = v.own;
-          len = get_or s (v.own - 1) 0;
-          further = v.further;
+          destination = record { 0 = get_or s (devices + 1) 0 };
+          ignored = v.survey.ignored;
+          start = own;
+          len = get_or s (own - 1) 0;
+          further = further;
           transport = v.transport;
         }
 
     abbrev own_bytes : List ℕ
-    own_bytes = part v.own (v.own + get_or s (v.own - 1) 0) s
+    own_bytes = part own (own + get_or s (own - 1) 0) s
 
-    own_size : get_or s (v.own - 1) 0 ≡ length (value_of plan.row.own all)
-    own_size = z.begun.sorted.own.last (needed_there z plan.row.own needs_own)
+    own_size : get_or s (own - 1) 0 ≡ length (value_of plan.row.own all)
+    own_size = z.at_own.last
 
     own_part : value_of plan.row.own all ≡ own_bytes
-    own_part = z.begun.sorted.own.value ∙ ap (λ (k : ℕ). part v.own (v.own + k) s) (sym own_size)
+    own_part = z.at_own.value ∙ ap (λ (k : ℕ). part own (own + k) s) (sym own_size)
 
     -- the own value and the values of the type, by its handler
     module _ (h : Handler) (eh : plan.handler ≡ h) where
@@ -217,7 +207,7 @@ module _ {s : List ℕ} {d : Details} {plan : Plan} {v : Sorted} (z : Fitted s d
       body_is k e = body_at (the_details s) counts k e
 
     -- a value of one byte, by its handler
-    one : (h : Handler) → plan.handler ≡ h → own_number h ≡ 0x24 → get_or s (v.own - 1) 0 ≡ 1
+    one : (h : Handler) → plan.handler ≡ h → own_number h ≡ 0x24 → get_or s (own - 1) 0 ≡ 1
     unfolding length_fits ◌⇒◌else◌
     one h e n = own_size ∙ ap length own_part ∙ eqb-true (length own_bytes) 1 (subst (λ (k : ℕ). length_fits k own_bytes ≡ true) n (own_fits h e))
 
@@ -229,18 +219,18 @@ module _ {s : List ℕ} {d : Details} {plan : Plan} {v : Sorted} (z : Fitted s d
       time_needed : member 0x25 (needed plan.row) ≡ true
       time_needed = subst (λ (n : ℕ). member n (needed plan.row) ≡ true) time_further needs_further
 
-      time_stands : StandsAt v.further s 0x25
-      time_stands = subst (λ (n : ℕ). StandsAt v.further s n) time_further z.begun.sorted.further
+      time_stands : ValueAt further s 0x25
+      time_stands = subst (λ (n : ℕ). ValueAt further s n) time_further z.at_further
 
       time_three : length (value_of 0x25 all) ≡ 3
       unfolding length_fits ◌⇒◌else◌
       time_three = eqb-true (length (value_of 0x25 all)) 3 (needed_fits z 0x25 time_needed)
 
-      time_within : v.further + 3 ≤ length s
+      time_within : further + 3 ≤ length s
       time_within = stands_within time_stands time_three
 
-      time_is : value_of 0x25 counts ≡ part v.further (v.further + 3) s
-      time_is = needed_value z 0x25 time_needed ∙ time_stands.value ∙ ap (λ (k : ℕ). part v.further (v.further + k) s) time_three
+      time_is : value_of 0x25 counts ≡ part further (further + 3) s
+      time_is = needed_value z 0x25 time_needed ∙ time_stands.value ∙ ap (λ (k : ℕ). part further (further + k) s) time_three
 
     -- the values that are asked with, type by type
     asked_body : (h : Handler) → plan.handler ≡ h → BodyIs h (asks h) s (the_command s).body
@@ -254,20 +244,20 @@ module _ {s : List ℕ} {d : Details} {plan : Plan} {v : Sorted} (z : Fitted s d
         record {
           level = level e;
           is = body_is Open e 0x40 (eqb-true _ _ (handled Open e)) ∙ (λ i. open_channel (bearer_in (own_value Open e i)) (size_is e i) (level e));
-          protocol = protocol_is e;
+          protocol = protocol_is e v.transport z.begun.sorted.transport;
           bearer = own_fits Open e;
           size_within = size_within e;
-          protocol_within = transport_within e;
+          protocol_within = transport_within e v.transport z.begun.sorted.transport;
         }
     asked_body Close e = body_is Close e 0x41 (eqb-true _ _ (handled Close e))
     asked_body Receive e =
         let one = own_size ∙ ap length own_part ∙ eqb-true (length own_bytes) 1 (own_fits Receive e) in
-        (body_is Receive e 0x42 (eqb-true _ _ (handled Receive e)) ∙ ap (λ (l : List ℕ). receive_data (get_or l 0 0)) (own_value Receive e) ∙ ap receive_data (part_first s v.own (get_or s (v.own - 1) 0) (omega arith)), one)
+        (body_is Receive e 0x42 (eqb-true _ _ (handled Receive e)) ∙ ap (λ (l : List ℕ). receive_data (get_or l 0 0)) (own_value Receive e) ∙ ap receive_data (part_first s own (get_or s (own - 1) 0) (omega arith)), one)
     asked_body Send e = body_is Send e 0x43 (eqb-true _ _ (handled Send e)) ∙ ap send_data (own_value Send e)
     asked_body StartTimer e =
         let b = start_kind (the_details s) (handled StartTimer e) in (
           body_is StartTimer e 0x27 b ∙ stop _ _ _ (starts_at (the_details s) (handled StartTimer e))
-              ∙ (λ i. start_timer ((ap (λ (l : List ℕ). get_or l 0 0) (own_value StartTimer e) ∙ part_first s v.own (get_or s (v.own - 1) 0) (omega (arith, one StartTimer e refl))) i) (time_is e i)),
+              ∙ (λ i. start_timer ((ap (λ (l : List ℕ). get_or l 0 0) (own_value StartTimer e) ∙ part_first s own (get_or s (own - 1) 0) (omega (arith, one StartTimer e refl))) i) (time_is e i)),
           one StartTimer e refl,
           time_within e,
         )
@@ -275,21 +265,19 @@ module _ {s : List ℕ} {d : Details} {plan : Plan} {v : Sorted} (z : Fitted s d
         let k = both_left (eqb (the_details s).kind 0x27) _ (handled ManageTimer e) in
         let not_start = not-true (is_start (the_details s)) (both_right (eqb (the_details s).kind 0x27) _ (handled ManageTimer e)) in (
           body_is ManageTimer e 0x27 (eqb-true _ _ k) ∙ skip _ _ _ (starts_not_at (the_details s) (eqb-true _ _ k) not_start)
-              ∙ ap manage_timer (ap (λ (l : List ℕ). get_or l 0 0) (own_value ManageTimer e) ∙ part_first s v.own (get_or s (v.own - 1) 0) (omega (arith, one ManageTimer e refl))),
+              ∙ ap manage_timer (ap (λ (l : List ℕ). get_or l 0 0) (own_value ManageTimer e) ∙ part_first s own (get_or s (own - 1) 0) (omega (arith, one ManageTimer e refl))),
           one ManageTimer e refl,
         )
 
-    transport_placed : v.transport ≡ place_or_none 0x3C s
-    transport_placed =
-        let w = z.begun.sorted.transport in
-        branch (λ (k : ℕ). v.transport ≡ k) (present 0x3C all) _ _ (λ e. w.place e) (λ e. eqb-true v.transport 0 (w.there ∙ ap not e))
+    transport_placed : (o : std.Option ℕ) → StandsAt o s 0x3C → o ≡ place_or_none 0x3C s
+    transport_placed None w = sym (skip _ _ _ w)
+    transport_placed (Some at) w = ap Some w.place ∙ sym (stop _ _ _ w.there)
 
     pub settle_asked :
-        {b : Bool} → b ≡ addressed d.kind (record { 0 = get_or s v.devices 0 }) (record { 0 = get_or s (v.devices + 1) 0 }) → not b ≡ false →
+        {b : Bool} → b ≡ addressed d.kind (record { 0 = get_or s devices 0 }) (record { 0 = get_or s (devices + 1) 0 }) → b ≡ true →
         (p : List ℕ) → Typed p s → AskedFor (asks plan.handler) p s
-    settle_asked {b} e f p ty =
-        let right = by_bytes ∙ sym e ∙ not-false b f in
-        let own = z.begun.sorted.own in
+    settle_asked e f p ty =
+        let right = by_bytes ∙ sym e ∙ f in
         let number = z.begun.planned.own_is in
         record {
           is = known_asked z right p ty;
@@ -298,9 +286,9 @@ module _ {s : List ℕ} {d : Details} {plan : Plan} {v : Sorted} (z : Fitted s d
           destination = destination_is;
           devices = right;
           body = asked_body plan.handler refl;
-          within = omega (arith, own.within, own_size);
-          own_place = subst (λ (n : ℕ). v.own ≡ place_of n s) number (own.place (needed_there z plan.row.own needs_own));
-          own_length = subst (λ (n : ℕ). get_or s (v.own - 1) 0 ≡ length (value_of n all)) number own_size;
-          further_place = subst (λ (n : ℕ). v.further ≡ place_of n s) z.begun.planned.further_is (z.begun.sorted.further.place (needed_there z plan.row.further needs_further));
-          transport_place = transport_placed;
+          within = omega (arith, z.at_own.within, own_size);
+          own_place = subst (λ (n : ℕ). own ≡ place_of n s) number z.at_own.place;
+          own_length = subst (λ (n : ℕ). get_or s (own - 1) 0 ≡ length (value_of n all)) number own_size;
+          further_place = subst (λ (n : ℕ). further ≡ place_of n s) z.begun.planned.further_is z.at_further.place;
+          transport_place = transport_placed v.transport z.begun.sorted.transport;
         }

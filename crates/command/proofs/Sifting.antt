@@ -5,13 +5,39 @@ use mathlib.Core.Path.{◌≡◌, refl, sym, ap, ◌∙◌}
 use mathlib.Core.Bool.{Bool, true, false, not, ◌&&◌, ◌||◌}
 use mathlib.Core.List.{List, [], ◌∷◌, ◌++◌, map}
 use native.Mathlib.Omega.{arith}
+use lib.ListN.{get_or, set}
+use Rattle.std.specs.Prelude.{Some, None}
 use lib.Dec.{ltb, eqb}
-use borrow.Author.Tests.{ne_eqb}
+use borrow.Author.Tests.{eq-eqb, ne_eqb}
 use Rattle.rules.specs.Checks.{◌⇒◌else◌, is_empty, every, some_of, occurrences, member}
 use Rattle.rules.specs.Frames.{Object}
 use Rattle.rules.specs.Table.{Row, Sifted, sift, times, present, value_of, length_fits, measured}
-use Rattle.rules.proofs.Laws.{skip}
-use Rattle.command.specs.Surveys.{survey_of, noted}
+use Rattle.rules.proofs.Laws.{stop, skip}
+use Rattle.command.specs.declared.Met.{Met}
+use Rattle.command.specs.Surveys.{survey_of, noted, slot_of, met, place_in}
+
+-- the first object in a slot, and one more
+module _ (m : Met) (k start : ℕ) where
+  pub met_first : get_or m.counts k 0 ≡ 0 → record { counts = set m.counts k (get_or m.counts k 0 + 1); starts = set m.starts k start } ≡ met m k start
+  met_first e =
+      let q = stop (eqb (get_or m.counts k 0) 0) (set m.starts k start) m.starts (eq-eqb (get_or m.counts k 0) 0 e) in
+      λ i. record { counts = set m.counts k (get_or m.counts k 0 + 1); starts = sym q i }
+
+  pub met_more : (get_or m.counts k 0 ≡ 0 → ⊥) → record { counts = set m.counts k (get_or m.counts k 0 + 1); starts = m.starts } ≡ met m k start
+  met_more e =
+      let q = skip (eqb (get_or m.counts k 0) 0) (set m.starts k start) m.starts (ne_eqb (get_or m.counts k 0) 0 e) in
+      λ i. record { counts = set m.counts k (get_or m.counts k 0 + 1); starts = sym q i }
+
+-- no object of a number, and the place of the first
+module _ (m : Met) (n : ℕ) {k : ℕ} (e : k ≡ slot_of n) where
+  start_is : get_or m.starts k 0 ≡ get_or m.starts (slot_of n) 0
+  start_is = ap (λ (j : ℕ). get_or m.starts j 0) e
+
+  pub place_none : get_or m.starts k 0 ≡ 0 → None ≡ place_in m n
+  place_none z = sym (stop _ _ _ (eq-eqb (get_or m.starts (slot_of n) 0) 0 (sym start_is ∙ z)))
+
+  pub place_some : {x : ℕ} → x ≡ get_or m.starts k 0 → (get_or m.starts k 0 ≡ 0 → ⊥) → Some x ≡ place_in m n
+  place_some w z = ap Some (w ∙ start_is) ∙ sym (skip _ _ _ (ne_eqb (get_or m.starts (slot_of n) 0) 0 (λ q. z (start_is ∙ q))))
 
 abbrev pub numbers : List Object → List ℕ
 numbers os = map (λ (o : Object). o.number) os

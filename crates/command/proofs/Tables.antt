@@ -1,14 +1,22 @@
 -- The slots of the object numbers, the rows, and the plans of the types.
 -- Assumes nothing.
-use Prim.Native.Nat.{ℕ, ◌≤◌, ◌<◌}
+use Prim.Native.Nat.{ℕ, ◌-◌, ◌*◌, ◌≤◌, ◌<◌}
 use mathlib.Core.Path.{◌≡◌, refl, sym, ap, ◌∙◌}
 use mathlib.Core.Bool.{Bool, true, false, not, ◌&&◌, ◌||◌, true≢false}
 use mathlib.Core.List.{List, [], ◌∷◌, map}
 use native.Mathlib.Omega.{arith}
 use types.Run.{OneOf}
 use lib.Dec.{ltb, leb, eqb}
+use mir.Val.{bool_byte}
 use borrow.Author.Tests.{ltb-true, leb-true, le-leb, lt-leb, eqb-true, eq-eqb, ne_eqb}
+use Rattle.std.specs.Prelude.{Some, None, Result, Ok, Err}
+use Rattle.std.specs.Result.{result_ok}
+use Rattle.rules.specs.declared.Action.{Action}
+use Rattle.rules.specs.declared.Action.TheVariants.{Start, Stop, Ask, Nothing}
+use Rattle.rules.specs.declared.CommandType.{CommandType}
+use Rattle.rules.specs.declared.UnknownType.{UnknownType}
 use Rattle.rules.specs.declared.Details.{Details}
+use Rattle.rules.specs.Words.{byte_of, Typed, Acts}
 use Rattle.rules.specs.Checks.{◌⇒◌else◌, every, some_of, member}
 use Rattle.rules.specs.Profile.{profile_size, bit, allows_type}
 use Rattle.rules.specs.Table as rules
@@ -17,7 +25,7 @@ use Rattle.rules.proofs.Laws.{branch, stop, skip, both_left, both_right, or_righ
 use Rattle.profile.specs.declared.Place.{Place}
 use Rattle.command.specs.declared.Plan.{Plan}
 use Rattle.command.specs.declared.Row.{Row}
-use Rattle.command.specs.Plans.{handles, own_number, further_number, needed, besides_by, times_by, PlaceFor, PlanOf}
+use Rattle.command.specs.Plans.{handles, own_number, further_number, needed, besides_by, times_by, bit_of, PlaceFor, PlanOf}
 use Rattle.command.specs.Surveys.{slots, slot_of}
 use Rattle.command.proofs.Keys.{arm, out_keys, Outside, outside, every_member, no_member, all_true}
 use Rattle.rules.specs.Timers.{is_start, action_of, ask_action}
@@ -134,18 +142,29 @@ module _ (row : Row) (n : ℕ) {b : Bool} (q : b ≡ member n (needed row)) wher
   unfolding times_by
   times_besides e f = f ∙ sym (skip _ _ _ (sym q ∙ e))
 
+-- once or twice, where it may stand
+once : (b : Bool) → bool_byte b ≡ (b ⇒ 1 else 0)
+unfolding ◌⇒◌else◌
+once true = refl
+once false = refl
+
+twice : (b : Bool) → 2 * bool_byte b ≡ (b ⇒ 2 else 0)
+unfolding ◌⇒◌else◌
+twice true = refl
+twice false = refl
+
 module _ (row : Row) (n : ℕ) where
-  pub besides_named : OneOf (0x05 ∷ 0x1E ∷ []) n → (row.named ⇒ 1 else 0) ≡ besides_by row n
+  pub besides_named : OneOf (0x05 ∷ 0x1E ∷ []) n → bool_byte row.named ≡ besides_by row n
   unfolding besides_by member some_of ◌⇒◌else◌
-  besides_named = arm (besides_by row) _ (0x05 ∷ 0x1E ∷ []) n (refl, (refl, tt))
+  besides_named o = once row.named ∙ arm (besides_by row) _ (0x05 ∷ 0x1E ∷ []) n (refl, (refl, tt)) o
 
-  pub besides_once : OneOf (0x3C ∷ 0x47 ∷ []) n → (row.opening ⇒ 1 else 0) ≡ besides_by row n
+  pub besides_once : OneOf (0x3C ∷ 0x47 ∷ []) n → bool_byte row.opening ≡ besides_by row n
   unfolding besides_by member some_of ◌⇒◌else◌
-  besides_once = arm (besides_by row) _ (0x3C ∷ 0x47 ∷ []) n (refl, (refl, tt))
+  besides_once o = once row.opening ∙ arm (besides_by row) _ (0x3C ∷ 0x47 ∷ []) n (refl, (refl, tt)) o
 
-  pub besides_twice : OneOf (0x04 ∷ 0x0D ∷ 0x3E ∷ []) n → (row.opening ⇒ 2 else 0) ≡ besides_by row n
+  pub besides_twice : OneOf (0x04 ∷ 0x0D ∷ 0x3E ∷ []) n → 2 * bool_byte row.opening ≡ besides_by row n
   unfolding besides_by member some_of ◌⇒◌else◌
-  besides_twice = arm (besides_by row) _ (0x04 ∷ 0x0D ∷ 0x3E ∷ []) n (refl, (refl, (refl, tt)))
+  besides_twice o = twice row.opening ∙ arm (besides_by row) _ (0x04 ∷ 0x0D ∷ 0x3E ∷ []) n (refl, (refl, (refl, tt))) o
 
   pub besides_none :
       ((Unit {0} × (OneOf (0x05 ∷ 0x1E ∷ []) n → ⊥)) × (OneOf (0x3C ∷ 0x47 ∷ []) n → ⊥)) × (OneOf (0x04 ∷ 0x0D ∷ 0x3E ∷ []) n → ⊥) → 0 ≡ besides_by row n
@@ -217,6 +236,24 @@ pub plan_plain :
 plan_plain p d k q place row handled e =
     plan_right p d k (row_among k table) q ((λ i. row_of (at_kind d (q i))) ∙ row) ((λ i. handles p.handler (at_kind d (q i))) ∙ handled) place e
 
+-- the same of a plan whose handler and row are told
+pub plan_with :
+    (p : Plan) (d : Details) (k : ℕ) {h : Handler} {row : Row} → p.handler ≡ h → p.row ≡ row → d.kind ≡ k → PlaceFor p.place d →
+    row_of (at_kind d k) ≡ row_among k table → handles h (at_kind d k) ≡ true → rightly (record { handler = h; place = p.place; row = row }) k (row_among k table) ≡ true →
+    PlanOf p d
+plan_with p d k eh er q place row_is handled e =
+    plan_plain p d k q place row_is (ap (λ (x : Handler). handles x (at_kind d k)) eh ∙ handled)
+    ((λ i. rightly (record { handler = eh i; place = p.place; row = er i }) k (row_among k table)) ∙ e)
+
+-- a byte that is read as a type, and one that is not
+pub typed_kind : (b : ℕ) (r : Result CommandType UnknownType) (t u : CommandType) → Typed b r → Some t ≡ result_ok r → t ≡ u → b ≡ byte_of u
+typed_kind b (Ok x) t u w e q = let same : t ≡ x = cc in sym w ∙ ap byte_of (sym same ∙ q)
+typed_kind b (Err x) t u w e q = cc
+
+pub untyped : (b : ℕ) (r : Result CommandType UnknownType) → Typed b r → None ≡ result_ok r → known b ≡ false
+untyped b (Ok x) w e = cc
+untyped b (Err x) w e = w
+
 -- a place that is written out for one type
 pub place_at :
     (p : Place) (d : Details) (t : ℕ) → d.kind ≡ t →
@@ -232,11 +269,37 @@ place_at p d t e is tried =
       bit_high = leb-true p.bit 8 w.1.1.1.0;
     }
 
+-- the place of a type from 40 to 44
+pub channel_place : (d : Details) → 0x40 ≤ d.kind → d.kind ≤ 0x44 → PlaceFor (record { byte = 12; bit = d.kind - 0x3F }) d
+unfolding allows_type
+channel_place d low high =
+    record {
+      is = λ q. sym (skip _ _ _ (ne_eqb d.kind 0x02 (omega arith)) ∙ skip _ _ _ (ne_eqb d.kind 0x05 (omega arith)) ∙ skip _ _ _ (ne_eqb d.kind 0x27 (omega arith)));
+      byte_low = omega arith;
+      byte_high = omega arith;
+      bit_low = omega arith;
+      bit_high = omega arith;
+    }
+
+-- the bit of a timer, by its action
+action_bit : (q : ℕ) (a : Action) → Acts q a → bit_of a ≡ (eqb (action_of q) ask_action ⇒ 2 else 1)
+unfolding ◌⇒◌else◌
+action_bit q Start e = rw (sym e)
+action_bit q Stop e = rw (sym e)
+action_bit q Ask e = rw (sym e)
+action_bit q Nothing e = rw (sym e)
+
+pub no_start : (q : ℕ) (a : Action) → Acts q a → (a ≡ Start → ⊥) → action_of q ≡ 0 → ⊥
+no_start q Start e n z = n refl
+no_start q Stop e n z = omega arith
+no_start q Ask e n z = omega arith
+no_start q Nothing e n z = omega arith
+
 -- the place of a timer: asking has its own bit
-pub timer_place :
-    (d : Details) (b : ℕ) → d.kind ≡ 0x27 → b ≡ (eqb (action_of d.qualifier) ask_action ⇒ 2 else 1) → PlaceFor (record { byte = 8; bit = b }) d
+pub timer_place : (d : Details) (b : ℕ) (a : Action) → d.kind ≡ 0x27 → Acts d.qualifier a → b ≡ bit_of a → PlaceFor (record { byte = 8; bit = b }) d
 unfolding allows_type ◌⇒◌else◌
-timer_place d b k e =
+timer_place d b a k w was =
+    let e = was ∙ action_bit d.qualifier a w in
     let few = branch (λ (n : ℕ). (1 ≤ n) × (n ≤ 2)) (eqb (action_of d.qualifier) ask_action) 2 1 (λ _. (omega arith, omega arith)) (λ _. (omega arith, omega arith)) in
     record {
       is = λ q. ap (bit q 8) e ∙ sym (λ i. allows_type q (record { number = d.number; kind = k i; qualifier = d.qualifier }));

@@ -1,5 +1,7 @@
 -- What a plan says of a type.
-use Rattle.std.specs.Prelude.{ℕ, ◌≤◌, ◌≡◌, true, false, Bool, not, ◌&&◌, List, [], ◌∷◌, eqb}
+use Rattle.std.specs.Prelude.{ℕ, ◌≤◌, ◌≡◌, true, false, Bool, not, ◌&&◌, List, [], ◌∷◌, eqb, Option, Some, None}
+use Rattle.rules.specs.declared.Action.{Action}
+use Rattle.rules.specs.declared.Action.TheVariants.{Start, Stop, Ask, Nothing}
 use Rattle.rules.specs.declared.Details.{Details}
 use Rattle.rules.specs.Checks.{◌⇒◌else◌, every, member}
 use Rattle.rules.specs.Timers.{is_start}
@@ -11,8 +13,6 @@ use Rattle.command.specs.declared.Handler.TheVariants.{Bare, EventList, Open, Cl
 use Rattle.profile.specs.declared.Place.{Place}
 use Rattle.command.specs.declared.Row.{Row}
 use Rattle.command.specs.declared.Plan.{Plan}
-use Rattle.command.specs.declared.Planned.{Planned}
-use Rattle.command.specs.declared.Planned.TheVariants.{Of, Unknown}
 
 -- a handler is for commands with such details
 abbrev pub handles : Handler → Details → Bool
@@ -67,6 +67,13 @@ pub record RowFor (row : Row) (d : Details) : Type 0 where
   pub required : every (λ n. member n (row_of d).required) (needed row) ≡ true
   pub looked_for : every (λ n. member n (needed row)) (row_of d).required ≡ true
 
+-- the bit of byte 8 that allows what is done with a timer
+abbrev pub bit_of : Action → ℕ
+bit_of Start = 1
+bit_of Stop = 1
+bit_of Ask = 2
+bit_of Nothing = 1
+
 -- the place is that of the profile rule
 pub record PlaceFor (p : Place) (d : Details) : Type 0 where
   pub is : (q : List ℕ) → bit q p.byte p.bit ≡ allows_type q d
@@ -85,6 +92,6 @@ pub record PlanOf (p : Plan) (d : Details) : Type 0 where
   pub place : PlaceFor p.place d
   pub row : RowFor p.row d
 
-abbrev pub Plans : Planned → Details → Type 0
-Plans (Of p) d = PlanOf p d
-Plans Unknown d = known d.kind ≡ false
+abbrev pub Plans : Option Plan → Details → Type 0
+Plans (Some p) d = PlanOf p d
+Plans None d = known d.kind ≡ false

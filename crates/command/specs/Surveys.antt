@@ -1,10 +1,9 @@
 -- What a walk over a command's objects keeps of them: a survey, and where the first of each number that a row may have stands.
-use Rattle.std.specs.Prelude.{ℕ, Bool, true, false, not, ◌||◌, List, get_or, ltb, eqb}
+use Rattle.std.specs.Prelude.{ℕ, ◌+◌, Bool, true, not, ◌&&◌, ◌||◌, get_or, set, ltb, eqb, Option, Some, None, is_some}
 use Rattle.rules.specs.Checks.{◌⇒◌else◌, is_empty, some_of}
 use Rattle.rules.specs.Frames.{Object}
 use Rattle.rules.specs.Table.{Sifted, measured}
-use Rattle.command.specs.declared.Row.{Row}
-use Rattle.command.specs.declared.Sorted.{Sorted}
+use Rattle.command.specs.declared.Met.{Met}
 use Rattle.command.specs.declared.Survey.{Survey}
 
 -- what a survey of sifted objects says
@@ -29,28 +28,18 @@ slots = 72
 unfoldable pub slot_of : ℕ → ℕ
 slot_of n = ltb n slots ⇒ n else 0
 
--- what is kept of the first object in a slot
-unfoldable pub first_of : ℕ → ℕ → ℕ → ℕ
-first_of seen there now = eqb seen 0 ⇒ now else there
+-- what was met, with one object more in a slot: it counts, and the start of the first is kept
+abbrev pub met : Met → ℕ → ℕ → Met
+met m k start =
+    record {
+      counts = set m.counts k (get_or m.counts k 0 + 1);
+      starts = eqb (get_or m.counts k 0) 0 ⇒ set m.starts k start else m.starts;
+    }
+
+-- where the value of the first object of a number starts, by what was met
+abbrev pub place_in : Met → ℕ → Option ℕ
+place_in m n = let at = get_or m.starts (slot_of n) 0 in eqb at 0 ⇒ None else Some at
 
 -- the required objects besides 01 stand somewhere
-unfoldable pub all_stand : ℕ → ℕ → ℕ → Bool
-all_stand devices own further =
-    eqb devices 0 ⇒ false else
-    eqb own 0 ⇒ false else
-    eqb further 0 ⇒ false else
-    true
-
--- what was found, where the first values start there
-abbrev pub sorted_by : List ℕ → Row → Survey → Bool → Sorted
-sorted_by starts row survey whole =
-    record {
-      flagged = survey.flagged;
-      ignored = survey.ignored;
-      misfit = survey.misfit;
-      whole = whole;
-      devices = get_or starts 0x02 0;
-      own = get_or starts row.own 0;
-      further = get_or starts row.further 0;
-      transport = get_or starts 0x3C 0;
-    }
+abbrev pub all_stand : Option ℕ → Option ℕ → Option ℕ → Bool
+all_stand devices own further = is_some devices && (is_some own && is_some further)

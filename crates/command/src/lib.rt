@@ -1,20 +1,19 @@
 // From the bytes of a command to what is asked: the type's plan, the profile, and steps 2 to 8.
 #![tactic(auto)]
 
-ghost use Rattle.std.specs.Prelude.{◌≡◌, true, false, List, ℕ, ◌+◌, ◌-◌, ◌≤◌, ◌<◌, length, eqb};
-ghost use Rattle.rules.specs.Checks.{◌⇒◌else◌, member};
-ghost use Rattle.rules.specs.Timers.{action_of, ask_action};
+ghost use Rattle.std.specs.Prelude.{◌≡◌, true, false, List, ℕ, ◌+◌, ◌-◌, ◌*◌, ◌≤◌, ◌<◌, length, get_or, Err};
+ghost use Rattle.rules.specs.Checks.{member};
+ghost use Rattle.rules.specs.Words.{Acts};
 ghost use Rattle.rules.specs.Profile.{profile_size};
 ghost use Rattle.rules.specs.Table.{known, bearer_fits, length_fits};
-ghost use Rattle.octets.specs.Parts.{part};
-ghost use Rattle.command.specs.Plans.{PlaceFor, needed, times_by, RowFor, PlanOf, Plans};
-ghost use Rattle.command.specs.Surveys.{slots, slot_of, first_of, noted, all_stand, sorted_by};
+ghost use Rattle.command.specs.Plans.{PlaceFor, bit_of, needed, times_by, RowFor, PlanOf, Plans};
+ghost use Rattle.command.specs.Surveys.{slots, slot_of, noted, met, place_in};
 ghost use Rattle.rules.specs.AtHand.{details_told, at_hand};
-ghost use Rattle.command.specs.Requests.{Frames, Firsts, details_at, the_details, Headed, Detailed, Begun, Typed, Sorts, Fitted, Reads};
+ghost use Rattle.command.specs.Requests.{Frames, Firsts, details_at, the_details, Headed, Detailed, Begun, Typed, Sorts, Finds, Reads};
 
-use objects::{Cursor, Found, Sized, length_at, walk};
+use objects::{Cursor, length_at, walk};
 use profile::{Place, allowed};
-use rules::{Details, DeviceIdentity, Ending, Limits, Results, is_addressed};
+use rules::{Action, CommandType, Details, DeviceIdentity, Ending, Limits, Results, is_addressed};
 
 // The objects, by number.
 const DETAILS: u16 = 0x01;
@@ -66,6 +65,7 @@ pub enum Handler {
 }
 
 // The objects of a type: the two that it requires besides 01 and 02, which is 02 again where there is none, whether 05 and 1E may stand, and whether those of OPEN CHANNEL may.
+// Kept: 02 again, and no Option: it stands in every command, so each place of a request is there, and no reader asks for it again.
 #[derive(Clone, Copy)]
 struct Row {
     own: u16,
@@ -74,13 +74,42 @@ struct Row {
     opening: bool,
 }
 
-// The objects of a type that has 01 and 02 alone.
+// The objects of a type that has 01 and 02 alone, and of one that may also have 05 and 1E.
 const BARE: Row = Row {
     own: DEVICES,
     further: DEVICES,
     named: false,
     opening: false,
 };
+
+const NAMED: Row = Row {
+    named: true,
+    ..BARE
+};
+
+impl Row {
+    // Whether the type requires an object of a number.
+    fn needs(self, number: u16) -> bool
+        ensures { result ≡ member number (needed self) }
+    {
+        [DETAILS, DEVICES, self.own, self.further].contains(&number)
+    }
+
+    // How often an object of a number may stand.
+    fn times(self, number: u16) -> u8
+        ensures { result ≡ times_by self number }
+    {
+        if self.needs(number) {
+            return 1;
+        }
+        match number {
+            ALPHA | ICON => u8::from(self.named),
+            TRANSPORT | NETWORK => u8::from(self.opening),
+            DURATION | TEXT | ADDRESS => 2 * u8::from(self.opening),
+            _ => 0,
+        }
+    }
+}
 
 // A type's handler, its place in the profile, and its objects.
 #[derive(Clone, Copy)]
@@ -90,100 +119,39 @@ struct Plan {
     row: Row,
 }
 
-// The plan of a type, or none where it is not one of the table.
-#[derive(Clone, Copy)]
-enum Planned {
-    Of(Plan),
-    Unknown,
-}
-
 // The byte of the profile that allows the types 40 to 44, and the number below theirs: its bit 1 is for 40.
 const CHANNELS_BYTE: usize = 12;
 
 const BELOW_CHANNELS: u8 = 0x3F;
 
-// The place of a type from 40 to 44: that of the profile rule.
-fn channel_place(d: Details) -> Place
+// The plan of a type from 40 to 44, which has its bit of one byte.
+fn channel_plan(d: Details, handler: Handler, row: Row) -> Plan
     requires { (64 ≤ d.kind) × (d.kind ≤ 68) }
-    ensures { PlaceFor result d }
+    ensures handler_value { result.handler ≡ handler }
+    ensures row_value { result.row ≡ row }
+    ensures place_value { PlaceFor result.place d }
 {
-    Place {
-        byte: CHANNELS_BYTE,
-        bit: d.kind - BELOW_CHANNELS,
+    Plan {
+        handler,
+        place: Place {
+            byte: CHANNELS_BYTE,
+            bit: d.kind - BELOW_CHANNELS,
+        },
+        row,
     }
 }
 
-// The plan of a type from 40 to 44.
-fn channel_plan(d: Details) -> Plan
-    requires { (64 ≤ d.kind) × (d.kind ≤ 68) }
-    ensures { PlanOf result d }
+// The byte of the profile that allows TIMER MANAGEMENT.
+const TIMERS_BYTE: usize = 8;
+
+// The bit of that byte that allows what is done with a timer: asking has its own.
+fn timer_bit(action: Action) -> u8
+    ensures { result ≡ bit_of action }
 {
-    let kind = d.kind;
-    let place = channel_place(d);
-    match kind {
-        0x40 => Plan {
-            handler: Handler::Open,
-            place,
-            row: Row {
-                own: BEARER,
-                further: SIZE,
-                named: true,
-                opening: true,
-            },
-        },
-        0x41 => Plan {
-            handler: Handler::Close,
-            place,
-            row: Row {
-                own: DEVICES,
-                further: DEVICES,
-                named: true,
-                opening: false,
-            },
-        },
-        0x42 => Plan {
-            handler: Handler::Receive,
-            place,
-            row: Row {
-                own: COUNT,
-                further: DEVICES,
-                named: true,
-                opening: false,
-            },
-        },
-        0x43 => Plan {
-            handler: Handler::Send,
-            place,
-            row: Row {
-                own: DATA,
-                further: DEVICES,
-                named: true,
-                opening: false,
-            },
-        },
-        _ => Plan {
-            handler: Handler::Bare,
-            place,
-            row: BARE,
-        },
+    match action {
+        Action::Ask => 2,
+        _ => 1,
     }
-}
-
-// What is done with a timer, by the qualifier's two low bits: a start, and an ask.
-const ACTIONS: u8 = 4;
-
-const START: u8 = 0;
-
-const ASK: u8 = 2;
-
-// The bit of byte 8 that allows what a qualifier does with a timer: asking has its own.
-fn timer_bit(qualifier: u8) -> u8
-    ensures { result ≡ (eqb (action_of qualifier) ask_action ⇒ 2 else 1) }
-{
-    if qualifier % ACTIONS == ASK {
-        return 2;
-    }
-    1
 }
 
 // The plan of TIMER MANAGEMENT: a start requires the time too.
@@ -191,141 +159,94 @@ fn timer_plan(d: Details) -> Plan
     requires { d.kind ≡ 0x27 }
     ensures { PlanOf result d }
 {
+    let action = Action::from(d.qualifier);
     let place = Place {
-        byte: 8,
-        bit: timer_bit(d.qualifier),
+        byte: TIMERS_BYTE,
+        bit: timer_bit(action),
     };
-    if d.qualifier % ACTIONS == START {
-        return Plan {
+    match action {
+        Action::Start => Plan {
             handler: Handler::StartTimer,
             place,
             row: Row {
                 own: TIMER,
                 further: TIME,
-                named: false,
-                opening: false,
+                ..BARE
             },
-        };
-    }
-    Plan {
-        handler: Handler::ManageTimer,
-        place,
-        row: Row {
-            own: TIMER,
-            further: DEVICES,
-            named: false,
-            opening: false,
+        },
+        _ => Plan {
+            handler: Handler::ManageTimer,
+            place,
+            row: Row { own: TIMER, ..BARE },
         },
     }
 }
 
-// The plan of a command with these details.
-fn plan_of(d: Details) -> Planned
+// The plan of a command with these details, where its type is one of the table.
+fn plan_of(d: Details) -> Option<Plan>
     ensures { Plans result d }
 {
-    let kind = d.kind;
-    match kind {
-        0x02 => Planned::Of(Plan {
+    let plan = match CommandType::try_from(d.kind).ok()? {
+        CommandType::MoreTime => Plan {
             handler: Handler::Bare,
             place: Place { byte: 3, bit: 4 },
             row: BARE,
-        }),
-        0x05 => Planned::Of(Plan {
+        },
+        CommandType::SetUpEventList => Plan {
             handler: Handler::EventList,
             place: Place { byte: 5, bit: 1 },
             row: Row {
                 own: EVENTS,
-                further: DEVICES,
-                named: false,
-                opening: false,
+                ..BARE
             },
-        }),
-        0x27 => Planned::Of(timer_plan(d)),
-        0x40..=0x44 => Planned::Of(channel_plan(d)),
-        _ => Planned::Unknown,
-    }
+        },
+        CommandType::TimerManagement => timer_plan(d),
+        CommandType::OpenChannel => {
+            let row = Row {
+                own: BEARER,
+                further: SIZE,
+                opening: true,
+                ..NAMED
+            };
+            channel_plan(d, Handler::Open, row)
+        }
+        CommandType::CloseChannel => channel_plan(d, Handler::Close, NAMED),
+        CommandType::ReceiveData => channel_plan(
+            d,
+            Handler::Receive,
+            Row {
+                own: COUNT,
+                ..NAMED
+            },
+        ),
+        CommandType::SendData => channel_plan(d, Handler::Send, Row { own: DATA, ..NAMED }),
+        CommandType::GetChannelStatus => channel_plan(d, Handler::Bare, BARE),
+    };
+    Some(plan)
 }
 
-// So many where objects may stand, and none where not.
-fn where_allowed(may: bool, count: u8) -> u8
-    ensures { result ≡ (may ⇒ count else 0) }
+// Whether the value of a bearer, object 35, has the length of its type.
+fn bearer_fits(value: &[u8]) -> bool
+    ensures { result ≡ bearer_fits value.now }
 {
-    if may {
-        return count;
-    }
-    0
-}
-
-// Whether a type requires an object of a number.
-fn required(row: Row, number: u16) -> bool
-    ensures { result ≡ member number (needed row) }
-{
-    if number == DETAILS {
-        return true;
-    }
-    if number == DEVICES {
-        return true;
-    }
-    if number == row.own {
-        return true;
-    }
-    if number == row.further {
-        return true;
-    }
-    false
-}
-
-// How often an object of a number may stand.
-fn times(row: Row, number: u16) -> u8
-    ensures { result ≡ times_by row number }
-{
-    if required(row, number) {
-        return 1;
-    }
-    match number {
-        ALPHA | ICON => where_allowed(row.named, 1),
-        TRANSPORT | NETWORK => where_allowed(row.opening, 1),
-        DURATION | TEXT | ADDRESS => where_allowed(row.opening, 2),
-        _ => 0,
-    }
-}
-
-// The slot of an object number: its own for each that a row may have, and 0 for all that are higher.
-fn slot(number: u16) -> usize
-    ensures { (result ≡ slot_of number) × (result < slots) }
-{
-    if number < SLOTS {
-        return number as usize;
-    }
-    0
-}
-
-// Whether a bearer, object 35, has the length of its type.
-fn bearer_fits(s: &[u8], start: usize, len: usize) -> bool
-    requires { start + len ≤ length s.now }
-    ensures { result ≡ bearer_fits (part start (start + len) s.now) }
-{
-    if len == 0 {
-        return false;
-    }
-    let kind = s[start];
-    match kind {
-        0x02 => len == 7,
-        0x03 => len == 1,
+    match value {
+        [] => false,
+        [0x02, ..] => value.len() == 7,
+        [0x03, ..] => value.len() == 1,
         _ => true,
     }
 }
 
 // Whether the value of an object has the length of its number.
-fn fits(number: u16, s: &[u8], start: usize, len: usize) -> bool
-    requires { start + len ≤ length s.now }
-    ensures { result ≡ length_fits number (part start (start + len) s.now) }
+fn fits(number: u16, value: &[u8]) -> bool
+    ensures { result ≡ length_fits number value.now }
 {
+    let len = value.len();
     match number {
         DETAILS | TIME | TRANSPORT => len == 3,
         DEVICES | DURATION | ICON | SIZE => len == 2,
         TIMER | COUNT => len == 1,
-        BEARER => bearer_fits(s, start, len),
+        BEARER => bearer_fits(value),
         _ => true,
     }
 }
@@ -340,128 +261,135 @@ struct Survey {
 
 impl Survey {
     // One object more: whether it counts, whether it has its length, and whether it is flagged.
-    fn note(self, counts: bool, fit: bool, flag: bool) -> Survey
-        ensures { result ≡ noted self counts fit flag }
+    fn note(&mut self, counts: bool, fit: bool, flag: bool)
+        ensures { self.new ≡ noted self.old counts fit flag }
     {
         if counts {
-            return Survey {
-                flagged: self.flagged,
-                ignored: self.ignored,
-                misfit: self.misfit || !fit,
-            };
+            self.misfit |= !fit;
+            return;
         }
-        Survey {
-            flagged: self.flagged || flag,
-            ignored: true,
-            misfit: self.misfit,
-        }
+        self.ignored = true;
+        self.flagged |= flag;
     }
 }
 
-// What is kept of the first object in a slot: what is there once one stood, or what is now.
-fn first_of(seen: u8, there: u16, now: u16) -> u16
-    ensures { result ≡ first_of seen there now }
+// The slot of an object number: its own for each that a row may have, and 0 for all that are higher.
+fn slot(number: u16) -> usize
+    ensures { (result ≡ slot_of number) × (result < slots) }
 {
-    if seen == 0 {
-        return now;
+    if number < SLOTS {
+        return usize::from(number);
     }
-    there
+    0
 }
 
-// What a walk over a command's objects found: what their survey did, whether it came to the end, and where the values of 02, of the type's own object, of its further one and of 3C start, 0 where none stands.
+// What was met in each slot: how many objects, and where the value of the first starts, 0 where none stands.
+// Kept: two arrays: one of pairs is 288 bytes, more than are filled without a call.
+#[derive(Drop)]
+struct Met {
+    counts: [u8; 72],
+    starts: [u16; 72],
+}
+
+impl Met {
+    // One object more, whose value starts there; tells how many stand in its slot before it.
+    fn meet(&mut self, number: u16, start: u16) -> u8
+        requires { (length self.old.counts ≡ slots) × (length self.old.starts ≡ slots) × (get_or self.old.counts (slot_of number) 0 < 255) }
+        ensures before { result ≡ get_or self.old.counts (slot_of number) 0 }
+        ensures after { self.new ≡ met self.old (slot_of number) start }
+    {
+        let k = slot(number);
+        let before = self.counts[k];
+        if before == 0 {
+            self.starts[k] = start;
+        }
+        self.counts[k] = before + 1;
+        before
+    }
+
+    // Where the value of the first object of a number starts, if one stands.
+    fn place(&self, number: u16) -> Option<usize>
+        requires { length self.now.starts ≡ slots }
+        ensures { result ≡ place_in self.now number }
+    {
+        match self.starts[slot(number)] {
+            0 => None,
+            start => Some(usize::from(start)),
+        }
+    }
+}
+
+// What a walk over a command's objects found: their survey, and where the values of 02, of the type's own object, of its further one and of 3C start, where they stand.
 #[derive(Clone, Copy)]
 struct Sorted {
-    flagged: bool,
-    ignored: bool,
-    misfit: bool,
-    whole: bool,
-    devices: u16,
-    own: u16,
-    further: u16,
-    transport: u16,
+    survey: Survey,
+    devices: Option<usize>,
+    own: Option<usize>,
+    further: Option<usize>,
+    transport: Option<usize>,
 }
 
-// What was found, from where the first value of each slot starts.
-fn sum_up(starts: &[u16; 72], row: Row, survey: Survey, whole: bool) -> Sorted
-    requires { (length starts.now ≡ slots) × (row.own < slots) × (row.further < slots) }
-    ensures { result ≡ sorted_by starts.now row survey whole }
-{
-    Sorted {
-        flagged: survey.flagged,
-        ignored: survey.ignored,
-        misfit: survey.misfit,
-        whole,
-        devices: starts[DEVICES as usize],
-        own: starts[row.own as usize],
-        further: starts[row.further as usize],
-        transport: starts[TRANSPORT as usize],
-    }
+impl Sorted {
+    // Nothing was found.
+    const NOTHING: Sorted = Sorted {
+        survey: Survey {
+            flagged: false,
+            ignored: false,
+            misfit: false,
+        },
+        devices: None,
+        own: None,
+        further: None,
+        transport: None,
+    };
 }
 
-// Goes through the objects of a command whose type has this row; the value of the first, which is 01, starts at first.
-fn go_through(s: &[u8], row: Row, first: usize) -> Sorted
+// Goes through the objects of a command whose type has this row, to the end or to a fault; the value of the first, which is 01, starts at first.
+fn go_through(s: &[u8], row: Row, first: usize) -> Result<Sorted, Ending>
     requires { (length s.now ≤ 256) × Headed s.now first × RowFor row (the_details s.now) }
     ensures { Sorts result s.now row }
 {
-    let mut counts = [0u8; 72];
-    let mut starts = [0u16; 72];
-    counts[1] = 1;
-    starts[1] = first as u16;
-    let mut survey = Survey {
-        flagged: false,
-        ignored: false,
-        misfit: false,
+    let mut met = Met {
+        counts: [0; 72],
+        starts: [0; 72],
     };
+    met.meet(DETAILS, first as u16);
+    let mut v = Sorted::NOTHING;
     let mut c = Cursor { at: first + 3 };
-    let whole = loop {
-        let at = c.at;
-        if s.len() <= at {
-            break true;
-        }
-        match c.object(s) {
-            Found::Object(number, flag, start, len, next) => {
-                let k = slot(number);
-                let seen = counts[k];
-                counts[k] = seen + 1;
-                starts[k] = first_of(seen, starts[k], start as u16);
-                let counted = seen < times(row, number);
-                survey = survey.note(counted, fits(number, s, start, len), flag);
-                c = next;
-            }
-            Found::Fault(_) => break false,
-        }
-    };
-    sum_up(&starts, row, survey, whole)
+    while c.at < s.len() {
+        let object = c.object(s)?;
+        let number = object.number;
+        let start = object.start;
+        let counts = met.meet(number, start as u16) < row.times(number);
+        let fit = fits(number, &s[start..start + object.len]);
+        v.survey.note(counts, fit, object.flagged);
+        c = object.next;
+    }
+    v.devices = met.place(DEVICES);
+    v.own = met.place(row.own);
+    v.further = met.place(row.further);
+    v.transport = met.place(TRANSPORT);
+    Ok(v)
 }
 
-// Where a command's objects start, or that its outer frame is wrong.
-#[derive(Clone, Copy)]
-pub enum Framed {
-    At(usize),
-    Not,
-}
+// The first byte of a command.
+const COMMAND_TAG: u8 = 0xD0;
 
-// The outer frame: D0, a length, and exactly that many bytes.
-pub fn frame_start(s: &[u8]) -> Framed
+// Where a command's objects start, if its outer frame is right: D0, a length, and exactly that many bytes.
+pub fn frame_start(s: &[u8]) -> Option<usize>
     ensures { Frames result s.now }
 {
-    if s.len() == 0 {
-        return Framed::Not;
+    if *s.first()? != COMMAND_TAG {
+        return None;
     }
-    let first = s[0];
-    if first != 0xD0 {
-        return Framed::Not;
+    let length = length_at(s, 1)?;
+    if s.len() - length.start != length.count {
+        return None;
     }
-    let Sized::By(len, start) = length_at(s, 1) else {
-        return Framed::Not;
-    };
-    if s.len() - start == len {
-        return Framed::At(start);
-    }
-    Framed::Not
+    Some(length.start)
 }
 
-// What is asked: the details, the handler, where it goes, whether an object was ignored, where the type's own value stands, and where those of its further object and of 3C start, 0 where no 3C stands.
+// What is asked: the details, the handler, where it goes, whether an object was ignored, where the type's own value stands, and where those of its further object and of 3C start, if a 3C stands.
 #[derive(Clone, Copy)]
 pub struct Request {
     pub details: Details,
@@ -471,115 +399,77 @@ pub struct Request {
     pub start: usize,
     pub len: usize,
     pub further: usize,
-    pub transport: usize,
+    pub transport: Option<usize>,
 }
 
-// The reading of a command's objects: an error with its details, or what is asked.
+// An error of a command: its details, and the result that is told.
 #[derive(Clone, Copy)]
-pub enum Read {
-    Wrong(Details, u8),
-    Asked(Request),
-}
-
-// Step 8 once the objects are there and have their lengths, and what is asked.
-fn settle(s: &[u8], d: Details, plan: Plan, v: Sorted) -> Read
-    requires { Fitted s.now d plan v }
-    ensures { (p : List ℕ) → Typed p s.now → Reads result p s.now }
-{
-    let at = v.devices as usize;
-    let from = DeviceIdentity(s[at]);
-    let to = DeviceIdentity(s[at + 1]);
-    if !is_addressed(d.kind, from, to) {
-        return Read::Wrong(d, Results::DATA_NOT_UNDERSTOOD);
-    }
-    let handler = plan.handler;
-    let start = v.own as usize;
-    // The last byte of a length, which stands before the value, is how long it is.
-    let len = s[start - 1];
-    Read::Asked(Request {
-        details: d,
-        handler,
-        destination: to,
-        ignored: v.ignored,
-        start,
-        len: len as usize,
-        further: v.further as usize,
-        transport: v.transport as usize,
-    })
-}
-
-// Whether the required objects besides 01 stand somewhere.
-fn all_stand(devices: u16, own: u16, further: u16) -> bool
-    ensures { result ≡ all_stand devices own further }
-{
-    if devices == 0 {
-        return false;
-    }
-    if own == 0 {
-        return false;
-    }
-    if further == 0 {
-        return false;
-    }
-    true
+pub struct Wrong {
+    pub details: Details,
+    pub result: u8,
 }
 
 // Steps 6 to 8 of a command whose type has this plan.
-fn read_known(s: &[u8], d: Details, plan: Plan, v: Sorted) -> Read
-    requires { Begun s.now d plan v }
-    ensures { (p : List ℕ) → Typed p s.now → Reads result p s.now }
+fn read_known(s: &[u8], details: Details, plan: Plan, v: Sorted) -> Result<Request, u8>
+    requires { Begun s.now details plan v }
+    ensures { (p : List ℕ) → Typed p s.now → Finds result details p s.now }
 {
-    if v.flagged {
-        return Read::Wrong(d, Results::DATA_NOT_UNDERSTOOD);
+    if v.survey.flagged {
+        return Err(Results::DATA_NOT_UNDERSTOOD);
     }
-    if !all_stand(v.devices, v.own, v.further) {
-        return Read::Wrong(d, Results::VALUES_MISSING);
+    let (Some(devices), Some(start), Some(further)) = (v.devices, v.own, v.further) else {
+        return Err(Results::VALUES_MISSING);
+    };
+    if v.survey.misfit {
+        return Err(Results::DATA_NOT_UNDERSTOOD);
     }
-    if v.misfit {
-        return Read::Wrong(d, Results::DATA_NOT_UNDERSTOOD);
+    let source = DeviceIdentity(s[devices]);
+    let destination = DeviceIdentity(s[devices + 1]);
+    if !is_addressed(details.kind, source, destination) {
+        return Err(Results::DATA_NOT_UNDERSTOOD);
     }
-    settle(s, d, plan, v)
+    Ok(Request {
+        details,
+        handler: plan.handler,
+        destination,
+        ignored: v.survey.ignored,
+        start,
+        // The last byte of a length, which stands before the value, is how long it is.
+        len: usize::from(s[start - 1]),
+        further,
+        transport: v.transport,
+    })
 }
 
 // Steps 4 and 5 of a command whose type is not one of the table.
-fn read_unknown(s: &[u8], d: Details) -> Read
-    requires { Detailed s.now d × (known d.kind ≡ false) }
-    ensures { (p : List ℕ) → Reads result p s.now }
+fn read_unknown(s: &[u8], details: Details) -> u8
+    requires { Detailed s.now details × (known details.kind ≡ false) }
+    ensures { (p : List ℕ) → Finds (Err result) details p s.now }
 {
-    let stop = walk(s);
-    let ending = stop.ending;
-    match ending {
-        Ending::End => Read::Wrong(d, Results::TYPE_NOT_UNDERSTOOD),
-        Ending::BadTag => Read::Wrong(d, Results::DATA_NOT_UNDERSTOOD),
-        Ending::BadLength => Read::Wrong(d, Results::DATA_NOT_UNDERSTOOD),
-        Ending::CutValue => Read::Wrong(d, Results::DATA_NOT_UNDERSTOOD),
+    match walk(s).ending {
+        Ending::End => Results::TYPE_NOT_UNDERSTOOD,
+        _ => Results::DATA_NOT_UNDERSTOOD,
     }
 }
 
 // Steps 4 to 8 of a command whose type has this plan; its first value starts at first.
-fn read_planned(profile: &[u16], s: &[u8], d: Details, plan: Plan, first: usize) -> Read
-    requires { Detailed s.now d × PlanOf plan d × Headed s.now first × (profile_size ≤ length profile.now) }
-    ensures { Reads result profile.now s.now }
+fn read_planned(
+    profile: &[u16],
+    s: &[u8],
+    details: Details,
+    plan: Plan,
+    first: usize,
+) -> Result<Request, u8>
+    requires { Detailed s.now details × PlanOf plan details × Headed s.now first × (profile_size ≤ length profile.now) }
+    ensures { Finds result details profile.now s.now }
 {
-    let v = go_through(s, plan.row, first);
-    if !v.whole {
-        return Read::Wrong(d, Results::DATA_NOT_UNDERSTOOD);
-    }
+    let Ok(v) = go_through(s, plan.row, first) else {
+        return Err(Results::DATA_NOT_UNDERSTOOD);
+    };
     if !allowed(profile, plan.place) {
-        return Read::Wrong(d, Results::BEYOND_CAPABILITIES);
+        return Err(Results::BEYOND_CAPABILITIES);
     }
-    read_known(s, d, plan, v)
-}
-
-// Steps 4 to 8 once the details are known; their value starts at first.
-fn read_typed(profile: &[u16], s: &[u8], d: Details, first: usize) -> Read
-    requires { Detailed s.now d × Headed s.now first × (profile_size ≤ length profile.now) }
-    ensures { Reads result profile.now s.now }
-{
-    match plan_of(d) {
-        Planned::Of(plan) => read_planned(profile, s, d, plan, first),
-        Planned::Unknown => read_unknown(s, d),
-    }
+    read_known(s, details, plan, v)
 }
 
 // The details at a place.
@@ -594,50 +484,69 @@ fn details_at(s: &[u8], at: usize) -> Details
     }
 }
 
-// The first of a command's objects: the details and where their value starts, or the result that tells that there are none.
+// The first of a command's objects: the details, and where their value starts.
 #[derive(Clone, Copy)]
-enum First {
-    Told(Details, usize),
-    Absent(u8),
+struct First {
+    details: Details,
+    start: usize,
 }
 
 // Step 3: the first object is 01 with length 3; none or another one is 36, a faulty one 32.
-fn first_object(s: &[u8]) -> First
+fn first_object(s: &[u8]) -> Result<First, u8>
     ensures { Firsts result s.now }
 {
-    if s.len() == 0 {
-        return First::Absent(Results::VALUES_MISSING);
+    if s.is_empty() {
+        return Err(Results::VALUES_MISSING);
     }
     let c = Cursor { at: 0 };
-    match c.object(s) {
-        Found::Object(number, _, start, len, _) => {
-            if number != DETAILS {
-                return First::Absent(Results::VALUES_MISSING);
-            }
-            if len != 3 {
-                return First::Absent(Results::VALUES_MISSING);
-            }
-            First::Told(details_at(s, start), start)
-        }
-        Found::Fault(_) => First::Absent(Results::DATA_NOT_UNDERSTOOD),
+    let Ok(object) = c.object(s) else {
+        return Err(Results::DATA_NOT_UNDERSTOOD);
+    };
+    if object.number != DETAILS {
+        return Err(Results::VALUES_MISSING);
+    }
+    if object.len != 3 {
+        return Err(Results::VALUES_MISSING);
+    }
+    let start = object.start;
+    Ok(First {
+        details: details_at(s, start),
+        start,
+    })
+}
+
+// Steps 4 to 8 once the first object is known.
+fn read_typed(profile: &[u16], s: &[u8], first: First) -> Result<Request, u8>
+    requires { Detailed s.now first.details × Headed s.now first.start × (profile_size ≤ length profile.now) }
+    ensures { Finds result first.details profile.now s.now }
+{
+    let details = first.details;
+    match plan_of(details) {
+        Some(plan) => read_planned(profile, s, details, plan, first.start),
+        None => Err(read_unknown(s, details)),
     }
 }
 
-// Details 00 00 00.
-const ZEROS: Details = Details {
-    number: 0,
-    kind: 0,
-    qualifier: 0,
-};
-
 // Reads the bytes of a command's objects: steps 3 to 8.
-pub fn read_objects(profile: &[u16], s: &[u8]) -> Read
+pub fn read_objects(profile: &[u16], s: &[u8]) -> Result<Request, Wrong>
     requires { (length s.now ≤ 256) × (profile_size ≤ length profile.now) }
     ensures { Reads result profile.now s.now }
 {
-    match first_object(s) {
-        First::Told(d, start) => read_typed(profile, s, d, start),
-        First::Absent(result) => Read::Wrong(ZEROS, result),
+    let first = match first_object(s) {
+        Ok(first) => first,
+        Err(result) => {
+            return Err(Wrong {
+                details: Details::ZEROS,
+                result,
+            });
+        }
+    };
+    match read_typed(profile, s, first) {
+        Ok(request) => Ok(request),
+        Err(result) => Err(Wrong {
+            details: first.details,
+            result,
+        }),
     }
 }
 
@@ -645,12 +554,12 @@ pub fn read_objects(profile: &[u16], s: &[u8]) -> Read
 pub fn details_told(s: &[u8]) -> Details
     ensures { result ≡ details_told s.now }
 {
-    let Framed::At(start) = frame_start(s) else {
-        return ZEROS;
+    let Some(start) = frame_start(s) else {
+        return Details::ZEROS;
     };
     match first_object(&s[start..]) {
-        First::Told(d, _) => d,
-        First::Absent(_) => ZEROS,
+        Ok(first) => first.details,
+        Err(_) => Details::ZEROS,
     }
 }
 
@@ -661,12 +570,9 @@ const REFUSED_SIZE: u32 = 0x1000002;
 pub fn at_hand(s: &[u8]) -> u32
     ensures { result ≡ at_hand s.now }
 {
-    if s.len() == 0 {
-        return REFUSED_SIZE;
-    }
-    if Limits::COMMAND < s.len() {
+    if s.is_empty() || Limits::COMMAND < s.len() {
         return REFUSED_SIZE;
     }
     let d = details_told(s);
-    0x10000 * d.number as u32 + 0x100 * d.kind as u32 + d.qualifier as u32
+    u32::from_be_bytes([0, d.number, d.kind, d.qualifier])
 }

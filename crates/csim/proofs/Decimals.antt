@@ -1,21 +1,24 @@
 -- A count and the decimal of a number: without a zero in front the digits of a number are those of its decimal.
 -- Assumes nothing.
 use Prim.Native.Nat.{ℕ, suc, ◌+◌, ◌-◌, ◌*◌, ◌/◌, ◌%◌, ◌≤◌, ◌<◌}
-use mathlib.Core.Path.{◌≡◌, refl, sym, ap, subst, ◌∙◌}
-use mathlib.Core.Logic.{◌⊎◌, inl, inr, ⊎_elim}
+use mathlib.Core.Path.{◌≡◌, sym, ap, subst, ◌∙◌}
+use mathlib.Core.Logic.{⊎_elim}
 use mathlib.Core.Bool.{Bool, true, false, ◌&&◌}
-use mathlib.Core.List.{List, [], ◌∷◌, ◌++◌, append-nil}
+use mathlib.Core.List.{List, [], ◌∷◌}
 use native.Mathlib.Omega.{arith}
-use lib.ListN.{length, get_or, drop, drop_of_length-le}
+use lib.ListN.{length, get_or, drop}
 use lib.Dec.{eqb, ltb, leb}
-use borrow.Author.Tests.{ltb-true, ltb-false, lt-ltb, le-ltb, leb-true, eqb-true, eqb-false, eq-eqb, ne_eqb}
+use borrow.Author.Tests.{lt-ltb, le-ltb, leb-true, eqb-true, eqb-false, eq-eqb, ne_eqb}
 use Rattle.rules.specs.Sound.{Each}
 use Rattle.rules.specs.Lines.{last_digit, zeros_before, decimal}
 use Rattle.rules.proofs.Laws.{stop, skip, both_left, both_right, and-false}
-use Rattle.csim.specs.Kinds.{leads}
 use Rattle.csim.specs.Records.{is_decimal, leading_zero, value_from, count_is}
 use Rattle.csim.specs.Proper.{Proper}
-use Rattle.csim.proofs.Scans.{leads_self, leads_true, decimal_within}
+use Rattle.std.specs.Cmp.Lexicographic.{pointwise}
+use Rattle.std.proofs.lemmas.Bool.{cases_lt}
+use Rattle.std.proofs.lemmas.Bool.Decides.{same_from_decides}
+use Rattle.std.proofs.lemmas.Slice.Eq.{bytes_eq-Decides}
+use Rattle.csim.proofs.Scans.{decimal_within}
 
 -- a zero in front: not of one digit, and of more by the first
 pub bare_short : (ds : List ℕ) → length ds ≤ 1 → false ≡ leading_zero ds
@@ -30,24 +33,6 @@ padded_long ds h = sym (ap (λ (b : Bool). b && eqb (get_or ds 0 0) 48) (lt-ltb 
 pub decimal_range : (c : ℕ) → is_decimal c ≡ true → (48 ≤ c) × (c ≤ 57)
 unfolding is_decimal
 decimal_range c e = (leb-true 48 c (both_left _ _ e), leb-true c 57 (both_right (leb 48 c) _ e))
-
--- two ways to ask one thing
-alike : (a b : Bool) → (a ≡ true → b ≡ true) → (b ≡ true → a ≡ true) → a ≡ b
-alike true b f g = sym (f refl)
-alike false true f g = g refl
-alike false false f g = refl
-
-refuted : (b : Bool) → (b ≡ true → ⊥) → b ≡ false
-refuted true k = absurd (k refl)
-refuted false k = refl
-
--- a number lies below another one or not
-below : (n k : ℕ) → (n < k) ⊎ (k ≤ n)
-below n k = split (ltb n k) refl
-  where
-    split : (b : Bool) → ltb n k ≡ b → (n < k) ⊎ (k ≤ n)
-    split true e = inl (ltb-true n k e)
-    split false e = inr (ltb-false n k e)
 
 last_decimal : (n : ℕ) → is_decimal (last_digit n) ≡ true
 last_decimal n = decimal_within (last_digit n) (omega arith) (omega arith)
@@ -106,7 +91,7 @@ from_digits h b v = record { proper = record { counting = record { digits = h; s
 
 pub decimal_gives : (n : ℕ) → n < 10000 → Gives (decimal n) n
 unfolding value_from
-decimal_gives n h = ⊎_elim one (λ k. ⊎_elim (two k) (λ l. ⊎_elim (three l) four (below n 1000)) (below n 100)) (below n 10)
+decimal_gives n h = ⊎_elim one (λ k. ⊎_elim (two k) (λ l. ⊎_elim (three l) four (cases_lt n 1000)) (cases_lt n 100)) (cases_lt n 10)
   where
     G : List ℕ → Type 0
     G ds = Gives ds n
@@ -206,13 +191,6 @@ module _ (ds : List ℕ) (n : ℕ) (p : Proper ds) (h : n < 10000) where
   unfolding count_is
   decimal_is e = eq-eqb (value_from 0 ds) n (ap (value_from 0) e ∙ (decimal_gives n h).value)
 
-  pub other_size : (k : ℕ) → k ≡ 0 + length (decimal n) → (length ds ≡ k → ⊥) → false ≡ count_is ds n
-  other_size k is ne = sym (refuted (count_is ds n) (λ e. let l = ap length (is_decimal_lem e) in ne (omega arith)))
-
-  pub same_size : (k : ℕ) → k ≡ 0 + length (decimal n) → length ds ≡ k → (b : Bool) → b ≡ leads (decimal n) ds → b ≡ count_is ds n
-  same_size k is size b u =
-      u ∙ alike (leads (decimal n) ds) (count_is ds n)
-      (λ e.
-      let l : length ds ≤ length (decimal n) = omega arith in
-      decimal_is (leads_true (decimal n) ds e ∙ ap (λ (r : List ℕ). decimal n ++ r) (drop_of_length-le ds l) ∙ append-nil (decimal n)))
-      (λ e. ap (leads (decimal n)) (is_decimal_lem e ∙ sym (append-nil (decimal n))) ∙ leads_self (decimal n) [])
+  -- as the code compares them
+  pub same_decimal : pointwise eqb ds (decimal n) ≡ count_is ds n
+  same_decimal = same_from_decides (pointwise eqb ds (decimal n)) (count_is ds n) (bytes_eq-Decides ds (decimal n)) (is_decimal_lem, decimal_is)

@@ -13,6 +13,7 @@ use lib.Dec.{eqb, ltb}
 use borrow.Author.Tests.{ltb-false, eqb-true, le-ltb, eq-eqb, ne_eqb}
 use Rattle.rules.specs.declared.Refusal.{Refusal}
 use Rattle.rules.specs.declared.Refusal.TheVariants.{NoRecord, WrongCount}
+use Rattle.std.specs.Prelude.{Option as CodeOption, Some, None}
 use Rattle.rules.specs.Checks.{◌⇒◌else◌, is_empty}
 use Rattle.rules.specs.Sound.{Each}
 use Rattle.rules.specs.Lines.{bytes_of, hex, decimal}
@@ -21,16 +22,15 @@ use Rattle.octets.specs.Parts.{part}
 use Rattle.text.proofs.Printing.{hex_size}
 use Rattle.csim.specs.declared.Kind.{Kind}
 use Rattle.csim.specs.declared.Kind.TheVariants.{Profile, Response, Envelope}
-use Rattle.csim.specs.declared.Shape.{Shape}
-use Rattle.csim.specs.declared.Shape.TheVariants.{Counted, Other}
-use Rattle.csim.specs.Kinds.{instruction_of, header_of, lead_of, leads}
+use Rattle.csim.specs.Kinds.{instruction_of, header_of, lead_of, leads, by_kind}
 use Rattle.csim.specs.Records.{imported, unfit, cleaned, opening, quoting, shape_of, leading_zero, value_from, count_is, checked, framed, counted, shaped, record_in, imports}
 use Rattle.csim.specs.Exports.{export_of, export_in, export_behind, exports}
 use Rattle.csim.specs.Logged.{is_plain, Logged, agrees, Miscounted}
 use Rattle.csim.proofs.Scans.{leads_true}
 use Rattle.csim.proofs.Shapes.{Shaping, shape_is, text_counted}
 use Rattle.csim.proofs.Decimals.{decimal_gives, decimal_only}
-use Rattle.csim.proofs.Telling.{bytes_double, first_kind, second_kind, third_kind, no_kind}
+use Rattle.csim.proofs.Telling.{bytes_double}
+use Rattle.csim.proofs.ByKind.{by_found, found_passes}
 use Rattle.csim.proofs.Characters.{Plain, Byte, each_left, each_right, cleaned_plain, plain_cleaned, decimals_plain, hex_plain, bytes_hex, hex_read}
 
 -- a test, either way
@@ -40,10 +40,10 @@ either_way false f g = g refl
 
 -- a frame that begins with the header of a kind is of that kind
 headed : (k : Kind) (ds r : List ℕ) → framed ds (some (header_of k ++ r)) ≡ checked k ds (header_of k ++ r)
-unfolding framed leads
-headed Profile ds r = first_kind _ _ _ refl
-headed Response ds r = second_kind _ _ _ refl refl
-headed Envelope ds r = third_kind _ _ _ refl refl refl
+unfolding framed leads by_kind ◌⇒◌else◌
+headed Profile ds r = refl
+headed Response ds r = refl
+headed Envelope ds r = refl
 
 -- what a line of the shape gives: its kind and data where both counts agree, else R18
 pub logged_imports : (l : List ℕ) (g : Logged l) → imports l ≡ (agrees l g ⇒ imported g.kind g.bytes else unfit WrongCount)
@@ -99,20 +99,23 @@ module _ (l : List ℕ) where
     by_header : (o : Option (List ℕ)) → leading_zero ds ≡ false → bytes_of quoted ≡ o → imports l ≡ framed ds o → Sorted
     unfolding Sorted framed
     by_header none bare o e = inl e
-    by_header (some s) bare o e =
-        either_way (leads (header_of Profile) s) (λ a. of_kind Profile s bare o a (e ∙ first_kind _ _ _ a))
-        (λ a. either_way (leads (header_of Response) s) (λ b. of_kind Response s bare o b (e ∙ second_kind _ _ _ a b))
-        (λ b. either_way (leads (header_of Envelope) s) (λ c. of_kind Envelope s bare o c (e ∙ third_kind _ _ _ a b c))
-        (λ c. inl (e ∙ no_kind _ _ _ a b c))))
+    by_header (some s) bare o e = by_first (by_kind headed_by Some None) refl
+      where
+        headed_by : Kind → Bool
+        headed_by j = leads (header_of j) s
+
+        by_first : (r : CodeOption Kind) → r ≡ by_kind headed_by Some None → Sorted
+        by_first None u = inl (e ∙ by_found headed_by (λ j. checked j ds s) (unfit NoRecord) None u)
+        by_first (Some j) u = of_kind j s bare o (found_passes headed_by j (sym u)) (e ∙ by_found headed_by (λ i. checked i ds s) (unfit NoRecord) (Some j) u)
 
     by_count : imports l ≡ counted ds quoted → Sorted
     unfolding Sorted counted
     by_count e = either_way (leading_zero ds) (λ z. inl (e ∙ stop _ _ _ z)) (λ z. by_header (bytes_of quoted) z refl (e ∙ skip _ _ _ z))
 
-  by_shape : (x : Shape) → x ≡ shape_of (cleaned l) → Sorted
+  by_shape : (x : CodeOption ℕ) → x ≡ shape_of (cleaned l) → Sorted
   unfolding Sorted imports record_in shaped ds quoted
-  by_shape Other e = inl (ap (λ (s : Shape). shaped s (cleaned l)) (sym e))
-  by_shape (Counted k) e = by_count k (shape_is (cleaned l) k e) (ap (λ (s : Shape). shaped s (cleaned l)) (sym e))
+  by_shape None e = inl (ap (λ (s : CodeOption ℕ). shaped s (cleaned l)) (sym e))
+  by_shape (Some k) e = by_count k (shape_is (cleaned l) k e) (ap (λ (s : CodeOption ℕ). shaped s (cleaned l)) (sym e))
 
 pub sorted : (l : List ℕ) → (imports l ≡ unfit NoRecord) ⊎ Logged l
 unfolding Sorted
@@ -246,10 +249,10 @@ export_import k d b h w = logged_imports (export_of k d) (logged k d b h w) ∙ 
 
 -- what import prints is what export takes
 named : (k : Kind) (s : List ℕ) → exports (lead_of k ++ s) ≡ export_in k (bytes_of s)
-unfolding exports leads export_behind
-named Profile s = first_kind _ _ _ refl
-named Response s = second_kind _ _ _ refl refl
-named Envelope s = third_kind _ _ _ refl refl refl
+unfolding exports leads export_behind by_kind ◌⇒◌else◌
+named Profile s = refl
+named Response s = refl
+named Envelope s = refl
 
 pub exports_record :
     (k : Kind) (d : List ℕ) → Each (λ (b : ℕ). b < 256) d → 1 ≤ length d → length d ≤ 255 → exports (lead_of k ++ hex d) ≡ some (export_of k d)

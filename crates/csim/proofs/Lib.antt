@@ -1,4 +1,5 @@
 pub mod Scans
+pub mod ByKind
 pub mod Shapes
 pub mod Decimals
 pub mod Telling

@@ -9,74 +9,60 @@ use lib.ListN.{length, get_or, take, drop, length-append, length-take, length-dr
 use borrow.Author.Rules.{part_to_end}
 use lib.Seq.{drop-drop, drop_at, take-suc, take_all, take-append_seam, get_or-drop, get_or_at}
 use borrow.Author.Tests.{eqb-true, eq-eqb, eqb-false, ne_eqb, le-leb, lt-leb, leb-false, not-false}
+use Rattle.std.specs.Prelude.{Option as CodeOption, Some, None}
+use Rattle.std.specs.List.{starts_with, ends_with}
+use lib.Dec.{eqb}
 use Rattle.rules.specs.Checks.{◌⇒◌else◌}
 use Rattle.rules.specs.Sound.{Each}
 use Rattle.rules.proofs.Laws.{stop, skip}
 use Rattle.octets.specs.Parts.{part}
 use Rattle.octets.proofs.Pastes.{part_parts}
-use Rattle.csim.specs.declared.Shape.{Shape}
-use Rattle.csim.specs.declared.Shape.TheVariants.{Counted, Other}
 use Rattle.csim.specs.Kinds.{leads}
 use Rattle.csim.specs.Records.{opening, quoting, is_decimal, digits_in, shape_behind, shape_of, counted, shaped, record_in}
 use Rattle.csim.specs.Proper.{Counting}
 use Rattle.csim.specs.Printed.{longest}
-use Rattle.csim.proofs.Scans.{leads_self, leads_true, leads_size, digits_decimal, digits_few, digits_front, digits_before}
+use Rattle.csim.proofs.Scans.{leads_starts, leads_ends, leads_self, leads_true, digits_decimal, digits_front, digits_before}
 
 -- by what the code finds, test by test
-module _ (c : List ℕ) (b : Bool) (u : b ≡ leads opening c) where
-  pub unopened : not b ≡ true → Other ≡ shape_of c
+module _ (c : List ℕ) (b : Bool) (u : b ≡ starts_with eqb c opening) where
+  pub unopened : not b ≡ true → None ≡ shape_of c
   unfolding shape_of
-  unopened f = sym (stop _ _ _ (ap not (sym u) ∙ f))
-
-  pub opened_long : not b ≡ false → 8 ≤ length c
-  opened_long f = leads_size opening c (sym u ∙ not-false b f)
+  unopened f = sym (stop _ _ _ (ap not (sym (u ∙ leads_starts opening c)) ∙ f))
 
   module _ (f : not b ≡ false) (k : ℕ) (is : k ≡ length (digits_in (part 8 (length c) c))) where
     behind : shape_behind k c ≡ shape_of c
     unfolding shape_of
-    behind = ap (λ (n : ℕ). shape_behind n c) (is ∙ ap (λ (r : List ℕ). length (digits_in r)) (part_to_end c 8)) ∙ sym (skip _ _ _ (ap not (sym u) ∙ f))
+    behind = ap (λ (n : ℕ). shape_behind n c) (is ∙ ap (λ (r : List ℕ). length (digits_in r)) (part_to_end c 8)) ∙ sym (skip _ _ _ (ap not (sym (u ∙ leads_starts opening c)) ∙ f))
 
-    pub count_within : 8 + k ≤ length c
-    count_within =
-        let o = opened_long f in
-        let n = digits_few (part 8 (length c) c) in
-        let l = ap length (part_to_end c 8) ∙ length-drop 8 c in
-        omega arith
-
-    pub uncounted : k ≡ 0 → Other ≡ shape_of c
+    pub uncounted : k ≡ 0 → None ≡ shape_of c
     unfolding shape_behind
     uncounted e = sym (stop _ _ _ (eq-eqb k 0 e)) ∙ behind
 
-    module _ (n : k ≡ 0 → ⊥) (q : Bool) (w : q ≡ leads quoting (part (8 + k) (length c) c)) where
+    module _ (n : k ≡ 0 → ⊥) (q : Bool) (w : q ≡ starts_with eqb (part (8 + k) (length c) c) quoting) where
       v : q ≡ leads quoting (drop (8 + k) c)
-      v = w ∙ ap (leads quoting) (part_to_end c (8 + k))
+      v = w ∙ leads_starts quoting (part (8 + k) (length c) c) ∙ ap (leads quoting) (part_to_end c (8 + k))
 
-      pub unquoted : not q ≡ true → Other ≡ shape_of c
+      pub unquoted : not q ≡ true → None ≡ shape_of c
       unfolding shape_behind
       unquoted g = sym (skip _ _ _ (ne_eqb k 0 n) ∙ stop _ _ _ (ap not (sym v) ∙ g)) ∙ behind
 
       module _ (g : not q ≡ false) where
-        pub quoted_long : 10 + k ≤ length c
-        quoted_long = let m = leads_size quoting (drop (8 + k) c) (sym v ∙ not-false q g) in let l = length-drop (8 + k) c in let o = count_within in omega arith
-
-        pub unended : length c ≤ 10 + k → Other ≡ shape_of c
+        pub unended : length c ≤ 10 + k → None ≡ shape_of c
         unfolding shape_behind
         unended h = sym (skip _ _ _ (ne_eqb k 0 n) ∙ skip _ _ _ (ap not (sym v) ∙ g) ∙ stop _ _ _ (le-leb (length c) (10 + k) h)) ∙ behind
 
-        module _ (h : 10 + k < length c) where
-          pub unclosed : (get_or c (length c - 1) 0 ≡ 34 → ⊥) → Other ≡ shape_of c
+        module _ (h : 10 + k < length c) (z : Bool) (x : z ≡ ends_with eqb c (34 ∷ [])) where
+          told : shape_of c ≡ (not z ⇒ None else Some k)
           unfolding shape_behind
-          unclosed e =
-              sym (skip _ _ _ (ne_eqb k 0 n) ∙ skip _ _ _ (ap not (sym v) ∙ g) ∙ skip _ _ _ (lt-leb (length c) (10 + k) h)
-              ∙ stop _ _ _ (ap not (ne_eqb (get_or c (length c - 1) 0) 34 e)))
-              ∙ behind
+          told =
+              sym behind ∙ skip _ _ _ (ne_eqb k 0 n) ∙ skip _ _ _ (ap not (sym v) ∙ g) ∙ skip _ _ _ (lt-leb (length c) (10 + k) h)
+              ∙ ap (λ (t : Bool). not t ⇒ None else Some k) (sym (x ∙ leads_ends c 34 (omega arith)))
 
-          pub closed : get_or c (length c - 1) 0 ≡ 34 → Counted k ≡ shape_of c
-          unfolding shape_behind
-          closed e =
-              sym (skip _ _ _ (ne_eqb k 0 n) ∙ skip _ _ _ (ap not (sym v) ∙ g) ∙ skip _ _ _ (lt-leb (length c) (10 + k) h)
-              ∙ skip _ _ _ (ap not (eq-eqb (get_or c (length c - 1) 0) 34 e)))
-              ∙ behind
+          pub unclosed : not z ≡ true → None ≡ shape_of c
+          unclosed e = sym (told ∙ stop _ _ _ e)
+
+          pub closed : not z ≡ false → Some k ≡ shape_of c
+          closed e = sym (told ∙ skip _ _ _ e)
 
 -- a line that has the shape: what is known of its count, and its text
 pub record Shaping (c : List ℕ) (k : ℕ) : Type 0 where
@@ -85,7 +71,7 @@ pub record Shaping (c : List ℕ) (k : ℕ) : Type 0 where
   pub text : c ≡ opening ++ (part 8 (8 + k) c ++ (quoting ++ (part (10 + k) (length c - 1) c ++ 34 ∷ [])))
 
 -- a test before the shape was passed
-passed : (b : Bool) (x : Shape) (k : ℕ) → (b ⇒ Other else x) ≡ Counted k → (b ≡ false) × (x ≡ Counted k)
+passed : (b : Bool) (x : CodeOption ℕ) (k : ℕ) → (b ⇒ None else x) ≡ Some k → (b ≡ false) × (x ≡ Some k)
 unfolding ◌⇒◌else◌
 passed true x k e = absurd (let z : ◌≡◌ {A = ℕ} 0 1 = cc in omega arith)
 passed false x k e = (refl, e)
@@ -127,7 +113,7 @@ module _ (c : List ℕ) (k : ℕ) where
             ∙ ap (λ (r : List ℕ). opening ++ r) (digits_front (drop 8 c) ∙ (λ i. sym ds i ++ drop (sym is i) (drop 8 c)) ∙ ap (λ (r : List ℕ). part 8 (8 + k) c ++ r) rest);
       }
 
-  pub shape_is : Counted k ≡ shape_of c → Shaping c k
+  pub shape_is : Some k ≡ shape_of c → Shaping c k
   unfolding shape_of shape_behind
   shape_is e =
       let o = passed _ _ k (sym e) in
@@ -141,7 +127,7 @@ module _ (c : List ℕ) (k : ℕ) where
       behind_count (not-false _ o.0) is (λ z. eqb-false _ 0 n.0 (sym is ∙ z)) (ap (λ (j : ℕ). leads quoting (drop j c)) (sym m) ∙ not-false _ q.0)
       (subst (λ (j : ℕ). j < length c) t (leb-false _ _ h.0)) (eqb-true _ 34 (not-false _ l.0))
     where
-      size : {n : ℕ} → Counted n ≡ Counted k → k ≡ n
+      size : {n : ℕ} → Some n ≡ Some k → k ≡ n
       size p = cc
 
 -- what stands between the quotes is no longer than the line
@@ -177,13 +163,20 @@ module _ (ds q : List ℕ) (h : Counting ds) where
         let size = sizes in
         let room : 8 + length ds ≡ length (opening ++ ds) = omega arith in
         let last : length c - 1 ≡ length ((opening ++ (ds ++ quoting)) ++ q) = let a = length-append (opening ++ (ds ++ quoting)) q in let b = front in omega arith in
-        let shape : shape_of c ≡ Counted (length ds) =
-        sym (closed c true (sym (ap (leads opening) is ∙ leads_self opening _)) refl (length ds) (sym (ap (λ (r : List ℕ). length (digits_in r)) (part_to_end c 8) ∙ k)) (λ z. omega (arith, z, h.some)) true
-        (sym (ap (leads quoting) (part_to_end c (8 + length ds) ∙ ap (drop (8 + length ds)) (is ∙ sym (append_assoc opening ds (quoting ++ (q ++ 34 ∷ [])))) ∙ drop_at (opening ++ ds) (quoting ++ (q ++ 34 ∷ [])) (8 + length ds) (sym room)) ∙ leads_self quoting (q ++ 34 ∷ [])))
-        refl (omega arith)
-        (ap (λ (r : List ℕ). get_or r (length c - 1) 0) (by_parts ∙ sym (append_assoc (opening ++ (ds ++ quoting)) q (34 ∷ [])))
-        ∙ get_or_at ((opening ++ (ds ++ quoting)) ++ q) 34 [] 0 (length c - 1) (sym last))) in
-        ap (λ (s : Shape). shaped s c) shape
+        let long : 10 + length ds < length c = omega arith in
+        let opened : starts_with eqb c opening ≡ true = leads_starts opening c ∙ ap (leads opening) is ∙ leads_self opening _ in
+        let digits : length ds ≡ length (digits_in (part 8 (length c) c)) = sym (ap (λ (r : List ℕ). length (digits_in r)) (part_to_end c 8) ∙ k) in
+        let rest : part (8 + length ds) (length c) c ≡ quoting ++ (q ++ 34 ∷ []) =
+        part_to_end c (8 + length ds)
+        ∙ ap (drop (8 + length ds)) (is ∙ sym (append_assoc opening ds (quoting ++ (q ++ 34 ∷ []))))
+        ∙ drop_at (opening ++ ds) (quoting ++ (q ++ 34 ∷ [])) (8 + length ds) (sym room) in
+        let comma : starts_with eqb (part (8 + length ds) (length c) c) quoting ≡ true = leads_starts quoting _ ∙ ap (leads quoting) rest ∙ leads_self quoting (q ++ 34 ∷ []) in
+        let end : get_or c (length c - 1) 0 ≡ 34 =
+        ap (λ (r : List ℕ). get_or r (length c - 1) 0) (by_parts ∙ sym (append_assoc (opening ++ (ds ++ quoting)) q (34 ∷ [])))
+        ∙ get_or_at ((opening ++ (ds ++ quoting)) ++ q) 34 [] 0 (length c - 1) (sym last) in
+        let quote : ends_with eqb c (34 ∷ []) ≡ true = leads_ends c 34 (omega arith) ∙ eq-eqb _ 34 end in
+        let shape = closed c true (sym opened) refl (length ds) digits (λ z. omega (arith, z, h.some)) true (sym comma) refl long true (sym quote) refl in
+        ap (λ (s : CodeOption ℕ). shaped s c) (sym shape)
         ∙ (λ i. counted (count i) (inner i))
       where
         count : part 8 (8 + length ds) c ≡ ds

@@ -1,8 +1,9 @@
 -- What the tools print, by what the code finds of a line.
 -- Assumes nothing.
 use Prim.Native.Nat.{ℕ, ◌+◌, ◌-◌, ◌*◌, ◌≤◌, ◌<◌}
-use mathlib.Core.Path.{◌≡◌, refl, sym, ap, ◌∙◌}
-use mathlib.Core.Bool.{Bool, true, false, not, ◌||◌}
+use mathlib.Core.Path.{◌≡◌, sym, ap, ◌∙◌}
+use mathlib.Core.Logic.{◌⊎◌, ⊎_elim}
+use mathlib.Core.Bool.{Bool, true, false, ◌||◌}
 use mathlib.Core.List.{List, [], ◌∷◌, ◌++◌, append_assoc}
 use mathlib.Core.Option.{Option, none, some}
 use native.Mathlib.Omega.{arith}
@@ -13,23 +14,25 @@ use lib.Dec.{ltb}
 use borrow.Author.Rules.{part_to_end}
 use borrow.Author.Tests.{lt-ltb, le-ltb, eq-eqb, ne_eqb}
 use Rattle.rules.specs.declared.Refusal.TheVariants.{NoRecord, WrongCount}
+use Rattle.std.specs.Prelude.{Option as CodeOption, Some, None, Result, Ok, Err, MatchResult}
+use Rattle.std.specs.Option.{option_map_or}
 use Rattle.rules.specs.Checks.{is_empty}
 use Rattle.rules.specs.Lines.{bytes_of, frame_of, hex, decimal}
-use Rattle.rules.specs.Command.{refused}
-use Rattle.rules.proofs.Laws.{stop, skip, or_right, empty_length}
+use Rattle.rules.proofs.Laws.{stop, skip, checks, or_right, empty_length}
 use Rattle.octets.specs.Parts.{part, overlaid}
 use Rattle.octets.proofs.Pastes.{front_over}
-use Rattle.text.specs.Prints.{line_of, Prints}
+use Rattle.text.specs.Prints.{Prints}
 use Rattle.text.specs.Frames.{readable, frame_bytes}
+use Rattle.text.proofs.Bounds.{Read}
 use Rattle.text.proofs.Bytes.{bytes_size}
 use Rattle.text.proofs.Printing.{prints_after, prints_as, hex_size, decimal_few}
 use Rattle.csim.specs.declared.Kind.{Kind}
-use Rattle.csim.specs.declared.Kind.TheVariants.{Profile, Response, Envelope}
-use Rattle.csim.specs.declared.Shape.{Shape}
-use Rattle.csim.specs.declared.Shape.TheVariants.{Counted, Other}
-use Rattle.csim.specs.Kinds.{instruction_of, header_of, lead_of, leads, by_kind}
-use Rattle.csim.specs.Records.{opening, quoting, cleaned, shape_of, leading_zero, count_is, checked, framed, counted, shaped, record_in, imports}
+use Rattle.csim.specs.Kinds.{header_of, lead_of, leads, by_kind}
+use Rattle.csim.specs.Records.{imported, unfit, opening, quoting, cleaned, shape_of, leading_zero, count_is, checked, framed, counted, shaped, record_in, imports}
 use Rattle.csim.specs.Exports.{export_of, export_in, export_behind, exports}
+use Rattle.csim.proofs.ByKind.{by_found, found_passes}
+use Rattle.csim.proofs.Scans.{leads_size}
+use Rattle.csim.proofs.Shapes.{Shaping, shape_is, quoted_few}
 use Rattle.csim.specs.Printed.{room, longest, record_line, import_line, csim_line, export_line}
 
 -- what was printed at the front of a buffer
@@ -56,216 +59,155 @@ pub bytes_double : (q s : List ℕ) → bytes_of q ≡ some s → 2 * length s �
 unfolding readable frame_bytes
 bytes_double q s e = ap (λ (o : Option (List ℕ)). 2 * length (frame_bytes o)) (sym e) ∙ bytes_size q (ap readable e)
 
--- which kind passes first
-module _ {A : Type 0} (t : Kind → Bool) (f : Kind → A) (other : A) where
-  pub first_kind : t Profile ≡ true → by_kind t f other ≡ f Profile
-  unfolding by_kind
-  first_kind e = stop _ _ _ e
-
-  pub second_kind : t Profile ≡ false → t Response ≡ true → by_kind t f other ≡ f Response
-  unfolding by_kind
-  second_kind d e = skip _ _ _ d ∙ stop _ _ _ e
-
-  pub third_kind : t Profile ≡ false → t Response ≡ false → t Envelope ≡ true → by_kind t f other ≡ f Envelope
-  unfolding by_kind
-  third_kind c d e = skip _ _ _ c ∙ skip _ _ _ d ∙ stop _ _ _ e
-
-  pub no_kind : t Profile ≡ false → t Response ≡ false → t Envelope ≡ false → by_kind t f other ≡ other
-  unfolding by_kind
-  no_kind c d e = skip _ _ _ c ∙ skip _ _ _ d ∙ skip _ _ _ e
-
--- a word and its blank are short
-pub lead_few : (k : Kind) → length (lead_of k) ≤ 9
-lead_few Profile = omega arith
-lead_few Response = omega arith
-lead_few Envelope = omega arith
-
 -- our line, piece by piece
 pub record_printed :
-    (k : Kind) (d : List ℕ) {before x y z : List ℕ} {at m n e : ℕ} → length d ≤ 255 → at + room ≤ length before →
-    Prints (lead_of k) m before at x → Prints (hex d) n x m y → Prints (10 ∷ []) e y n z → Prints (lead_of k ++ (hex d ++ 10 ∷ [])) e before at z
-record_printed k d h w p q r =
-    let few = lead_few k in
+    (k : Kind) (w d : List ℕ) {before x y z : List ℕ} {at m n e : ℕ} → w ≡ lead_of k → length w ≤ 9 → length d ≤ 255 → at + room ≤ length before →
+    Prints w m before at x → Prints (hex d) n x m y → Prints (10 ∷ []) e y n z → Prints (record_line (imported k d)) e before at z
+unfolding record_line
+record_printed k w d is few h l p q r =
     let size = hex_size d in
-    let both = length-append (lead_of k) (hex d) in
-    prints_as (append_assoc (lead_of k) (hex d) (10 ∷ [])) (prints_after (prints_after p q (omega arith)) r (omega arith))
+    let both = length-append w (hex d) in
+    prints_as (append_assoc w (hex d) (10 ∷ []) ∙ ap (λ (v : List ℕ). v ++ (hex d ++ 10 ∷ [])) is) (prints_after (prints_after p q (omega arith)) r (omega arith))
 
 -- the line of a log, piece by piece
 module _ (k : Kind) (d : List ℕ) where
   digits : List ℕ
   digits = decimal (2 * (5 + length d))
 
-  headed : ℕ → List ℕ
-  headed i = hex (0x80 ∷ i ∷ 0 ∷ 0 ∷ length d ∷ [])
-
-  pieces : ((((opening ++ digits) ++ quoting) ++ headed (instruction_of k)) ++ hex d) ++ (34 ∷ 10 ∷ []) ≡ export_of k d ++ 10 ∷ []
-  unfolding export_of hex digits headed
-  pieces =
-      append_assoc (((opening ++ digits) ++ quoting) ++ headed (instruction_of k)) (hex d) (34 ∷ 10 ∷ [])
-      ∙ append_assoc ((opening ++ digits) ++ quoting) (headed (instruction_of k)) (hex d ++ (34 ∷ 10 ∷ []))
-      ∙ append_assoc (opening ++ digits) quoting (headed (instruction_of k) ++ (hex d ++ (34 ∷ 10 ∷ [])))
-      ∙ append_assoc opening digits (quoting ++ (headed (instruction_of k) ++ (hex d ++ (34 ∷ 10 ∷ []))))
-      ∙ ap (λ (r : List ℕ). opening ++ (digits ++ (quoting ++ (headed (instruction_of k) ++ r)))) (sym (append_assoc (hex d) (34 ∷ []) (10 ∷ [])))
-      ∙ ap (λ (r : List ℕ). opening ++ r) (sym (append_assoc digits (quoting ++ (hex (header_of k ++ length d ∷ d) ++ 34 ∷ [])) (10 ∷ [])))
+  pieces : (((((opening ++ digits) ++ quoting) ++ hex (header_of k)) ++ hex (length d ∷ [])) ++ hex d) ++ (34 ∷ 10 ∷ []) ≡ export_of k d ++ 10 ∷ []
+  unfolding export_of hex digits
+  pieces = simp append_assoc
 
   pub csim_printed :
-      (i : ℕ) {before t u v w x y : List ℕ} {at a b c f g e : ℕ} → i ≡ instruction_of k → length d ≤ 255 → at + room ≤ length before →
+      (h : List ℕ) {before t u v w x y z : List ℕ} {at a b c f g i e : ℕ} → h ≡ header_of k → length d ≤ 255 → at + room ≤ length before →
       Prints opening a before at t → Prints (decimal (2 * (5 + length d))) b t a u → Prints quoting c u b v →
-      Prints (hex (0x80 ∷ i ∷ 0 ∷ 0 ∷ length d ∷ [])) f v c w → Prints (hex d) g w f x → Prints (34 ∷ 10 ∷ []) e x g y →
-      Prints (csim_line (some (export_of k d))) e before at y
-  unfolding csim_line digits headed
-  csim_printed i is h r p q o m n z =
-      let few = decimal_few (2 * (5 + length d)) in
+      Prints (hex h) f v c w → Prints (hex (length d ∷ [])) g w f x → Prints (hex d) i x g y → Prints (34 ∷ 10 ∷ []) e y i z →
+      Prints (csim_line (some (export_of k d))) e before at z
+  unfolding csim_line digits
+  csim_printed h is few l p q r o m n j =
       let size = hex_size d in
-      let five = hex_size (0x80 ∷ i ∷ 0 ∷ 0 ∷ length d ∷ []) in
-      let l₁ = length-append opening digits in
-      let l₂ = length-append (opening ++ digits) quoting in
-      let l₃ = length-append ((opening ++ digits) ++ quoting) (headed i) in
-      let l₄ = length-append (((opening ++ digits) ++ quoting) ++ headed i) (hex d) in
-      let o₁ : length opening ≡ 8 = refl in
-      let o₂ : length quoting ≡ 2 = refl in
-      let o₃ : length {A = ℕ} (0x80 ∷ i ∷ 0 ∷ 0 ∷ length d ∷ []) ≡ 5 = refl in
-      prints_as (ap (λ (j : ℕ). ((((opening ++ digits) ++ quoting) ++ headed j) ++ hex d) ++ (34 ∷ 10 ∷ [])) is ∙ pieces)
-      (prints_after (prints_after (prints_after (prints_after (prints_after p q (omega arith)) o (omega arith)) m (omega arith)) n (omega arith)) z (omega arith))
+      let head = hex_size h in
+      let one = hex_size (length d ∷ []) in
+      let four : length h ≡ 4 = ap length is in
+      let some = decimal_few (2 * (5 + length d)) in
+      prints_as (ap (λ (v : List ℕ). (((((opening ++ digits) ++ quoting) ++ hex v) ++ hex (length d ∷ [])) ++ hex d) ++ (34 ∷ 10 ∷ [])) is ∙ pieces)
+      (prints_after
+      (prints_after
+      (prints_after
+      (prints_after (prints_after (prints_after p q (omega arith)) r (simp length-append (omega arith))) o (simp length-append (omega arith)))
+      m (simp length-append (omega arith)))
+      n (simp length-append (omega arith)))
+      j (simp length-append (omega arith)))
 
--- a frame with the header of a kind
-module _ (k : Kind) (ds s before : List ℕ) (at r : ℕ) (after : List ℕ) where
-  pub no_data : length s < 6 → Prints (line_of (refused NoRecord)) r before at after → Prints (record_line (checked k ds s)) r before at after
-  unfolding checked record_line
-  no_data h w = prints_as (sym (ap record_line (stop _ _ _ (lt-ltb (length s) 6 h)))) w
-
-  module _ (h : 6 ≤ length s) (b : Bool) (u : b ≡ count_is ds (2 * length s)) where
-    pub miscounted : not b ≡ true → Prints (line_of (refused WrongCount)) r before at after → Prints (record_line (checked k ds s)) r before at after
-    unfolding checked record_line
-    miscounted f w = prints_as (sym (ap record_line (skip _ _ _ (le-ltb (length s) 6 h) ∙ stop _ _ _ (ap not (sym u) ∙ f)))) w
-
-    module _ (f : not b ≡ false) (n : ℕ) (is : n ≡ get_or s 4 0) where
-      pub misstated : (n ≡ length s - 5 → ⊥) → Prints (line_of (refused WrongCount)) r before at after → Prints (record_line (checked k ds s)) r before at after
-      unfolding checked record_line
-      misstated e w =
-          prints_as
-          (sym (ap record_line (skip _ _ _ (le-ltb (length s) 6 h) ∙ skip _ _ _ (ap not (sym u) ∙ f)
-          ∙ stop _ _ _ (ap not (ne_eqb (get_or s 4 0) (length s - 5) (λ z. e (is ∙ z)))))))
-          w
-
-      pub fitting : n ≡ length s - 5 → Prints (lead_of k ++ (hex (part 5 (length s) s) ++ 10 ∷ [])) r before at after → Prints (record_line (checked k ds s)) r before at after
-      unfolding checked record_line
-      fitting e w =
-          prints_as
-          (ap (λ (d : List ℕ). lead_of k ++ (hex d ++ 10 ∷ [])) (part_to_end s 5)
-          ∙ sym (ap record_line (skip _ _ _ (le-ltb (length s) 6 h) ∙ skip _ _ _ (ap not (sym u) ∙ f)
-          ∙ skip _ _ _ (ap not (eq-eqb (get_or s 4 0) (length s - 5) (sym is ∙ e))))))
-          w
-
--- a frame, by its header
-module _ (ds s before : List ℕ) (at r : ℕ) (after : List ℕ) (a : Bool) (u : a ≡ leads (header_of Profile) s) where
-  pub as_profile : a ≡ true → Prints (record_line (checked Profile ds s)) r before at after → Prints (record_line (framed ds (some s))) r before at after
+-- what a frame gives behind its count: by its kind, and what is wrong with it
+module _ (ds s : List ℕ) (o : CodeOption Kind) (u : o ≡ by_kind (λ (k : Kind). leads (header_of k) s) Some None) where
+  headed_as : framed ds (some s) ≡ option_map_or (λ (k : Kind). checked k ds s) o (unfit NoRecord)
   unfolding framed
-  as_profile e w = prints_as (ap record_line (sym (first_kind _ _ _ (sym u ∙ e)))) w
+  headed_as = by_found (λ (k : Kind). leads (header_of k) s) (λ (k : Kind). checked k ds s) (unfit NoRecord) o u
 
-  module _ (d : a ≡ false) (b : Bool) (v : b ≡ leads (header_of Response) s) where
-    pub as_response : b ≡ true → Prints (record_line (checked Response ds s)) r before at after → Prints (record_line (framed ds (some s))) r before at after
-    unfolding framed
-    as_response e w = prints_as (ap record_line (sym (second_kind _ _ _ (sym u ∙ d) (sym v ∙ e)))) w
+  pub unheaded : o ≡ None → framed ds (some s) ≡ unfit NoRecord
+  unheaded e = headed_as ∙ ap (λ (r : CodeOption Kind). option_map_or (λ (k : Kind). checked k ds s) r (unfit NoRecord)) e
 
-    module _ (f : b ≡ false) (c : Bool) (x : c ≡ leads (header_of Envelope) s) where
-      pub as_envelope : c ≡ true → Prints (record_line (checked Envelope ds s)) r before at after → Prints (record_line (framed ds (some s))) r before at after
-      unfolding framed
-      as_envelope e w = prints_as (ap record_line (sym (third_kind _ _ _ (sym u ∙ d) (sym v ∙ f) (sym x ∙ e)))) w
+  module _ (k : Kind) (e : o ≡ Some k) where
+    headed_by : framed ds (some s) ≡ checked k ds s
+    headed_by = headed_as ∙ ap (λ (r : CodeOption Kind). option_map_or (λ (j : Kind). checked j ds s) r (unfit NoRecord)) e
 
-      pub unheaded : c ≡ false → Prints (line_of (refused NoRecord)) r before at after → Prints (record_line (framed ds (some s))) r before at after
-      unfolding framed record_line
-      unheaded e w = prints_as (ap record_line (sym (no_kind _ _ _ (sym u ∙ d) (sym v ∙ f) (sym x ∙ e)))) w
+    pub no_data : length s < 6 → framed ds (some s) ≡ unfit NoRecord
+    unfolding checked
+    no_data h = headed_by ∙ grind checks
 
--- a count and the characters between the quotes
-module _ (ds q before : List ℕ) (at r : ℕ) (after : List ℕ) (b : Bool) (u : b ≡ leading_zero ds) where
-  pub padded_told : b ≡ true → Prints (line_of (refused NoRecord)) r before at after → Prints (record_line (counted ds q)) r before at after
-  unfolding counted record_line
-  padded_told e w = prints_as (ap record_line (sym (stop _ _ _ (sym u ∙ e)))) w
+    pub miscounted : 6 ≤ length s → count_is ds (2 * length s) ≡ false → framed ds (some s) ≡ unfit WrongCount
+    unfolding checked
+    miscounted h f = headed_by ∙ grind checks
 
-  module _ (f : b ≡ false) (h : length q ≤ longest) where
-    pub frame_told_lem : {s : List ℕ} → frame_of q ≡ some s → Prints (record_line (framed ds (some s))) r before at after → Prints (record_line (counted ds q)) r before at after
-    unfolding counted
-    frame_told_lem e w = prints_as (ap record_line (sym (skip _ _ _ (sym u ∙ f) ∙ ap (framed ds) (sym (short_frame q h) ∙ e)))) w
+    pub misstated : 6 ≤ length s → count_is ds (2 * length s) ≡ true → (get_or s 4 0 ≡ length s - 5 → ⊥) → framed ds (some s) ≡ unfit WrongCount
+    unfolding checked
+    misstated h f n = headed_by ∙ grind checks
 
-    pub unread_told : frame_of q ≡ none → Prints (line_of (refused NoRecord)) r before at after → Prints (record_line (counted ds q)) r before at after
-    unfolding counted framed record_line
-    unread_told e w = prints_as (ap record_line (sym (skip _ _ _ (sym u ∙ f) ∙ ap (framed ds) (sym (short_frame q h) ∙ e)))) w
+    pub fitting : 6 ≤ length s → count_is ds (2 * length s) ≡ true → get_or s 4 0 ≡ length s - 5 → framed ds (some s) ≡ imported k (drop 5 s)
+    unfolding checked
+    fitting h f n = headed_by ∙ grind checks
 
--- a line without blanks, by its shape
-module _ (c before : List ℕ) (at r : ℕ) (after : List ℕ) where
-  pub counted_told : (k : ℕ) → Counted k ≡ shape_of c → Prints (record_line (counted (part 8 (8 + k) c) (part (10 + k) (length c - 1) c))) r before at after → Prints (record_line (record_in c)) r before at after
+-- what a line without blanks gives, by its shape
+module _ (c : List ℕ) (o : CodeOption ℕ) (u : o ≡ shape_of c) where
+  pub unshaped : o ≡ None → record_in c ≡ unfit NoRecord
   unfolding record_in shaped
-  counted_told k e w = prints_as (ap (λ (s : Shape). record_line (shaped s c)) e) w
+  unshaped e = ap (λ (s : CodeOption ℕ). shaped s c) (sym u ∙ e)
 
-  pub other_told : Other ≡ shape_of c → Prints (line_of (refused NoRecord)) r before at after → Prints (record_line (record_in c)) r before at after
-  unfolding record_in shaped record_line
-  other_told e w = prints_as (ap (λ (s : Shape). record_line (shaped s c)) e) w
+  module _ (k : ℕ) (e : o ≡ Some k) where
+    pub shaping : Shaping c k
+    shaping = shape_is c k (sym e ∙ u)
 
--- a frame for a log
-module _ (k : Kind) (s before : List ℕ) (at r : ℕ) (after : List ℕ) where
-  wrong_size : is_empty s || ltb 255 (length s) ≡ true → Prints (line_of (refused NoRecord)) r before at after → Prints (csim_line (export_in k (some s))) r before at after
-  unfolding export_in csim_line
-  wrong_size e w = prints_as (ap csim_line (sym (stop _ _ _ e))) w
+    counted_in : record_in c ≡ counted (part 8 (8 + k) c) (part (10 + k) (length c - 1) c)
+    unfolding record_in shaped
+    counted_in = ap (λ (s : CodeOption ℕ). shaped s c) (sym u ∙ e)
 
-  pub empty_told : length s ≡ 0 → Prints (line_of (refused NoRecord)) r before at after → Prints (csim_line (export_in k (some s))) r before at after
-  empty_told e = wrong_size (ap (λ (b : Bool). b || ltb 255 (length s)) (sym (empty_length s) ∙ eq-eqb (length s) 0 e))
+    pub padded : leading_zero (part 8 (8 + k) c) ≡ true → record_in c ≡ unfit NoRecord
+    unfolding counted
+    padded z = counted_in ∙ stop _ _ _ z
 
-  pub long_told : 255 < length s → Prints (line_of (refused NoRecord)) r before at after → Prints (csim_line (export_in k (some s))) r before at after
-  long_told h = wrong_size (or_right (is_empty s) _ (lt-ltb 255 (length s) h))
+    pub framed_in : leading_zero (part 8 (8 + k) c) ≡ false → length c ≤ longest → record_in c ≡ framed (part 8 (8 + k) c) (frame_of (part (10 + k) (length c - 1) c))
+    unfolding counted
+    framed_in z h = counted_in ∙ skip _ _ _ z ∙ ap (framed (part 8 (8 + k) c)) (sym (short_frame (part (10 + k) (length c - 1) c) (quoted_few c k h)))
 
-  pub export_told : (length s ≡ 0 → ⊥) → length s ≤ 255 → Prints (csim_line (some (export_of k s))) r before at after → Prints (csim_line (export_in k (some s))) r before at after
-  unfolding export_in
-  export_told n h w =
-      let few : is_empty s || ltb 255 (length s) ≡ false = λ i. (sym (empty_length s) ∙ ne_eqb (length s) 0 n) i || le-ltb 255 (length s) h i in
-      prints_as (ap csim_line (sym (skip _ _ _ few))) w
+-- a line of a log: over the limit, or what its text without blanks gives
+pub import_long : (l : List ℕ) → longest < length l → import_line l ≡ record_line (unfit NoRecord)
+unfolding import_line record_line
+import_long l h = grind checks
 
--- the digits behind a word
-module _ (k : Kind) (l : List ℕ) (n : ℕ) (is : n ≡ length (lead_of k)) (h : length l ≤ longest) where
-  pub digits_read : frame_of (part n (length l) l) ≡ bytes_of (drop (length (lead_of k)) l)
-  digits_read =
-      let e : part n (length l) l ≡ drop (length (lead_of k)) l = part_to_end l n ∙ ap (λ (j : ℕ). drop j l) is in
-      ap frame_of e ∙ short_frame (drop (length (lead_of k)) l) (let z = length-drop (length (lead_of k)) l in omega arith)
+pub import_within : (l c : List ℕ) → length l ≤ longest → c ≡ cleaned l → import_line l ≡ record_line (record_in c)
+unfolding import_line imports
+import_within l c h e = skip _ _ _ (le-ltb longest (length l) h) ∙ ap (λ (s : List ℕ). record_line (record_in s)) (sym e)
 
-  pub behind_told : {o : Option (List ℕ)} {before after : List ℕ} {at r : ℕ} → frame_of (part n (length l) l) ≡ o → Prints (csim_line (export_in k o)) r before at after → Prints (csim_line (export_behind k l)) r before at after
-  unfolding export_behind
-  behind_told e w = prints_as (ap (λ (x : Option (List ℕ)). csim_line (export_in k x)) (sym e ∙ digits_read)) w
+-- and what is made of that
+pub made : {T E A B : Type 0} (h : A → B) (a : A) (f : T → A) (g : E → A) (r : Result T E) → MatchResult r (λ x. a ≡ f x) (λ e. a ≡ g e) → MatchResult r (λ x. h a ≡ h (f x)) (λ e. h a ≡ h (g e))
+made h a f g (Ok x) e = ap h e
+made h a f g (Err x) e = ap h e
 
--- a line of ours, by its word
-module _ (l before : List ℕ) (at r : ℕ) (after : List ℕ) where
-  pub export_long : longest < length l → Prints (line_of (refused NoRecord)) r before at after → Prints (export_line l) r before at after
-  unfolding export_line
-  export_long h w = prints_as (sym (stop _ _ _ (lt-ltb longest (length l) h))) w
+-- a line of ours: over the limit, without a word, or what its digits give
+pub export_long : (l : List ℕ) → longest < length l → export_line l ≡ csim_line none
+unfolding export_line csim_line
+export_long l h = grind checks
 
-  within : length l ≤ longest → {o : Option (List ℕ)} → exports l ≡ o → Prints (csim_line o) r before at after → Prints (export_line l) r before at after
-  unfolding export_line
-  within h e w = prints_as (ap csim_line (sym e) ∙ sym (skip _ _ _ (le-ltb longest (length l) h))) w
+module _ (l : List ℕ) (h : length l ≤ longest) (o : CodeOption Kind) (u : o ≡ by_kind (λ (k : Kind). leads (lead_of k) l) Some None) where
+  export_within : export_line l ≡ csim_line (option_map_or (λ (k : Kind). export_behind k l) o none)
+  unfolding export_line exports
+  export_within = skip _ _ _ (le-ltb longest (length l) h) ∙ ap csim_line (by_found (λ (k : Kind). leads (lead_of k) l) (λ (k : Kind). export_behind k l) none o u)
 
-  module _ (h : length l ≤ longest) (a : Bool) (u : a ≡ leads (lead_of Profile) l) where
-    pub export_profile : a ≡ true → Prints (csim_line (export_behind Profile l)) r before at after → Prints (export_line l) r before at after
-    unfolding exports
-    export_profile e w = within h (first_kind _ _ _ (sym u ∙ e)) w
+  pub unnamed : o ≡ None → export_line l ≡ csim_line none
+  unnamed e = export_within ∙ ap (λ (r : CodeOption Kind). csim_line (option_map_or (λ (k : Kind). export_behind k l) r none)) e
 
-    module _ (d : a ≡ false) (b : Bool) (v : b ≡ leads (lead_of Response) l) where
-      pub export_response : b ≡ true → Prints (csim_line (export_behind Response l)) r before at after → Prints (export_line l) r before at after
-      unfolding exports
-      export_response e w = within h (second_kind _ _ _ (sym u ∙ d) (sym v ∙ e)) w
+  module _ (k : Kind) (e : o ≡ Some k) where
+    pub lead_within : length (lead_of k) ≤ length l
+    lead_within = leads_size (lead_of k) l (found_passes (λ (j : Kind). leads (lead_of j) l) k (sym u ∙ e))
 
-      module _ (f : b ≡ false) (c : Bool) (x : c ≡ leads (lead_of Envelope) l) where
-        pub export_envelope : c ≡ true → Prints (csim_line (export_behind Envelope l)) r before at after → Prints (export_line l) r before at after
-        unfolding exports
-        export_envelope e w = within h (third_kind _ _ _ (sym u ∙ d) (sym v ∙ f) (sym x ∙ e)) w
+    -- the frame of the digits behind the word: no bytes, too many, or its line
+    export_framed : (w : List ℕ) (f : Option (List ℕ)) → w ≡ lead_of k → frame_of (part (length w) (length l) l) ≡ f → export_line l ≡ csim_line (export_in k f)
+    unfolding export_behind
+    export_framed w f is r =
+        let rest : part (length w) (length l) l ≡ drop (length (lead_of k)) l = part_to_end l (length w) ∙ ap (λ (v : List ℕ). drop (length v) l) is in
+        let few = length-drop (length (lead_of k)) l in
+        let read : bytes_of (drop (length (lead_of k)) l) ≡ f = sym (short_frame (drop (length (lead_of k)) l) (omega arith)) ∙ ap frame_of (sym rest) ∙ r in
+        export_within ∙ ap (λ (r : CodeOption Kind). csim_line (option_map_or (λ (j : Kind). export_behind j l) r none)) e ∙ ap (λ (b : Option (List ℕ)). csim_line (export_in k b)) read
 
-        pub unnamed : c ≡ false → Prints (line_of (refused NoRecord)) r before at after → Prints (export_line l) r before at after
-        unfolding exports csim_line
-        unnamed e w = within h (no_kind _ _ _ (sym u ∙ d) (sym v ∙ f) (sym x ∙ e)) w
+    pub asked_unread : (w : List ℕ) → w ≡ lead_of k → frame_of (part (length w) (length l) l) ≡ none → export_line l ≡ csim_line none
+    unfolding export_in
+    asked_unread w is r = export_framed w none is r
 
--- a line of a log
-module _ (l before : List ℕ) (at r : ℕ) (after : List ℕ) where
-  pub import_long : longest < length l → Prints (line_of (refused NoRecord)) r before at after → Prints (import_line l) r before at after
-  unfolding import_line
-  import_long h w = prints_as (sym (stop _ _ _ (lt-ltb longest (length l) h))) w
+    module _ (w : List ℕ) (is : w ≡ lead_of k) (n : ℕ) (frame : List ℕ) (r : Read (frame_of (part (length w) (length l) l)) n frame) where
+      s : List ℕ
+      s = take n frame
 
-  pub import_told : {c : List ℕ} → length l ≤ longest → c ≡ cleaned l → Prints (record_line (record_in c)) r before at after → Prints (import_line l) r before at after
-  unfolding import_line imports
-  import_told h e w = prints_as (ap (λ (s : List ℕ). record_line (record_in s)) e ∙ sym (skip _ _ _ (le-ltb longest (length l) h))) w
+      pub asked_none : (n ≡ 0) ⊎ ((n ≡ 0 → ⊥) × (255 < n)) → export_line l ≡ csim_line none
+      unfolding export_in s
+      asked_none z =
+          let wrong : is_empty s || ltb 255 (length s) ≡ true =
+          ⊎_elim (λ e. ap (λ (b : Bool). b || ltb 255 (length s)) (sym (empty_length s) ∙ eq-eqb (length s) 0 (sym r.size ∙ e)))
+          (λ h. or_right (is_empty s) _ (lt-ltb 255 (length s) (omega (arith, r.size, h.1)))) z in
+          export_framed w (some s) is r.bytes ∙ ap csim_line (stop _ _ _ wrong)
+
+      pub asked_fits : (n ≡ 0 → ⊥) → n ≤ 255 → export_line l ≡ csim_line (some (export_of k (take n frame)))
+      unfolding export_in s
+      asked_fits z h =
+          let few : is_empty s || ltb 255 (length s) ≡ false = λ i. (sym (empty_length s) ∙ ne_eqb (length s) 0 (λ e. z (r.size ∙ e))) i || le-ltb 255 (length s) (omega (arith, r.size)) i in
+          export_framed w (some s) is r.bytes ∙ ap csim_line (skip _ _ _ few)

@@ -1,5 +1,5 @@
 -- A line of a +CSIM log: its shape, its frame, and the checks in their order.
-use Rattle.std.specs.Prelude.{ℕ, ◌+◌, ◌-◌, ◌*◌, Bool, not, ◌&&◌, List, [], ◌∷◌, length, get_or, drop, eqb, leb, ltb}
+use Rattle.std.specs.Prelude.{ℕ, ◌+◌, ◌-◌, ◌*◌, Bool, not, ◌&&◌, List, [], ◌∷◌, length, get_or, drop, eqb, leb, ltb, Option as CodeOption, Some, None}
 use Rattle.std.proofs.Math.Option.{Option, none, some}
 use Rattle.rules.specs.declared.Refusal.{Refusal}
 use Rattle.rules.specs.declared.Refusal.TheVariants.{NoRecord, WrongCount}
@@ -7,8 +7,6 @@ use Rattle.rules.specs.Checks.{◌⇒◌else◌}
 use Rattle.rules.specs.Lines.{bytes_of}
 use Rattle.octets.specs.Parts.{part}
 use Rattle.csim.specs.declared.Kind.{Kind}
-use Rattle.csim.specs.declared.Shape.{Shape}
-use Rattle.csim.specs.declared.Shape.TheVariants.{Counted, Other}
 use Rattle.csim.specs.Kinds.{header_of, leads, by_kind}
 
 -- what a line gives: a kind with its data, or a refusal
@@ -43,17 +41,17 @@ digits_in [] = []
 digits_in (c ∷ l) = let rest = digits_in l in is_decimal c ⇒ c ∷ rest else []
 
 -- behind a count of k digits: a comma, a quote, and a last quote that is another one
-unfoldable pub shape_behind : ℕ → List ℕ → Shape
+unfoldable pub shape_behind : ℕ → List ℕ → CodeOption ℕ
 shape_behind k c =
-    eqb k 0 ⇒ Other else
-    not (leads quoting (drop (8 + k) c)) ⇒ Other else
-    leb (length c) (10 + k) ⇒ Other else
-    not (eqb (get_or c (length c - 1) 0) 34) ⇒ Other else
-    Counted k
+    eqb k 0 ⇒ None else
+    not (leads quoting (drop (8 + k) c)) ⇒ None else
+    leb (length c) (10 + k) ⇒ None else
+    not (eqb (get_or c (length c - 1) 0) 34) ⇒ None else
+    Some k
 
--- AT+CSIM=, the digits of a count, and what stands behind them
-unfoldable pub shape_of : List ℕ → Shape
-shape_of c = not (leads opening c) ⇒ Other else shape_behind (length (digits_in (drop 8 c))) c
+-- AT+CSIM=, the digits of a count, and what stands behind them: how many digits the count has, or none where the line has another shape
+unfoldable pub shape_of : List ℕ → CodeOption ℕ
+shape_of c = not (leads opening c) ⇒ None else shape_behind (length (digits_in (drop 8 c))) c
 
 -- more than one digit, of which the first is 0
 unfoldable pub leading_zero : List ℕ → Bool
@@ -85,9 +83,9 @@ unfoldable pub counted : List ℕ → List ℕ → Imported
 counted ds q = leading_zero ds ⇒ unfit NoRecord else framed ds (bytes_of q)
 
 -- a line without blanks, in capitals, by its shape; another shape is R17
-unfoldable pub shaped : Shape → List ℕ → Imported
-shaped Other c = unfit NoRecord
-shaped (Counted k) c = counted (part 8 (8 + k) c) (part (10 + k) (length c - 1) c)
+unfoldable pub shaped : CodeOption ℕ → List ℕ → Imported
+shaped None c = unfit NoRecord
+shaped (Some k) c = counted (part 8 (8 + k) c) (part (10 + k) (length c - 1) c)
 
 unfoldable pub record_in : List ℕ → Imported
 record_in c = shaped (shape_of c) c

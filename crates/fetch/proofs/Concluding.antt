@@ -16,8 +16,8 @@ use Rattle.rules.specs.Fetch.{stage, fetch}
 use Rattle.rules.proofs.Laws.{stop}
 use Rattle.octets.specs.Parts.{pasted, cleared}
 use Rattle.octets.proofs.Pastes.{take_pasted}
-use Rattle.rules.specs.declared.Ended.{Ended}
-use Rattle.rules.specs.declared.Ended.TheVariants.{Wrote, Refused}
+use Rattle.rules.specs.Words.{Ended}
+use Rattle.std.specs.Prelude.{Ok, Err}
 use Rattle.session.specs.Picture.{GoodIn, shown}
 use Rattle.session.specs.Calls.{Answers}
 use Rattle.session.proofs.Answers.{refuse_answers, quiet_answers}
@@ -37,11 +37,11 @@ module _ (t p r : List ℕ) (count : ℕ) (out : List ℕ) (stands : Partial r c
   Concluded t' p' r' e out' = Left-by (stage g) t' p' r' e out'
 
   -- some bytes are lacking
-  pub conclude_kept : (k : Stage) (n : ℕ) (r' : List ℕ) → GoodIn t p → k ≡ stage g → k ≡ Lacks n → r' ≡ set r count_at count → Concluded t p r' (Wrote 0) out
+  pub conclude_kept : (k : Stage) (n : ℕ) (r' : List ℕ) → GoodIn t p → k ≡ stage g → k ≡ Lacks n → r' ≡ set r count_at count → Concluded t p r' (Ok 0) out
   unfolding concluded is_lacking
   conclude_kept k n r' good is e set =
       let x = sym is ∙ e in
-      subst (λ (k : Stage). Left-by k t p r' (Wrote 0) out) (sym x)
+      subst (λ (k : Stage). Left-by k t p r' (Ok 0) out) (sym x)
       (record {
         answers = quiet_answers _ (shown t p) [] t p out good.sound refl refl good.shows;
         gathered = set ∙ stands_counted r count stands;
@@ -49,10 +49,10 @@ module _ (t p r : List ℕ) (count : ℕ) (out : List ℕ) (stands : Partial r c
       })
 
   -- too many are called for
-  pub conclude_long : (k : Stage) (r' : List ℕ) → GoodIn t p → k ≡ stage g → k ≡ Overlong → r' ≡ cleared r 0 gathered_size → Concluded t p r' (Refused CommandSize) out
+  pub conclude_long : (k : Stage) (r' : List ℕ) → GoodIn t p → k ≡ stage g → k ≡ Overlong → r' ≡ cleared r 0 gathered_size → Concluded t p r' (Err CommandSize) out
   unfolding concluded
   conclude_long k r' good is e clear =
-      subst (λ (k : Stage). Left-by k t p r' (Refused CommandSize) out) (sym (sym is ∙ e))
+      subst (λ (k : Stage). Left-by k t p r' (Err CommandSize) out) (sym (sym is ∙ e))
       (record {
         answers = refuse_answers _ t p out CommandSize good refl;
         gathered = clear ∙ record_cleared r (stands_size r count stands);
@@ -108,10 +108,10 @@ module _ (r s : List ℕ) (gathers : Gathers r) where
   -- R1
   pub fetch_short :
       (t p out : List ℕ) → GoodIn t p → length out < 255 →
-      Fetches (fetch (shown t p) (lending (length out)) held s) t p r (record { ended = Refused ShortBuffer; left = length s }) out out
+      Fetches (fetch (shown t p) (lending (length out)) held s) t p r (record { ended = Err ShortBuffer; left = length s }) out out
   unfolding fetch
   fetch_short t p out good h =
-      subst (λ (f : rules.Fetched). Fetches f t p r (record { ended = Refused ShortBuffer; left = length s }) out out) (sym (stop _ _ _ (lt-ltb (length out) 255 h)))
+      subst (λ (f : rules.Fetched). Fetches f t p r (record { ended = Err ShortBuffer; left = length s }) out out) (sym (stop _ _ _ (lt-ltb (length out) 255 h)))
       (record { leaves = record { answers = refuse_answers _ t p out ShortBuffer good refl; gathered = gathers.is; lacks = gathers.lacks }; left = refl })
 
   -- k bytes of it were brought

@@ -13,7 +13,7 @@ use Rattle.rules.specs.Checks.{◌⇒◌else◌, is_empty, same}
 use Rattle.rules.specs.Frames.{no_length, length_at}
 use Rattle.rules.specs.Fetch.{length_to_come, lacking_by, stage_by, stage}
 use Rattle.rules.proofs.Laws.{stop, skip, and-false, empty_length}
-use Rattle.objects.specs.Places.{Length}
+use Rattle.objects.specs.Places.{LengthAt}
 
 -- of n bytes behind a length so many are here, and k in all: none is lacking, too many, or some
 module _ (k n here : ℕ) where
@@ -81,7 +81,7 @@ module _ (s : List ℕ) (some : length s ≡ 0 → ⊥) where
       unfolding stage_by
       stage_unsized e = sym (sized ∙ ap (stage_by (length s)) e)
 
-      pub stage_sized : (n start : ℕ) → Length s 1 n start → lacking_by (length s) (n - (length s - start)) ≡ stage s
+      pub stage_sized : (n start : ℕ) → LengthAt s 1 n start → lacking_by (length s) (n - (length s - start)) ≡ stage s
       unfolding stage_by
       stage_sized n start l =
           ap (λ (k : ℕ). lacking_by (length s) (n - k)) (sym (length-drop start s)) ∙ sym (sized ∙ ap (stage_by (length s)) l.is)

@@ -9,7 +9,7 @@ use Rattle.rules.specs.Command.{answered, refusal, command, Terms}
 use Rattle.rules.specs.Fetch as rules
 use Rattle.rules.specs.Fetch.{stage}
 use Rattle.octets.specs.Parts.{pad}
-use Rattle.rules.specs.declared.Ended.{Ended}
+use Rattle.rules.specs.Words.{Ended}
 use Rattle.session.specs.Calls.{Answers}
 use Rattle.fetch.specs.declared.Fetched.{Fetched}
 

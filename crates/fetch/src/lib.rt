@@ -5,16 +5,15 @@ ghost use Rattle.std.specs.Prelude.{◌≡◌, [], ◌-◌, ◌≤◌, length, t
 ghost use Rattle.rules.specs.Command.{lending, command};
 ghost use Rattle.rules.specs.Fetch.{length_to_come, lacking_by, stage, fetch};
 ghost use Rattle.octets.specs.Parts.{pasted};
-ghost use Rattle.session.specs.Picture.{GoodIn, shown};
+ghost use Rattle.session.specs.Picture.{Good, view};
 ghost use Rattle.session.specs.Calls.{Answers};
 ghost use Rattle.fetch.specs.Gathers.{gathered_size, gathered_of, gathered_in, Gathers, Partial, brought, concluded, Leaves, Fetches};
 
 use modem::command_in;
-use objects::{Sized, length_at};
+use objects::length_at;
 use octets;
-use pool::Pool;
-use rules::{Ended, Limits, Refusal, Stage};
-use session::{Ledger, least};
+use rules::{Limits, Refusal, Stage};
+use session::Session;
 
 // What was gathered of a command: its bytes, 0 behind them, and last their count.
 #[derive(Drop)]
@@ -32,7 +31,7 @@ impl Gathered {
 // How a burst ended, and how many of its bytes are left.
 #[derive(Clone, Copy)]
 pub struct Fetched {
-    pub ended: Ended,
+    pub ended: Result<usize, Refusal>,
     pub left: usize,
 }
 
@@ -84,8 +83,8 @@ fn stage_of(s: &[u8]) -> Stage
         return Stage::Lacks(1);
     }
     match length_at(s, 1) {
-        Sized::By(len, start) => lacking(s.len(), len, s.len() - start),
-        Sized::Not => Stage::Decided,
+        Some(length) => lacking(s.len(), length.count, s.len() - length.start),
+        None => Stage::Decided,
     }
 }
 
@@ -100,7 +99,7 @@ fn bring(gathered: &mut [u8], held: usize, bytes: &[u8]) -> usize
         let count = held + taken;
         match stage_of(&gathered[..count]) {
             Stage::Lacks(n) => {
-                let end = taken + least(n, bytes.len() - taken);
+                let end = taken + n.min(bytes.len() - taken);
                 octets::put_part(gathered, count, bytes, taken, end);
                 taken = end;
             }
@@ -113,64 +112,61 @@ fn bring(gathered: &mut [u8], held: usize, bytes: &[u8]) -> usize
 
 // The gathered bytes go to the command call, and are gone.
 fn hand_on(
-    ledger: &mut [u16; Ledger::SIZE],
-    pool: &mut [u8; Pool::SIZE],
+    session: &mut Session,
     gathered: &mut [u8],
     count: usize,
     out: &mut [u8],
-) -> Ended
-    requires { GoodIn ledger.old pool.old × Partial gathered.old count }
-    ensures { Answers (command (shown ledger.old pool.old) (lending (length out.old)) (take count gathered.old)) ledger.new pool.new result out.old out.new × (gathered.new ≡ gathered_of []) }
+) -> Result<usize, Refusal>
+    requires { Good session.old × Partial gathered.old count }
+    ensures { Answers (command (view session.old) (lending (length out.old)) (take count gathered.old)) session.new.ledger session.new.pool result out.old out.new × (gathered.new ≡ gathered_of []) }
 {
-    let ended = command_in(ledger, pool, &gathered[..count], out);
+    let ended = command_in(session, &gathered[..count], out);
     octets::clear(gathered, 0, Gathered::SIZE);
     ended
 }
 
 // What the gathered bytes come to: they are kept, or dropped with R2, or go to the command call.
 fn conclude(
-    ledger: &mut [u16; Ledger::SIZE],
-    pool: &mut [u8; Pool::SIZE],
+    session: &mut Session,
     gathered: &mut [u8],
     count: usize,
     out: &mut [u8],
-) -> Ended
-    requires { GoodIn ledger.old pool.old × Partial gathered.old count }
-    ensures { Leaves (concluded (shown ledger.old pool.old) (lending (length out.old)) (take count gathered.old) [] (stage (take count gathered.old))) ledger.new pool.new gathered.new result out.old out.new }
+) -> Result<usize, Refusal>
+    requires { Good session.old × Partial gathered.old count }
+    ensures { Leaves (concluded (view session.old) (lending (length out.old)) (take count gathered.old) [] (stage (take count gathered.old))) session.new.ledger session.new.pool gathered.new result out.old out.new }
 {
     match stage_of(&gathered[..count]) {
         Stage::Lacks(_) => {
             gathered[Gathered::COUNT_AT] = count as u8;
-            Ended::Wrote(0)
+            Ok(0)
         }
         Stage::Overlong => {
             octets::clear(gathered, 0, Gathered::SIZE);
-            Ended::Refused(Refusal::CommandSize)
+            Err(Refusal::CommandSize)
         }
-        Stage::Decided => hand_on(ledger, pool, gathered, count, out),
+        Stage::Decided => hand_on(session, gathered, count, out),
     }
 }
 
-// A burst of bytes, over the record's two arrays and the gathered record.
+// A burst of bytes, over the lent record and the gathered one.
 pub fn fetch_in(
-    ledger: &mut [u16; Ledger::SIZE],
-    pool: &mut [u8; Pool::SIZE],
+    session: &mut Session,
     gathered: &mut [u8; Gathered::SIZE],
     bytes: &[u8],
     out: &mut [u8],
 ) -> Fetched
-    requires { GoodIn ledger.old pool.old × Gathers gathered.old }
-    ensures { Fetches (fetch (shown ledger.old pool.old) (lending (length out.old)) (gathered_in gathered.old) bytes.now) ledger.new pool.new gathered.new result out.old out.new }
+    requires { Good session.old × Gathers gathered.old }
+    ensures { Fetches (fetch (view session.old) (lending (length out.old)) (gathered_in gathered.old) bytes.now) session.new.ledger session.new.pool gathered.new result out.old out.new }
 {
     if out.len() < Limits::RESPONSE {
         return Fetched {
-            ended: Ended::Refused(Refusal::ShortBuffer),
+            ended: Err(Refusal::ShortBuffer),
             left: bytes.len(),
         };
     }
     let held = gathered[Gathered::COUNT_AT] as usize;
     let taken = bring(gathered, held, bytes);
-    let ended = conclude(ledger, pool, gathered, held + taken, out);
+    let ended = conclude(session, gathered, held + taken, out);
     Fetched {
         ended,
         left: bytes.len() - taken,

@@ -4,21 +4,23 @@ use Prim.Native.Nat.{ℕ, zero, suc, ◌+◌, ◌-◌, ◌≤◌, ◌<◌}
 use mathlib.Core.Path.{◌≡◌, refl, sym, ap, ◌∙◌}
 use mathlib.Core.List.{List, [], ◌∷◌, ◌++◌, append-nil}
 use native.Mathlib.Omega.{arith}
-use lib.ListN.{length, take, drop, replicate, length-append, length-drop, length-replicate, drop_of_length-le}
+use lib.ListN.{length, take, drop, replicate, length-append, length-take, length-drop, drop_of_length-le}
 use lib.Seq.{take-add, take_at, drop-drop, length-take-le}
 use lib.Dec.{ltb}
 use borrow.Author.Tests.{lt-ltb, le-ltb}
+use borrow.Rule.Slice.PartMut.{mid_of, put_mid}
 use Rattle.rules.specs.Checks.{◌⇒◌else◌}
 use Rattle.rules.proofs.Laws.{stop, skip, branch}
-use Rattle.octets.specs.Parts.{pasted, cleared, pad}
-use Rattle.octets.proofs.Pastes.{paste_after, length_pasted, length_pad}
-use Rattle.flow.specs.declared.Running.{Running}
+use Rattle.octets.specs.Parts.{pasted, pad}
+use Rattle.octets.proofs.Pastes.{paste_after, length_pasted}
+use Rattle.flow.specs.declared.Pending.{Pending}
 use Rattle.flow.specs.declared.Progress.{Progress}
 use Rattle.flow.specs.Flow.{kept_size, printed_size, Ends, Reader, Fed, feeds, piece, read_up_to, read_within}
-use Rattle.flow.specs.Holds.{View, Ready, reader_in, Goes, Keeps, Fills}
+use Rattle.flow.specs.Holds.{View, Held, line_of, reader_in, Goes, Keeps, Fills}
 use Rattle.octets.proofs.Stores.{paste_none}
 use Rattle.flow.proofs.Gathering.{piece_front, piece_some, piece_few}
 use Rattle.flow.proofs.Flows.{fed_pieces}
+use Rattle.flow.proofs.Feeding.{held_size}
 
 -- behind the first line of a list less is left
 rest_less : (c : ℕ) (s : List ℕ) → length (drop (length (piece (c ∷ s))) (c ∷ s)) ≤ length s
@@ -97,163 +99,142 @@ module _ {K : Type 0} (e : Ends K) where
       let m = piece_some s h in
       omega arith
 
--- the line's buffer with zeros behind what is kept
-module _ (line : List ℕ) (k : ℕ) (n : length line ≡ kept_size) (h : k ≤ kept_size) where
-  kept_size_lem : length (take k line) ≡ k
-  kept_size_lem = length-take-le k line (omega arith)
-
-  count : kept_size - k ≡ kept_size - length (take k line)
-  count = let e = kept_size_lem in omega arith
-
-  to_end : length line ≤ k + length (replicate {A = ℕ} (kept_size - k) 0)
-  to_end = let z = length-replicate {A = ℕ} (kept_size - k) 0 in omega arith
-
-  cleared_pad : cleared line k kept_size ≡ pad kept_size (take k line)
-  unfolding cleared pasted pad
-  cleared_pad =
-      ap (λ (l : List ℕ). take k line ++ (replicate (kept_size - k) 0 ++ l)) (drop_of_length-le line to_end)
-      ∙ ap (λ (l : List ℕ). take k line ++ l) (append-nil (replicate (kept_size - k) 0)) ∙ ap (λ (j : ℕ). take k line ++ replicate j 0) count
-
-  pad_front : take k (pad kept_size (take k line)) ≡ take k line
-  unfolding pad
-  pad_front = take_at (take k line) (replicate (kept_size - length (take k line)) 0) k kept_size_lem
-
-  pad_size : length (pad kept_size (take k line)) ≡ kept_size
-  pad_size = let e = kept_size_lem in length_pad kept_size (take k line) (omega arith)
-
 -- what is printed stands within the output
 place_within :
-    {M K : Type 0} {G : M → Type 0} {view : View M K} {f : Fed K} {d : Progress} {m : M} {line out : List ℕ} {at : ℕ} {out' : List ℕ} →
-    Goes G view f d m line out at out' → at ≤ length out → d.at ≤ length out'
+    {M K : Type 0} {view : View M K} {f : Fed K} {h : Held M} {end : ℕ} {out : List ℕ} {at : ℕ} {out' : List ℕ} → Goes view f h end out at out' → at ≤ length out →
+    end ≤ length out'
 unfolding pasted
-place_within {f = f} {out = out} {at = at} g h =
+place_within {f = f} {out = out} {at = at} g k =
     let e = ap length g.printed ∙ length-append (take at out) (f.out ++ drop (at + length f.out) out) in
-    let k = length-take-le at out h in
+    let l = length-take-le at out k in
     let m = length-append f.out (drop (at + length f.out) out) in
     omega (arith, g.place)
 
 pub fills_within :
-    {M K : Type 0} {G : M → Type 0} {view : View M K} {e : Ends K} {r : Reader K} {chunk : List ℕ} {d : Progress} {m : M} {line out out' : List ℕ} →
-    Fills G view e r chunk d m line out out' → d.at ≤ length out'
-fills_within h = place_within h.goes (omega arith)
+    {M K : Type 0} {view : View M K} {e : Ends K} {r : Reader K} {chunk : List ℕ} {h : Held M} {c : Progress} {out out' : List ℕ} → Fills view e r chunk h c out out' →
+    c.at ≤ length out'
+fills_within w = place_within w.goes (omega arith)
 
 -- between two lines of a chunk: the code holds what the reader has behind the bytes read, what that printed stands in the output, and what is read from here completes what is read of the chunk
-pub record Filling {M K : Type 0} (G : M → Type 0) (view : View M K) (e : Ends K) (x : Reader K) (s before : List ℕ) (c : Running) (m : M) (line out : List ℕ) (next at : ℕ) : Type 0 where
-  pub goes : Goes G view (feeds e x (take next s)) (record { running = c; next = next; at = at }) m line before 0 out
-  pub within : next ≤ length s
-  pub room : at ≤ length before
-  pub left : read_within e x s (length before) ≡ next + read_within e (reader_in view c m line) (drop next s) (length before - at)
+pub record Filling {M K : Type 0} (view : View M K) (e : Ends K) (x : Reader K) (s before : List ℕ) (h : Held M) (c : Progress) (out : List ℕ) : Type 0 where
+  pub goes : Goes view (feeds e x (take c.next s)) h c.at before 0 out
+  pub within : c.next ≤ length s
+  pub room : c.at ≤ length before
+  pub left : read_within e x s (length before) ≡ c.next + read_within e (reader_in view h) (drop c.next s) (length before - c.at)
 
 pub filling_none :
-    {M K : Type 0} {G : M → Type 0} (view : View M K) (e : Ends K) (c : Running) (m : M) (line s out : List ℕ) → Ready G c m line →
-    Filling G view e (reader_in view c m line) s out c m line out 0 0
+    {M K : Type 0} (view : View M K) (e : Ends K) (h : Held M) (s out : List ℕ) → Filling view e (reader_in view h) s out h (record { next = 0; at = 0 }) out
 unfolding feeds
-filling_none view e c m line s out y =
+filling_none view e h s out =
     record {
-      goes = record { ready = y; holds = refl; printed = paste_none out 0; place = refl };
+      goes = record { holds = refl; printed = paste_none out 0; place = refl };
       within = omega arith;
       room = omega arith;
-      left = let n : length out - 0 ≡ length out = omega arith in let t = ap (read_within e (reader_in view c m line) s) n in omega arith;
+      left = let n : length out - 0 ≡ length out = omega arith in let t = ap (read_within e (reader_in view h) s) n in omega arith;
     }
 
-module _ {M K : Type 0} {G : M → Type 0} {view : View M K} {e : Ends K} {x : Reader K} {s before : List ℕ} {c : Running} {m : M} {line out : List ℕ} {next at : ℕ}
-    (w : Filling G view e x s before c m line out next at) where
+module _ {M K : Type 0} {view : View M K} {e : Ends K} {x : Reader K} {s before : List ℕ} {h : Held M} {c : Progress} {out : List ℕ}
+    (w : Filling view e x s before h c out) where
   abbrev y : Reader K
-  y = reader_in view c m line
+  y = reader_in view h
 
   -- what is printed so far, and the reader behind it
   abbrev q : Fed K
-  q = feeds e x (take next s)
+  q = feeds e x (take c.next s)
 
   pub filling_size : length out ≡ length before
   filling_size = ap length w.goes.printed ∙ length_pasted before 0 q.out (omega (arith, w.goes.place, w.room))
 
-  module _ (h : next < length s) (k : at + printed_size ≤ length out) {d : Progress} {m' : M} {line' out' : List ℕ}
-      (g : Goes G view (feeds e y (piece (drop next s))) d m' line' out at out' × Keeps d c.len s next line line') where
+  module _ (some : c.next < length s) (k : printed_size ≤ length out - c.at) {h' : Held M} {d : Progress} {out' : List ℕ}
+      (g : Goes view (feeds e y (piece (drop c.next s))) h' d.at out c.at out') (p : Keeps d h.pending s c.next h'.pending) where
     abbrev l : List ℕ
-    l = piece (drop next s)
+    l = piece (drop c.next s)
 
-    some_left : 1 ≤ length (drop next s)
-    some_left = let t = length-drop next s in omega arith
+    some_left : 1 ≤ length (drop c.next s)
+    some_left = let t = length-drop c.next s in omega arith
 
-    pub filling_less : next < d.next
-    filling_less = let n = piece_some (drop next s) some_left in omega (arith, g.1.next)
+    pub filling_less : c.next < d.next
+    filling_less = let n = piece_some (drop c.next s) some_left in omega (arith, p.next)
 
     few : d.next ≤ length s
-    few = let t = length-drop next s in let n = piece_few (drop next s) in omega (arith, g.1.next, w.within)
+    few = let t = length-drop c.next s in let n = piece_few (drop c.next s) in omega (arith, p.next, w.within)
 
     both : feeds e x (take d.next s) ≡ record { reader = (feeds e y l).reader; out = q.out ++ (feeds e y l).out }
     both =
         ap (λ (r : List ℕ). feeds e x r)
-        (ap (λ (j : ℕ). take j s) g.1.next ∙ take-add next (length l) s ∙ ap (λ (r : List ℕ). take next s ++ r) (piece_front (drop next s)))
-        ∙ fed_pieces e x (take next s) l ∙ (λ i. let f = feeds e (sym w.goes.holds i) l in record { reader = f.reader; out = q.out ++ f.out })
+        (ap (λ (j : ℕ). take j s) p.next ∙ take-add c.next (length l) s ∙ ap (λ (r : List ℕ). take c.next s ++ r) (piece_front (drop c.next s)))
+        ∙ fed_pieces e x (take c.next s) l ∙ (λ i. let f = feeds e (sym w.goes.holds i) l in record { reader = f.reader; out = q.out ++ f.out })
 
     left_on :
-        read_within e (feeds e y l).reader (drop (length l) (drop next s)) (length before - at - length (feeds e y l).out)
-        ≡ read_within e (reader_in view d.running m' line') (drop d.next s) (length before - d.at)
+        read_within e (feeds e y l).reader (drop (length l) (drop c.next s)) (length before - c.at - length (feeds e y l).out)
+        ≡ read_within e (reader_in view h') (drop d.next s) (length before - d.at)
     left_on =
-        let rest = drop (length l) (drop next s) in
-        let room = length before - at - length (feeds e y l).out in
-        let t : rest ≡ drop d.next s = drop-drop (length l) next s ∙ ap (λ (j : ℕ). drop j s) (sym g.1.next) in
-        let n : room ≡ length before - d.at = omega (arith, g.0.place) in
-        λ i. read_within e (sym g.0.holds i) (t i) (n i)
+        let rest = drop (length l) (drop c.next s) in
+        let room = length before - c.at - length (feeds e y l).out in
+        let t : rest ≡ drop d.next s = drop-drop (length l) c.next s ∙ ap (λ (j : ℕ). drop j s) (sym p.next) in
+        let n : room ≡ length before - d.at = omega (arith, g.place) in
+        λ i. read_within e (sym g.holds i) (t i) (n i)
 
-    pub filling_more : length out' ≡ length out → Filling G view e x s before d.running m' line' out' d.next d.at
+    pub filling_more : length out' ≡ length out → Filling view e x s before h' d out'
     filling_more n =
         let z = filling_size in
         let o = length-append q.out (feeds e y l).out in
         let b = ap (λ (f : Fed K). length f.out) both in
-        let a = read_line e y (drop next s) (length before - at) some_left (omega arith) in
+        let a = read_line e y (drop c.next s) (length before - c.at) some_left (omega arith) in
         let r = left_on in
-        let i = place_within g.0 (omega arith) in
+        let i = place_within g (omega arith) in
         record {
           goes =
               record {
-                ready = g.0.ready;
-                holds = g.0.holds ∙ ap (λ (f : Fed K). f.reader) (sym both);
+                holds = g.holds ∙ ap (λ (f : Fed K). f.reader) (sym both);
                 printed =
-                    g.0.printed ∙ (λ i. pasted (w.goes.printed i) (w.goes.place i) (feeds e y l).out)
+                    g.printed ∙ (λ i. pasted (w.goes.printed i) (w.goes.place i) (feeds e y l).out)
                     ∙ paste_after before 0 q.out (omega (arith, w.goes.place, w.room)) (feeds e y l).out ∙ ap (λ (f : Fed K). pasted before 0 f.out) (sym both);
-                place = omega (arith, g.0.place, w.goes.place);
+                place = omega (arith, g.place, w.goes.place);
               };
           within = few;
           room = omega arith;
-          left = omega (arith, w.left, g.1.next);
+          left = omega (arith, w.left, p.next);
         }
 
   -- no line is left, or the longest answer might not fit: all that is read of the chunk was read
-  pub filling_end : length s ≤ next → next ≡ read_within e x s (length before)
-  filling_end h =
-      let t = length-drop next s in
-      let z = read_none e y (drop next s) (length before - at) (omega arith) in
+  pub filling_end : length s ≤ c.next → c.next ≡ read_within e x s (length before)
+  filling_end k =
+      let t = length-drop c.next s in
+      let z = read_none e y (drop c.next s) (length before - c.at) (omega arith) in
       omega (arith, w.left)
 
-  pub filling_full : length out - at < printed_size → next ≡ read_within e x s (length before)
-  filling_full h =
+  pub filling_full : length out - c.at < printed_size → c.next ≡ read_within e x s (length before)
+  filling_full k =
       let t = filling_size in
-      let z = read_full e y (drop next s) (length before - at) (omega arith) in
+      let z = read_full e y (drop c.next s) (length before - c.at) (omega arith) in
       omega (arith, w.left)
 
   -- zeros behind what is kept of a line change nothing of what the code holds
-  pub filling_done : next ≡ read_within e x s (length before) → (line' : List ℕ) → line' ≡ cleared line c.len kept_size → Fills G view e x s (record { running = c; next = next; at = at }) m line' before out
-  filling_done t line' f =
-      let r = w.goes.ready in
-      let b = f ∙ cleared_pad line c.len r.size r.kept in
-      let front = ap (take c.len) b ∙ pad_front line c.len r.size r.kept in
-      record {
-        next = t;
-        goes =
-            record {
-              ready = record { good = r.good; size = ap length b ∙ pad_size line c.len r.size r.kept; kept = r.kept };
-              holds = (λ i. record { kept = view c.begun m; pending = front i }) ∙ w.goes.holds;
-              printed = w.goes.printed;
-              place = w.goes.place;
-            };
-        blank = b ∙ ap (pad kept_size) (sym front);
-      }
+  module _ (t : c.next ≡ read_within e x s (length before)) (p : Pending) (n : p.len ≡ h.pending.len) {z : List ℕ} (a : z ≡ replicate (length (mid_of h.pending.len (kept_size - h.pending.len) h.pending.bytes)) 0)
+      (b : p.bytes ≡ put_mid h.pending.len (kept_size - h.pending.len) h.pending.bytes z) where
+    padded : p.bytes ≡ pad kept_size (line_of h.pending)
+    unfolding pad
+    padded =
+        let q = h.pending in
+        let e = held_size q in
+        let m : length (mid_of q.len (kept_size - q.len) q.bytes) ≡ kept_size - length (line_of q) = simp (length-take, length-drop) (omega arith) in
+        let l : length (drop q.len q.bytes) ≤ kept_size - q.len = simp length-drop (omega arith) in
+        b ∙ ap (λ (r : List ℕ). line_of q ++ (z ++ r)) (drop_of_length-le (drop q.len q.bytes) l)
+        ∙ ap (λ (r : List ℕ). line_of q ++ r) (append-nil z ∙ a ∙ ap (λ (j : ℕ). replicate j 0) m)
 
--- the end of the input: nothing is left of it, or a line
-pub ends_as :
-    {M K : Type 0} {G : M → Type 0} {view : View M K} {e : Ends K} {r : Reader K} {s t : List ℕ} {d : Progress} {m : M} {line out out' : List ℕ} →
-    s ≡ t → Fills G view e r t d m line out out' → Fills G view e r s d m line out out'
-ends_as q w = rw q w
+    pub filling_done : Fills view e x s (record { begun = h.begun; pending = p; memory = h.memory }) c before out
+    unfolding pad
+    filling_done =
+        let l = line_of h.pending in
+        let front : line_of p ≡ l = (λ i. take (n i) (padded i)) ∙ take_at l (replicate (kept_size - length l) 0) h.pending.len (held_size h.pending) in
+        record {
+          next = t;
+          goes =
+              record {
+                holds = (λ i. record { kept = view h.begun h.memory; pending = front i }) ∙ w.goes.holds;
+                printed = w.goes.printed;
+                place = w.goes.place;
+              };
+          blank = padded ∙ ap (pad kept_size) (sym front);
+        }

@@ -1,36 +1,41 @@
--- A line gathered byte by byte: what is gathered from a place on completes what is kept.
+-- A line gathered from a chunk: where its line feed stands, and what is kept of the bytes before it.
 -- Assumes nothing.
-use Prim.Native.Nat.{ℕ, suc, ◌+◌, ◌-◌, ◌≤◌, ◌<◌}
+use Prim.Native.Nat.{ℕ, min, ◌+◌, ◌-◌, ◌≤◌}
 use mathlib.Core.Path.{◌≡◌, refl, sym, ap, subst, ◌∙◌}
-use mathlib.Core.Bool.{Bool, true, false, ◌||◌}
-use mathlib.Core.List.{List, [], ◌∷◌, ◌++◌}
+use mathlib.Core.Bool.{Bool, true, false, cond, ◌||◌}
+use mathlib.Core.List.{List, [], ◌∷◌, ◌++◌, append-nil}
+use Rattle.std.specs.Prelude.{Option, Some, None}
 use native.Mathlib.Omega.{arith}
-use native.Mathlib.Numerals.{add-one}
-use lib.ListN.{length, take, drop, get_or, set, length-set, length-take, drop_of_length-le}
-use lib.Seq.{drop-cons, take-nil}
-use lib.Dec.{eqb}
-use borrow.Author.Tests.{eqb-true, eqb-false, ne_eqb}
+use lib.ListN.{length, take, drop, length-append, length-take}
+use lib.Seq.{take_all, drop-drop}
+use lib.Dec.{eqb, ltb}
+use borrow.Rule.Slice.PartMut.{put_mid}
+use borrow.Author.Tests.{eqb-true, eqb-false, ne_eqb, ltb-false}
+use Rattle.std.specs.List.{position, position_or_len}
+use Rattle.std.specs.Option.{unwrap_or, option_map}
+use Rattle.std.proofs.lemmas.List.{take_min}
+use Rattle.std.proofs.lemmas.Bool.Decides.{nat_tests}
 use Rattle.rules.specs.Checks.{◌⇒◌else◌, member, some_of}
+use Rattle.rules.proofs.Laws.{skip}
 use Rattle.octets.specs.Parts.{pasted}
 use Rattle.flow.specs.Flow.{kept_size, before_feed, piece, fitting}
-use Rattle.flow.specs.declared.LineRead.{LineRead}
-use Rattle.flow.specs.LineReads.{LineReads}
-use Rattle.octets.proofs.Stores.{paste_one, paste_none}
 
 -- what is read by its first byte: that is a line feed and ends it, or another
 record Ends (c : ℕ) (s : List ℕ) : Type 0 where
   none : before_feed (c ∷ s) ≡ []
   whole : member 10 (c ∷ s) ≡ true
   one : piece (c ∷ s) ≡ c ∷ []
+  at : position_or_len (λ x. eqb x 10) (c ∷ s) ≡ 0
 
 record GoesOn (c : ℕ) (s : List ℕ) : Type 0 where
   more : before_feed (c ∷ s) ≡ c ∷ before_feed s
   whole : member 10 (c ∷ s) ≡ member 10 s
   next : piece (c ∷ s) ≡ c ∷ piece s
+  at : position_or_len (λ x. eqb x 10) (c ∷ s) ≡ 1 + position_or_len (λ x. eqb x 10) s
 
 ends : (c : ℕ) (s : List ℕ) → c ≡ 10 → Ends c s
 unfolding piece before_feed member some_of ◌⇒◌else◌
-ends c s e = subst (λ (k : ℕ). Ends k s) (sym e) (record { none = refl; whole = refl; one = refl })
+ends c s e = subst (λ (k : ℕ). Ends k s) (sym e) (record { none = refl; whole = refl; one = refl; at = refl })
 
 goes_on_lem : (c : ℕ) (s : List ℕ) → (c ≡ 10 → ⊥) → GoesOn c s
 unfolding piece before_feed member some_of ◌⇒◌else◌
@@ -41,6 +46,7 @@ goes_on_lem c s n =
       more = λ i. e i ⇒ [] else c ∷ before_feed s;
       whole = λ i. f i || member 10 s;
       next = λ i. (e i ⇒ [] else c ∷ before_feed s) ++ (f i || member 10 s ⇒ 10 ∷ [] else []);
+      at = rw e;
     }
 
 -- what holds of a list that ends or goes on, whichever it does
@@ -68,102 +74,73 @@ piece_some (c ∷ s) h =
 pub piece_few : (s : List ℕ) → length (piece s) ≤ length s
 piece_few s = let e = ap length (piece_front s) in let k = length-take (length (piece s)) s in omega arith
 
--- at the end of a chunk, and at a line feed, nothing is kept: the line stands as it is
-gathers_none :
-    (g : LineRead) (had : ℕ) (chunk : List ℕ) (at : ℕ) (line : List ℕ) → before_feed (drop at chunk) ≡ [] → g.len ≡ had →
-    g.whole ≡ member 10 (drop at chunk) → g.next ≡ at + length (piece (drop at chunk)) → LineReads g had chunk at line line
-unfolding fitting
-gathers_none g had chunk at line e l w n =
-    let f : fitting had (drop at chunk) ≡ [] = ap (take (kept_size - had)) e ∙ take-nil (kept_size - had) in
-    let z = ap length f in
-    record { kept = paste_none line had ∙ ap (pasted line had) (sym f); len = omega arith; whole = w; next = n }
+-- the bytes before the line feed: how many they are, and that they are the front of what is there
+feed_at : (s : List ℕ) → position_or_len (λ x. eqb x 10) s ≡ length (before_feed s)
+unfolding before_feed
+feed_at [] = refl
+feed_at (c ∷ s) =
+    by_first (position_or_len (λ x. eqb x 10) (c ∷ s) ≡ length (before_feed (c ∷ s))) c s (λ e. e.at ∙ sym (ap length e.none))
+    (λ g. let k = ap length g.more in let l = g.at in let m = feed_at s in omega arith)
 
-gathers_end : (had : ℕ) (chunk : List ℕ) (at : ℕ) (line : List ℕ) → length chunk ≤ at → LineReads (record { len = had; next = at; whole = false }) had chunk at line line
-unfolding piece before_feed member some_of ◌⇒◌else◌
-gathers_end had chunk at line h =
-    let e = drop_of_length-le chunk h in
-    let k = ap (λ (s : List ℕ). length (piece s)) e in
-    gathers_none _ had chunk at line (ap before_feed e) refl (sym (ap (member 10) e)) (omega arith)
+before_front : (s : List ℕ) → take (length (before_feed s)) s ≡ before_feed s
+unfolding before_feed
+before_front [] = refl
+before_front (c ∷ s) =
+    let front : List ℕ → Type 0 = λ t. take (length t) (c ∷ s) ≡ t in
+    by_first (front (before_feed (c ∷ s))) c s (λ e. subst front (sym e.none) refl)
+    (λ g. subst front (sym g.more) (ap (λ (t : List ℕ). c ∷ t) (before_front s)))
 
-module _ (had : ℕ) (chunk : List ℕ) (at : ℕ) (line : List ℕ) (h : at < length chunk) where
-  abbrev c : ℕ
-  c = get_or chunk at 0
+-- a line feed stands behind them, if there is one
+feed_behind : (s : List ℕ) → ltb (length (before_feed s)) (length s) ≡ member 10 s
+unfolding before_feed member some_of
+feed_behind [] = refl
+feed_behind (c ∷ s) =
+    by_first (ltb (length (before_feed (c ∷ s))) (length (c ∷ s)) ≡ member 10 (c ∷ s)) c s
+    (λ e. let k = ap length e.none in grind (arith, nat_tests, e.whole))
+    (λ g. let k = ap length g.more in let h = feed_behind s in grind (arith, nat_tests, g.whole))
 
-  abbrev rest : List ℕ
-  rest = drop (at + 1) chunk
+-- without a line feed all stands before it, and the piece is all
+all_before : (s : List ℕ) → member 10 s ≡ false → s ≡ before_feed s
+all_before s h =
+    let k = ltb-false (length (before_feed s)) (length s) (feed_behind s ∙ h) in
+    sym (take_all (length (before_feed s)) s k) ∙ before_front s
 
-  first : drop at chunk ≡ c ∷ rest
-  first = drop-cons chunk at 0 h ∙ ap (λ (k : ℕ). c ∷ drop k chunk) (sym (add-one at))
+pub piece_all : (s : List ℕ) → member 10 s ≡ false → length (piece s) ≡ length s
+unfolding piece
+piece_all s h = ap length (ap (λ (l : List ℕ). before_feed s ++ l) (skip _ _ _ h) ∙ append-nil (before_feed s) ∙ sym (all_before s h))
 
-  gathers_feed : c ≡ 10 → LineReads (record { len = had; next = at + 1; whole = true }) had chunk at line line
-  gathers_feed q =
-      let e = ends c rest q in
-      let k = ap (λ (s : List ℕ). length (piece s)) first ∙ ap length e.one in
-      gathers_none _ had chunk at line (ap before_feed first ∙ e.none) refl (sym (ap (member 10) first ∙ e.whole)) (omega arith)
+-- the place that a search for the line feed gives: the bytes before it, and how many the piece has with it
+module _ (s : List ℕ) (f : Option ℕ) (e : f ≡ position (λ x. eqb x 10) s) where
+  found : (b : Bool) → member 10 s ≡ b → f ≡ cond b (Some (length (before_feed s))) None
+  found b h = e ∙ rw (feed_at s) (ap (λ (t : Bool). cond t (Some (length (before_feed s))) None) (feed_behind s ∙ h))
 
-  -- another byte is kept where it fits
-  module _ (n : c ≡ 10 → ⊥) (g : LineRead) (after : List ℕ) where
-    kept_on : before_feed (drop at chunk) ≡ c ∷ before_feed rest
-    kept_on = ap before_feed first ∙ (goes_on_lem c rest n).more
+  pub found_before : take (unwrap_or f (length s)) s ≡ before_feed s
+  found_before = by (member 10 s) refl
+    where
+      by : (b : Bool) → member 10 s ≡ b → take (unwrap_or f (length s)) s ≡ before_feed s
+      by true h = rw (found true h) (before_front s)
+      by false h = rw (found false h) (take_all (length s) s (omega arith) ∙ all_before s h)
 
-    gathers_on :
-        (have : ℕ) (more : List ℕ) → pasted more have (fitting have rest) ≡ pasted line had (fitting had (drop at chunk)) →
-        have + length (fitting have rest) ≡ had + length (fitting had (drop at chunk)) → LineReads g have chunk (at + 1) more after → LineReads g had chunk at line after
-    gathers_on have more e l w =
-        let o = goes_on_lem c rest n in
-        let k = ap (λ (s : List ℕ). length (piece s)) first ∙ ap length o.next in
-        record { kept = w.kept ∙ e; len = w.len ∙ l; whole = w.whole ∙ sym (ap (member 10) first ∙ o.whole); next = omega (arith, w.next) }
+  pub found_taken : option_map (λ n. n + 1) f ≡ (member 10 s ⇒ Some (length (piece s)) else None)
+  unfolding piece ◌⇒◌else◌
+  found_taken = by (member 10 s) refl
+    where
+      by : (b : Bool) → member 10 s ≡ b → option_map (λ n. n + 1) f ≡ (b ⇒ Some (length (before_feed s ++ (b ⇒ 10 ∷ [] else []))) else None)
+      by true h = rw (found true h) (ap (λ (k : ℕ). Some k) (sym (length-append (before_feed s) (10 ∷ []))))
+      by false h = rw (found false h)
 
-    gathers_full : kept_size ≤ had → LineReads g had chunk (at + 1) line after → LineReads g had chunk at line after
-    unfolding fitting
-    gathers_full k w =
-        let z : kept_size - had ≡ 0 = omega arith in
-        let same : fitting had rest ≡ fitting had (drop at chunk) =
-        ap (λ (j : ℕ). take j (before_feed rest)) z ∙ sym (ap (λ (j : ℕ). take j (before_feed (drop at chunk))) z) in
-        gathers_on had line (ap (pasted line had) same) (ap (λ (s : List ℕ). had + length s) same) w
+-- what is kept of them stands behind what the line has
+module _ (line : List ℕ) (had : ℕ) (s part kept : List ℕ) (n : ℕ) (e : part ≡ before_feed s) (h : n ≡ min (kept_size - had) (length part)) (k : kept ≡ take n part) where
+  pub kept_fitting : kept ≡ fitting had s
+  unfolding fitting
+  kept_fitting = k ∙ ap (λ (m : ℕ). take m part) h ∙ take_min (kept_size - had) part ∙ ap (take (kept_size - had)) e
 
-    gathers_byte : had < kept_size → length line ≡ kept_size → LineReads g (had + 1) chunk (at + 1) (set line had c) after → LineReads g had chunk at line after
-    unfolding fitting
-    gathers_byte k l w =
-        let z : kept_size - had ≡ suc (kept_size - (had + 1)) = omega arith in
-        let f : fitting had (drop at chunk) ≡ c ∷ fitting (had + 1) rest = λ i. take (z i) (kept_on i) in
-        let y = ap length f in
-        gathers_on (had + 1) (set line had c) (paste_one line had c (fitting (had + 1) rest) (omega arith) ∙ ap (pasted line had) (sym f)) (omega arith) w
+  pub kept_size_lem : n ≡ length (fitting had s)
+  kept_size_lem = let z = ap length (sym kept_fitting ∙ k) in let l = length-take n part in omega arith
 
--- what is gathered from here completes the line
-pub record Gathering (before : List ℕ) (had : ℕ) (chunk : List ℕ) (from : ℕ) (line : List ℕ) (kept at : ℕ) : Type 0 where
-  pub size : length line ≡ kept_size
-  pub few : kept ≤ kept_size
-  pub within : at ≤ length chunk
-  pub completes : (g : LineRead) (after : List ℕ) → LineReads g kept chunk at line after → LineReads g had chunk from before after
-
-pub gathering_none :
-    (line : List ℕ) (had : ℕ) (chunk : List ℕ) (from : ℕ) → (length line ≡ kept_size) × (had ≤ kept_size) × (from ≤ length chunk) →
-    Gathering line had chunk from line had from
-gathering_none line had chunk from p = record { size = p.0; few = p.1; within = p.2; completes = λ g after w. w }
-
-module _ (before : List ℕ) (had : ℕ) (chunk : List ℕ) (from : ℕ) (line : List ℕ) (kept at : ℕ) (w : Gathering before had chunk from line kept at) where
-  pub gathering_end : length chunk ≤ at → LineReads (record { len = kept; next = at; whole = false }) had chunk from before line
-  gathering_end h = w.completes _ _ (gathers_end kept chunk at line h)
-
-  module _ (h : at < length chunk) where
-    pub gathering_feed : get_or chunk at 0 ≡ 10 → LineReads (record { len = kept; next = at + 1; whole = true }) had chunk from before line
-    gathering_feed e = w.completes _ _ (gathers_feed kept chunk at line h e)
-
-    pub gathering_full : (get_or chunk at 0 ≡ 10 → ⊥) → kept_size ≤ kept → Gathering before had chunk from line kept (at + 1)
-    gathering_full n k =
-        record {
-          size = w.size;
-          few = w.few;
-          within = omega arith;
-          completes = λ g after s. w.completes g after (gathers_full kept chunk at line h n g after k s);
-        }
-
-    pub gathering_byte : (get_or chunk at 0 ≡ 10 → ⊥) → kept < kept_size → Gathering before had chunk from (set line kept (get_or chunk at 0)) (kept + 1) (at + 1)
-    gathering_byte n k =
-        record {
-          size = length-set line kept (get_or chunk at 0) ∙ w.size;
-          few = omega arith;
-          within = omega arith;
-          completes = λ g after s. w.completes g after (gathers_byte kept chunk at line h n g after k w.size s);
-        }
+  pub kept_pasted : put_mid had (had + n - had) line kept ≡ pasted line had (fitting had s)
+  unfolding pasted
+  kept_pasted =
+      let z = kept_size_lem in
+      let m : had + (had + n - had) ≡ had + length (fitting had s) = omega arith in
+      (λ i. take had line ++ (kept_fitting i ++ drop-drop (had + n - had) had line i)) ∙ ap (λ (j : ℕ). take had line ++ (fitting had s ++ drop j line)) m

@@ -3,5 +3,5 @@ pub mod Flows
 pub mod Feeding
 pub mod Filling
 pub mod Turns
-pub mod Settled
 pub mod Pieces
+pub mod Settled

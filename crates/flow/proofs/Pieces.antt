@@ -1,71 +1,40 @@
--- An input that is read piece by piece: what holds between two turns of a piece.
+-- An input that is read piece by piece: what a turn leaves of a piece.
 -- Assumes nothing.
-use Prim.Native.Nat.{ℕ, ◌+◌, ◌≤◌, ◌<◌}
-use mathlib.Core.Path.{◌≡◌, refl, sym, ap, subst, ◌∙◌}
-use mathlib.Core.List.{List}
+use Prim.Native.Nat.{ℕ, ◌≤◌, ◌<◌}
+use mathlib.Core.Path.{◌≡◌, refl, sym, ap, ◌∙◌}
+use mathlib.Core.List.{List, [], ◌∷◌}
 use native.Mathlib.Omega.{arith}
-use lib.ListN.{length, take, drop, length-drop}
-use lib.Seq.{take_all, take-add}
+use lib.ListN.{length, drop, length-drop}
 use borrow.Author.Rules.{part_to_end}
+use Rattle.std.proofs.lemmas.List.{take-append-drop}
 use Rattle.octets.specs.Parts.{part}
-use Rattle.flow.specs.declared.Running.{Running}
 use Rattle.flow.specs.declared.Progress.{Progress}
 use Rattle.flow.specs.Flow.{printed_size, Ends, Reader, Fed, feeds}
-use Rattle.flow.specs.Holds.{View, Ready, reader_in, Fills}
+use Rattle.flow.specs.Holds.{View, Held, reader_in, Fills}
 use Rattle.flow.proofs.Flows.{fed_pieces}
-use Rattle.flow.proofs.Filling.{read_few, read_some}
+use Rattle.flow.proofs.Filling.{read_few}
+use Rattle.flow.proofs.Turns.{filled_advances}
 
--- between two turns of a piece: the code holds what the reader has behind the bytes that were read
-pub record Midway {M K : Type 0} (G : M → Type 0) (view : View M K) (e : Ends K) (x : Reader K) (s : List ℕ) (c : Running) (m : M) (line out₀ out : List ℕ) (next : ℕ) : Type 0 where
-  pub ready : Ready G c m line
-  pub holds : reader_in view c m line ≡ (feeds e x (take next s)).reader
-  pub within : next ≤ length s
-  pub room : printed_size ≤ length out
-  pub size : length out ≡ length out₀
+-- a turn of what is left of a piece
+module _ {M K : Type 0} {view : View M K} {e : Ends K} {r : Reader K} (s : List ℕ) {h : Held M} (d : Progress) {out out' : List ℕ} (f : Fills view e r s h d out out') where
+  -- the reader behind what is left then is the one behind all of it
+  pub rest_fed : (feeds e (reader_in view h) (part d.next (length s) s)).reader ≡ (feeds e r s).reader
+  rest_fed =
+      ap (λ (l : List ℕ). (feeds e (reader_in view h) l).reader) (part_to_end s d.next) ∙ ap (λ (y : Reader K). (feeds e y (drop d.next s)).reader) f.goes.holds
+      ∙ ap (λ (y : Fed K). y.reader) (sym (ap (feeds e r) (sym (take-append-drop d.next s)) ∙ fed_pieces e r _ (drop d.next s)))
 
-pub midway_none :
-    {M K : Type 0} {G : M → Type 0} (view : View M K) (e : Ends K) (c : Running) (m : M) (line s out : List ℕ) → Ready G c m line → printed_size ≤ length out →
-    Midway G view e (reader_in view c m line) s c m line out out 0
+  pub rest_within : d.next ≤ length s
+  rest_within = let k = read_few e r s (length out) in omega (arith, f.next)
+
+  pub rest_less : 1 ≤ length s → printed_size ≤ length out → length (part d.next (length s) s) < length s
+  rest_less some room =
+      let k = filled_advances f some room in
+      let l = ap length (part_to_end s d.next) in
+      let m = length-drop d.next s in
+      omega arith
+
+-- nothing is left
+pub rest_none : {K : Type 0} (e : Ends K) (r : Reader K) (s : List ℕ) → length s ≡ 0 → r ≡ (feeds e r s).reader
 unfolding feeds
-midway_none view e c m line s out y n = record { ready = y; holds = refl; within = omega arith; room = n; size = refl }
-
-module _ {M K : Type 0} {G : M → Type 0} {view : View M K} {e : Ends K} {x : Reader K} {s : List ℕ} {c : Running} {m : M} {line out₀ out : List ℕ} {next : ℕ}
-    (w : Midway G view e x s c m line out₀ out next) where
-  pub midway_all : length s ≤ next → reader_in view c m line ≡ (feeds e x s).reader
-  midway_all h = w.holds ∙ ap (λ (l : List ℕ). (feeds e x l).reader) (take_all next s h)
-
-  module _ {d : Progress} {m' : M} {line' out' : List ℕ} (f : Fills G view e (reader_in view c m line) (part next (length s) s) d m' line' out out') where
-    -- what is left of the piece was lent
-    g : Fills G view e (reader_in view c m line) (drop next s) d m' line' out out'
-    g = subst (λ (r : List ℕ). Fills G view e (reader_in view c m line) r d m' line' out out') (part_to_end s next) f
-
-    pub midway_within : next + d.next ≤ length s
-    midway_within =
-        let t = length-drop next s in
-        let k = read_few e (reader_in view c m line) (drop next s) (length out) in
-        omega (arith, g.next, w.within)
-
-    pub midway_less : next < length s → next < next + d.next
-    midway_less h =
-        let t = length-drop next s in
-        let k = read_some e (reader_in view c m line) (drop next s) (length out) (omega arith) w.room in
-        omega (arith, g.next)
-
-    pub midway_more : length out' ≡ length out → Midway G view e x s d.running m' line' out₀ out' (next + d.next)
-    midway_more n =
-        let r = take d.next (drop next s) in
-        record {
-          ready = g.goes.ready;
-          holds =
-              g.goes.holds ∙ ap (λ (y : Reader K). (feeds e y r).reader) w.holds
-              ∙ ap (λ (y : Fed K). y.reader) (sym (ap (feeds e x) (take-add next d.next s) ∙ fed_pieces e x (take next s) r));
-          within = midway_within;
-          room = omega (arith, w.room);
-          size = n ∙ w.size;
-        }
-
--- between two pieces
-pub record Turning {M : Type 0} (G : M → Type 0) (c : Running) (m : M) (line piece₀ piece out₀ out : List ℕ) : Type 0 where
-  pub ready : Ready G c m line
-  pub input : length piece ≡ length piece₀
-  pub output : length out ≡ length out₀
+rest_none e r [] k = refl
+rest_none e r (c ∷ s) k = absurd (let z : length (c ∷ s) ≡ 0 = k in omega arith)

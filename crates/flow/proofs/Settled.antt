@@ -1,50 +1,63 @@
 -- Each contract of the loop settles its outcome: that of `gather`, and what it is to fill, for any tool.
 -- Assumes nothing.
-use Prim.Native.Nat.{ℕ, ◌+◌}
+use Prim.Native.Nat.{ℕ, ◌+◌, ◌≤◌}
 use mathlib.Core.Path.{◌≡◌, sym, ap, ◌∙◌}
-use mathlib.Core.Bool.{Bool}
+use mathlib.Core.HLevel.{is_prop→PathP}
 use mathlib.Core.List.{List}
+use native.Mathlib.Bridge.{le_prop}
+use native.Mathlib.Nat.{ℕ_set}
 use lib.ListN.{length, take}
 use Rattle.octets.specs.Parts.{pasted, pad}
 use Rattle.outcomes.specs.Determined.{Determined}
+use Rattle.flow.specs.declared.Pending.{Pending}
 use Rattle.flow.specs.declared.Progress.{Progress}
 use Rattle.flow.specs.Flow.{kept_size, Ends, Reader, Fed, feeds}
-use Rattle.flow.specs.Holds.{View, reader_in, Fills}
+use Rattle.flow.specs.Holds.{View, Held, reader_in, Fills}
 use Rattle.flow.proofs.Feeding.{held_size}
-use Rattle.flow.proofs.gather.Kinds as gather-kinds
-use Rattle.flow.proofs.gather.Reads as gather-reads
+use Rattle.flow.proofs.Pending.gather.Kinds as gather-kinds
+use Rattle.flow.proofs.Pending.gather.Reads as gather-reads
+
+-- two that have the same bytes and keep as many are the same
+pub pending_same : (p q : Pending) → p.bytes ≡ q.bytes → p.len ≡ q.len → p ≡ q
+pending_same p q b n =
+    λ i.
+    record {
+      bytes = b i;
+      len = n i;
+      sized = is_prop→PathP (λ j. length (b j) ≡ kept_size) (λ j. ℕ_set (length (b j)) kept_size) p.sized q.sized i;
+      within = is_prop→PathP (λ j. n j ≤ kept_size) (λ j. le_prop) p.within q.within i;
+    }
 
 pub gather_settled : Determined 2 gather-kinds.ps gather-kinds.r gather-reads.Pre gather-reads.Post
 gather_settled κs a _ x y v w p q = (
-  λ i. record { len = (p.len ∙ sym q.len) i; next = (p.next ∙ sym q.next) i; whole = (p.whole ∙ sym q.whole) i },
-  λ i. ((p.kept ∙ sym q.kept) i, v.1),
+  p.taken ∙ sym q.taken,
+  λ i. (pending_same v.0 w.0 (p.kept ∙ sym q.kept) (p.len ∙ sym q.len) i, v.1),
 )
 
 -- two that read the same chunk with one reader
-module _ {M K : Type 0} {G : M → Type 0} {view : View M K} {e : Ends K} {r : Reader K} {chunk : List ℕ} {m n : M} {line line' before after after' : List ℕ}
-    {x y : Progress} (g : Fills G view e r chunk x m line before after) (h : Fills G view e r chunk y n line' before after') where
+module _ {M K : Type 0} {view : View M K} {e : Ends K} {r : Reader K} {chunk : List ℕ} {h k : Held M} {x y : Progress} {before after after' : List ℕ}
+    (f : Fills view e r chunk h x before after) (g : Fills view e r chunk k y before after') where
   next_same : x.next ≡ y.next
-  next_same = g.next ∙ sym h.next
+  next_same = f.next ∙ sym g.next
 
   fed_same : feeds e r (take x.next chunk) ≡ feeds e r (take y.next chunk)
-  fed_same = ap (λ (k : ℕ). feeds e r (take k chunk)) next_same
+  fed_same = ap (λ (n : ℕ). feeds e r (take n chunk)) next_same
 
-  held_same : reader_in view x.running m line ≡ reader_in view y.running n line'
-  held_same = g.goes.holds ∙ ap (λ (f : Fed K). f.reader) fed_same ∙ sym h.goes.holds
+  held_same : reader_in view h ≡ reader_in view k
+  held_same = f.goes.holds ∙ ap (λ (d : Fed K). d.reader) fed_same ∙ sym g.goes.holds
 
-  pub kept_same : view x.running.begun m ≡ view y.running.begun n
+  pub kept_same : view h.begun h.memory ≡ view k.begun k.memory
   kept_same = ap (λ (r : Reader K). r.kept) held_same
 
-  pub line_same : line ≡ line'
-  line_same = g.blank ∙ ap (λ (r : Reader K). pad kept_size r.pending) held_same ∙ sym h.blank
+  pub line_same : h.pending ≡ k.pending
+  line_same =
+      pending_same h.pending k.pending (f.blank ∙ ap (λ (r : Reader K). pad kept_size r.pending) held_same ∙ sym g.blank)
+      (sym (held_size h.pending) ∙ ap (λ (r : Reader K). length r.pending) held_same ∙ held_size k.pending)
 
   pub printed_same : after ≡ after'
-  printed_same = g.goes.printed ∙ ap (λ (f : Fed K). pasted before 0 f.out) fed_same ∙ sym h.goes.printed
+  printed_same = f.goes.printed ∙ ap (λ (d : Fed K). pasted before 0 d.out) fed_same ∙ sym g.goes.printed
 
-  -- where what is shown tells whether the first line was read
-  pub progress_same : (begins : K → Bool) → ((b : Bool) (z : M) → begins (view b z) ≡ b) → x ≡ y
-  progress_same begins begun =
-      let place = g.goes.place ∙ ap (λ (f : Fed K). 0 + length f.out) fed_same ∙ sym h.goes.place in
-      let len = sym (held_size _ line g.goes.ready) ∙ ap (λ (r : Reader K). length r.pending) held_same ∙ held_size _ line' h.goes.ready in
-      let first = sym (begun x.running.begun m) ∙ ap begins kept_same ∙ begun y.running.begun n in
-      λ i. record { running = record { begun = first i; len = len i }; next = next_same i; at = place i }
+  pub progress_same : x ≡ y
+  progress_same =
+      let place = f.goes.place ∙ ap (λ (d : Fed K). 0 + length d.out) fed_same ∙ sym g.goes.place in
+      λ i. record { next = next_same i; at = place i }

@@ -11,7 +11,7 @@ use Rattle.rules.specs.Checks.{◌⇒◌else◌, is_empty}
 use Rattle.octets.specs.Parts.{pasted}
 use Rattle.flow.specs.declared.Progress.{Progress}
 use Rattle.flow.specs.Flow.{printed_size, Ends, Reader, between, feeds, finishes, joined, printed_from, prints, read_within, last_piece}
-use Rattle.flow.specs.Holds.{View, reader_in, Fills, Turn, Turned, Turns}
+use Rattle.flow.specs.Holds.{View, Held, reader_in, Fills, Turn, Turned, Turns}
 use Rattle.flow.proofs.Flows.{divided, finishes_fed}
 use Rattle.flow.proofs.Filling.{read_some}
 
@@ -48,28 +48,26 @@ module _ {K : Type 0} (e : Ends K) where
       by true = take-nil (read_within e r [] room)
       by false = take_all (read_within e r (10 ∷ []) room) (10 ∷ []) (read_some e r (10 ∷ []) room (omega arith) h)
 
-module _ {M K : Type 0} {G : M → Type 0} {view : View M K} {e : Ends K} {r : Reader K} {chunk : List ℕ} {c : Progress} {m : M} {line before after : List ℕ} where
+module _ {M K : Type 0} {view : View M K} {e : Ends K} {r : Reader K} {chunk : List ℕ} {h : Held M} {c : Progress} {before after : List ℕ} where
   -- what is to be written of a filled output is what was printed
-  filled_front : Fills G view e r chunk c m line before after → take c.at after ≡ (feeds e r (take c.next chunk)).out
+  filled_front : Fills view e r chunk h c before after → take c.at after ≡ (feeds e r (take c.next chunk)).out
   unfolding pasted
-  filled_front h =
+  filled_front w =
       let s = (feeds e r (take c.next chunk)).out in
-      ap (take c.at) h.goes.printed ∙ take_at s (drop (0 + length s) before) c.at (omega (arith, h.goes.place))
+      ap (take c.at) w.goes.printed ∙ take_at s (drop (0 + length s) before) c.at (omega (arith, w.goes.place))
 
   -- a filled output is a turn, from the reader that the code holds to the one that it holds then
-  pub filled_turned :
-      Fills G view e r chunk c m line before after →
-      Turned e r (record { read = take c.next chunk; wrote = take c.at after }) (reader_in view c.running m line)
-  filled_turned h = record { wrote = filled_front h; reader = h.goes.holds }
+  pub filled_turned : Fills view e r chunk h c before after → Turned e r (record { read = take c.next chunk; wrote = take c.at after }) (reader_in view h)
+  filled_turned w = record { wrote = filled_front w; reader = w.goes.holds }
 
   -- where there is something to read and room for the longest answer, something is read
-  pub filled_advances : Fills G view e r chunk c m line before after → 1 ≤ length chunk → printed_size ≤ length before → 1 ≤ c.next
-  filled_advances h some room = let k = read_some e r chunk (length before) some room in omega (arith, h.next)
+  pub filled_advances : Fills view e r chunk h c before after → 1 ≤ length chunk → printed_size ≤ length before → 1 ≤ c.next
+  filled_advances w some room = let k = read_some e r chunk (length before) some room in omega (arith, w.next)
 
 -- what is to be written at the end of an input is what is printed there
 pub filled_last :
-    {M K : Type 0} {G : M → Type 0} {view : View M K} {e : Ends K} {r : Reader K} {c : Progress} {m : M} {line before after : List ℕ} →
-    Fills G view e r (last_piece r) c m line before after → printed_size ≤ length before → take c.at after ≡ finishes e r
-filled_last {e = e} {r = r} h room =
-    filled_front h
-    ∙ ap (λ (s : List ℕ). (feeds e r s).out) (ap (λ (k : ℕ). take k (last_piece r)) h.next ∙ read_last e r _ room) ∙ sym (finishes_fed e r)
+    {M K : Type 0} {view : View M K} {e : Ends K} {r : Reader K} {h : Held M} {c : Progress} {before after : List ℕ} →
+    Fills view e r (last_piece r) h c before after → printed_size ≤ length before → take c.at after ≡ finishes e r
+filled_last {e = e} {r = r} w room =
+    filled_front w
+    ∙ ap (λ (s : List ℕ). (feeds e r s).out) (ap (λ (k : ℕ). take k (last_piece r)) w.next ∙ read_last e r _ room) ∙ sym (finishes_fed e r)

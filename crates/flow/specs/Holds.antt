@@ -1,49 +1,51 @@
--- The loop between two pieces of its input, as the code keeps it, over any memory M: what is good, and what it shows.
-use Rattle.std.specs.Prelude.{ℕ, ◌+◌, ◌≤◌, ◌≡◌, Bool, true, List, [], ◌∷◌, length, take, drop}
+-- The loop between two pieces of its input, as the code keeps it, over any memory M: what it shows.
+use Rattle.std.specs.Prelude.{ℕ, ◌+◌, ◌≡◌, Bool, true, List, [], ◌∷◌, length, take, drop}
 use Rattle.octets.specs.Parts.{pasted, pad}
 use Rattle.rules.specs.Input.{Said}
 use Rattle.flow.specs.Flow.{kept_size, Ends, Reader, Fed, feeds, piece, fitting, read_within}
-use Rattle.flow.specs.declared.Running.{Running}
+use Rattle.flow.specs.declared.Pending.{Pending}
 use Rattle.flow.specs.declared.Progress.{Progress}
 
 -- what a memory shows, before the first line and behind it
 abbrev pub View : Type 0 → Type 0 → Type 0
 View M K = Bool → M → K
 
--- the code may go on: good memory, and room for what is kept of a line
-pub record Ready {M : Type 0} (G : M → Type 0) (c : Running) (m : M) (line : List ℕ) : Type 0 where
-  pub good : G m
-  pub size : length line ≡ kept_size
-  pub kept : c.len ≤ kept_size
+-- what the code holds: whether the first line was read, what is kept of a line that is not whole yet, and a memory
+pub record Held (M : Type 0) : Type 0 where
+  pub begun : Bool
+  pub pending : Pending
+  pub memory : M
+
+-- the line's bytes so far
+abbrev pub line_of : Pending → List ℕ
+line_of p = take p.len p.bytes
 
 -- the reader that the code holds
-abbrev pub reader_in : {M K : Type 0} → View M K → Running → M → List ℕ → Reader K
-reader_in view c m line = record { kept = view c.begun m; pending = take c.len line }
+abbrev pub reader_in : {M K : Type 0} → View M K → Held M → Reader K
+reader_in view h = record { kept = view h.begun h.memory; pending = line_of h.pending }
 
--- a line ended so: the memory is good and shows what is kept behind it, and what is printed stands in the output from its place on
-pub record Says {M K : Type 0} (G : M → Type 0) (view : View M K) (f : Said K) (m : M) (end : ℕ) (before : List ℕ) (at : ℕ) (after : List ℕ) : Type 0 where
-  pub good : G m
+-- a line ended so: the memory shows what is kept behind it, and what is printed stands in the output from its place on
+pub record Says {M K : Type 0} (view : View M K) (f : Said K) (m : M) (end : ℕ) (before : List ℕ) (at : ℕ) (after : List ℕ) : Type 0 where
   pub state : view true m ≡ f.kept
   pub stands : after ≡ pasted before at f.out
   pub place : end ≡ at + length f.out
 
 -- a piece was read
-pub record Goes {M K : Type 0} (G : M → Type 0) (view : View M K) (f : Fed K) (c : Progress) (m : M) (line before : List ℕ) (at : ℕ) (after : List ℕ) : Type 0 where
-  pub ready : Ready G c.running m line
-  pub holds : reader_in view c.running m line ≡ f.reader
+pub record Goes {M K : Type 0} (view : View M K) (f : Fed K) (h : Held M) (end : ℕ) (before : List ℕ) (at : ℕ) (after : List ℕ) : Type 0 where
+  pub holds : reader_in view h ≡ f.reader
   pub printed : after ≡ pasted before at f.out
-  pub place : c.at ≡ at + length f.out
+  pub place : end ≡ at + length f.out
 
 -- the line's buffer: what was kept of the piece stands behind what it had
-pub record Keeps (c : Progress) (had : ℕ) (chunk : List ℕ) (from : ℕ) (line line' : List ℕ) : Type 0 where
-  pub kept : line' ≡ pasted line had (fitting had (drop from chunk))
+pub record Keeps (c : Progress) (before : Pending) (chunk : List ℕ) (from : ℕ) (after : Pending) : Type 0 where
+  pub kept : after.bytes ≡ pasted before.bytes before.len (fitting before.len (drop from chunk))
   pub next : c.next ≡ from + length (piece (drop from chunk))
 
 -- so much of a chunk was read: what that printed stands at the front of the output, and the line's buffer has what is kept of a line and 0 behind it
-pub record Fills {M K : Type 0} (G : M → Type 0) (view : View M K) (e : Ends K) (r : Reader K) (chunk : List ℕ) (c : Progress) (m : M) (line before after : List ℕ) : Type 0 where
+pub record Fills {M K : Type 0} (view : View M K) (e : Ends K) (r : Reader K) (chunk : List ℕ) (h : Held M) (c : Progress) (before after : List ℕ) : Type 0 where
   pub next : c.next ≡ read_within e r chunk (length before)
-  pub goes : Goes G view (feeds e r (take c.next chunk)) c m line before 0 after
-  pub blank : line ≡ pad kept_size (take c.running.len line)
+  pub goes : Goes view (feeds e r (take c.next chunk)) h c.at before 0 after
+  pub blank : h.pending.bytes ≡ pad kept_size (line_of h.pending)
 
 -- a turn: the bytes of the input that it read, and the bytes that it wrote
 pub record Turn : Type 0 where

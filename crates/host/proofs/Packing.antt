@@ -26,8 +26,8 @@ use Rattle.rules.proofs.Cases.{taking_cases}
 use Rattle.rules.proofs.Fetch.{fetch_within}
 use Rattle.rules.proofs.Sizes.{written_within}
 use Rattle.rules.proofs.Soundness.{chan_sound}
-use Rattle.rules.specs.declared.Ended.{Ended}
-use Rattle.rules.specs.declared.Ended.TheVariants.{Wrote, Refused}
+use Rattle.rules.specs.Words.{Ended}
+use Rattle.std.specs.Prelude.{Ok, Err}
 use Rattle.session.specs.Calls.{Answers}
 use Rattle.fetch.specs.declared.Fetched.{Fetched}
 use Rattle.fetch.specs.Gathers.{Fetches}
@@ -38,27 +38,27 @@ use Rattle.alpha.specs.Calls.{fitted, ended_of as textEnded}
 -- what was packed is read back: each count and each refusal has a number of its own
 pub unpacked_packed : (e : Ended) → Fits e → unpacked (packed e) ≡ e
 unfolding packed unpacked Fits
-unpacked_packed (Wrote count) h = stop _ _ _ (lt-ltb count 0x1000000 (omega (arith, h)))
-unpacked_packed (Refused r) h =
+unpacked_packed (Ok count) h = stop _ _ _ (lt-ltb count 0x1000000 (omega (arith, h)))
+unpacked_packed (Err r) h =
     let e : 0x1000000 + number_of r - 0x1000000 ≡ number_of r = omega arith in
-    skip _ _ _ (le-ltb (0x1000000 + number_of r) 0x1000000 (omega arith)) ∙ ap (λ (k : ℕ). Refused (refusal_of k)) e ∙ ap Refused (refusal_back r)
+    skip _ _ _ (le-ltb (0x1000000 + number_of r) 0x1000000 (omega arith)) ∙ ap (λ (k : ℕ). Err (refusal_of k)) e ∙ ap Err (refusal_back r)
 
 -- the same of a text, whose count is that of a lent buffer at most, and so below the flag
 Below : Ended → Type 0
-Below (Wrote count) = count < 0x8000000000000000
-Below (Refused r) = Unit {0}
+Below (Ok count) = count < 0x8000000000000000
+Below (Err r) = Unit {0}
 
 text_back : (e : Ended) → Below e → unpacked_text (packed_text e) ≡ e
 unfolding packed_text unpacked_text Below
-text_back (Wrote count) h = stop _ _ _ (lt-ltb count 0x8000000000000000 h)
-text_back (Refused r) h =
+text_back (Ok count) h = stop _ _ _ (lt-ltb count 0x8000000000000000 h)
+text_back (Err r) h =
     let e : 0x8000000000000000 + number_of r - 0x8000000000000000 ≡ number_of r = omega arith in
-    skip _ _ _ (le-ltb (0x8000000000000000 + number_of r) 0x8000000000000000 (omega arith)) ∙ ap (λ (k : ℕ). Refused (refusal_of k)) e ∙ ap Refused (refusal_back r)
+    skip _ _ _ (le-ltb (0x8000000000000000 + number_of r) 0x8000000000000000 (omega arith)) ∙ ap (λ (k : ℕ). Err (refusal_of k)) e ∙ ap Err (refusal_back r)
 
 fitted_below : (s : List ℕ) (room : ℕ) → room < 0x8000000000000000 → Below (fitted s room)
 unfolding Below fitted
 fitted_below s room h =
-    branch Below (ltb room (length s)) (Refused ShortText) (Wrote (length s)) (λ _. tt) (λ e. let k = ltb-false room (length s) e in omega arith)
+    branch Below (ltb room (length s)) (Err ShortText) (Ok (length s)) (λ _. tt) (λ e. let k = ltb-false room (length s) e in omega arith)
 
 read_below : (t : Text) (room : ℕ) → room < 0x8000000000000000 → Below (textEnded t room)
 unfolding Below textEnded
@@ -153,8 +153,8 @@ burst_packs f t p r x before after n h e =
 -- the number of a call that ended so fits the lower half
 packed_small : (e : Ended) → Fits e → packed e < 0x100000000
 unfolding packed Fits
-packed_small (Wrote count) h = omega (arith, h)
-packed_small (Refused r) h = let k = number_small r in omega (arith, k)
+packed_small (Ok count) h = omega (arith, h)
+packed_small (Err r) h = let k = number_small r in omega (arith, k)
 
 -- and both halves of a burst's number are read back
 pub burst_back : (x : Fetched) → Fits x.ended → (ended_in (packed_burst x) ≡ x.ended) × (left_in (packed_burst x) ≡ min x.left left_cap)

@@ -16,7 +16,7 @@ use Rattle.rules.specs.Acts.{bursts, clears}
 use Rattle.rules.specs.Run.{Call, starting, commanding, timing, arriving, taking_out, dropping_link, step}
 use Rattle.rules.specs.TimerCalls.{second, envelope}
 use Rattle.session.specs.declared.Session.{Session}
-use Rattle.rules.specs.declared.Ended.{Ended}
+use Rattle.rules.specs.Words.{Ended}
 use Rattle.session.specs.Picture.{Good, view}
 use Rattle.text.specs.Prints.{outcome_of}
 use Rattle.bridge.specs.Reached.{Left, Called, Burst, ActedOn}

@@ -7,33 +7,33 @@ use Rattle.rules.specs.Command.{Answer, ended_of}
 use Rattle.rules.specs.Fetch as rules
 use Rattle.fetch.specs.declared.Fetched.{Fetched}
 use Rattle.fetch.specs.Gathers.{Leaves}
-use Rattle.rules.specs.declared.Ended.{Ended}
-use Rattle.rules.specs.declared.Ended.TheVariants.{Wrote, Refused}
+use Rattle.rules.specs.Words.{Ended}
+use Rattle.std.specs.Prelude.{Ok, Err}
 use Rattle.session.specs.declared.Session.{Session}
 use Rattle.session.specs.Calls.{Answers}
 
 -- the count of bytes written, or 1000000 (hexadecimal) plus the refusal's number
 unfoldable pub packed : Ended → ℕ
-packed (Wrote count) = count
-packed (Refused r) = 0x1000000 + number_of r
+packed (Ok count) = count
+packed (Err r) = 0x1000000 + number_of r
 
 -- how the call ended, read back from that number
 unfoldable pub unpacked : ℕ → Ended
-unpacked r = ltb r 0x1000000 ⇒ Wrote r else Refused (refusal_of (r - 0x1000000))
+unpacked r = ltb r 0x1000000 ⇒ Ok r else Err (refusal_of (r - 0x1000000))
 
 -- a count that is told apart from every refusal
 unfoldable pub Fits : Ended → Type 0
-Fits (Wrote count) = count ≤ grant_cap
-Fits (Refused r) = Unit {0}
+Fits (Ok count) = count ≤ grant_cap
+Fits (Err r) = Unit {0}
 
 -- the count of units or bytes of a text, or 8000000000000000 (hexadecimal) plus the refusal's number
 unfoldable pub packed_text : Ended → ℕ
-packed_text (Wrote count) = count
-packed_text (Refused r) = 0x8000000000000000 + number_of r
+packed_text (Ok count) = count
+packed_text (Err r) = 0x8000000000000000 + number_of r
 
 -- how the call ended, read back from that number
 unfoldable pub unpacked_text : ℕ → Ended
-unpacked_text r = ltb r 0x8000000000000000 ⇒ Wrote r else Refused (refusal_of (r - 0x8000000000000000))
+unpacked_text r = ltb r 0x8000000000000000 ⇒ Ok r else Err (refusal_of (r - 0x8000000000000000))
 
 -- the number tells how a reading or a writing ended, and no count is taken for a refusal
 pub record Texts (e : Ended) (r : ℕ) : Type 0 where

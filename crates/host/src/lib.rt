@@ -1,43 +1,38 @@
-// The calls over a record that the host lends, exported to C. Each lends both arrays, moves nothing, and packs how it ended into one number.
+// The calls over a record that the host lends, exported to C. Each hands the record on, moves nothing, and packs how it ended into one number.
 #![tactic(auto)]
 
-ghost use Rattle.std.specs.Prelude.{◌≡◌, [], length};
-ghost use Rattle.rules.specs.Pool.{pool_size};
+ghost use Rattle.std.specs.Prelude.{◌≡◌, [], length, Ok};
 ghost use Rattle.rules.specs.State.{start};
 ghost use Rattle.rules.specs.AtHand.{at_hand};
 ghost use Rattle.rules.specs.Command.{lending, command};
 ghost use Rattle.rules.specs.Fetch.{fetch};
 ghost use Rattle.rules.specs.Radio.{arrival, taking, dropping};
 ghost use Rattle.rules.specs.TimerCalls.{passing, enveloping};
-ghost use Rattle.rules.specs.declared.Ended.TheVariants.{Wrote};
 ghost use Rattle.alpha.specs.Reads.{reads};
 ghost use Rattle.alpha.specs.Writes.{writes};
 ghost use Rattle.alpha.specs.Calls.{fitted, laid, ended_of, leaves};
-ghost use Rattle.session.specs.Book.{ledger_size};
 ghost use Rattle.session.specs.Calls.{Answers};
-ghost use Rattle.session.specs.Picture.{Good, GoodIn, Shows, shown, view};
+ghost use Rattle.session.specs.Picture.{Good, Shows, view};
 ghost use Rattle.fetch.specs.Gathers.{gathered_of, gathered_in, Gathers};
-ghost use Rattle.host.specs.Packed.{packed, packed_burst, packed_text, Texts, Fits, Hosts, Packs, PacksBurst, HostsBurst};
+ghost use Rattle.host.specs.Packed.{packed, packed_burst, packed_text, Texts, Fits, Hosts, HostsBurst};
 
 use alpha;
 use command::at_hand;
 use fetch::{Fetched, Gathered, fetch_in, start_gathered};
 use modem::command_in;
-use octets;
-use pool::Pool;
 use radio::{arrival_in, dropping_in, taking_in};
-use rules::{ChannelNumber, Ended};
-use session::{Ledger, Session, start_ledger};
+use rules::{ChannelNumber, Refusal};
+use session::Session;
 use timers::{envelope_in, pass_second};
 
 // How a call ended, in one number: the count, or 1000000 (hexadecimal) plus the refusal's number.
-fn pack(ended: Ended) -> u32
+fn pack(ended: Result<usize, Refusal>) -> u32
     requires { Fits ended }
     ensures { result ≡ packed ended }
 {
     match ended {
-        Ended::Wrote(count) => count as u32,
-        Ended::Refused(why) => 0x1000000 + why.number() as u32,
+        Ok(count) => count as u32,
+        Err(why) => 0x1000000 + why.number() as u32,
     }
 }
 
@@ -64,109 +59,13 @@ fn pack_burst(fetched: Fetched) -> u64
 const TEXT_REFUSED: u64 = 0x8000000000000000;
 
 // How a reading or a writing of a text ended, in one number: the count, or 8000000000000000 (hexadecimal) plus the refusal's number.
-fn pack_text(ended: Ended) -> u64
+fn pack_text(ended: Result<usize, Refusal>) -> u64
     ensures { result ≡ packed_text ended }
 {
     match ended {
-        Ended::Wrote(count) => count as u64,
-        Ended::Refused(why) => TEXT_REFUSED + why.number() as u64,
+        Ok(count) => count as u64,
+        Err(why) => TEXT_REFUSED + why.number() as u64,
     }
-}
-
-// The start over the lent arrays: the pool's bytes are cleared, and the ledger is written anew.
-fn start_lent(ledger: &mut [u16; Ledger::SIZE], pool: &mut [u8; Pool::SIZE], profile: &[u8])
-    requires { (length ledger.old ≡ ledger_size) × (length pool.old ≡ pool_size) }
-    ensures { Shows (start profile.now) ledger.new pool.new × GoodIn ledger.new pool.new }
-{
-    octets::clear(pool, 0, Pool::SIZE);
-    start_ledger(ledger, profile);
-}
-
-// The command call over the lent arrays.
-fn command_packed(
-    ledger: &mut [u16; Ledger::SIZE],
-    pool: &mut [u8; Pool::SIZE],
-    bytes: &[u8],
-    out: &mut [u8],
-) -> u32
-    requires { GoodIn ledger.old pool.old }
-    ensures { Packs (command (shown ledger.old pool.old) (lending (length out.old)) bytes.now) ledger.new pool.new result out.old out.new }
-{
-    pack(command_in(ledger, pool, bytes, out))
-}
-
-// The arrival over the lent arrays.
-fn arrival_packed(
-    ledger: &mut [u16; Ledger::SIZE],
-    pool: &mut [u8; Pool::SIZE],
-    channel: u8,
-    bytes: &[u8],
-    out: &mut [u8],
-) -> u32
-    requires { GoodIn ledger.old pool.old }
-    ensures { Packs (arrival (shown ledger.old pool.old) (length out.old) (record { 0 = channel }) bytes.now) ledger.new pool.new result out.old out.new }
-{
-    pack(arrival_in(ledger, pool, ChannelNumber(channel), bytes, out))
-}
-
-// The take over the lent arrays.
-fn take_packed(
-    ledger: &mut [u16; Ledger::SIZE],
-    pool: &mut [u8; Pool::SIZE],
-    channel: u8,
-    out: &mut [u8],
-) -> u32
-    requires { GoodIn ledger.old pool.old }
-    ensures { Packs (taking (shown ledger.old pool.old) (length out.old) (record { 0 = channel })) ledger.new pool.new result out.old out.new }
-{
-    pack(taking_in(ledger, pool, ChannelNumber(channel), out))
-}
-
-// The drop over the lent arrays.
-fn drop_packed(
-    ledger: &mut [u16; Ledger::SIZE],
-    pool: &mut [u8; Pool::SIZE],
-    channel: u8,
-    out: &mut [u8],
-) -> u32
-    requires { GoodIn ledger.old pool.old }
-    ensures { Packs (dropping (shown ledger.old pool.old) (length out.old) (record { 0 = channel })) ledger.new pool.new result out.old out.new }
-{
-    pack(dropping_in(ledger, pool, ChannelNumber(channel), out))
-}
-
-// A second over the lent arrays.
-fn second_lent(ledger: &mut [u16; Ledger::SIZE], pool: &mut [u8; Pool::SIZE])
-    requires { GoodIn ledger.old pool.old }
-    ensures { Answers (passing (shown ledger.old pool.old)) ledger.new pool.new (Wrote 0) [] [] }
-{
-    pass_second(ledger, pool);
-}
-
-// The envelope over the lent arrays.
-fn envelope_packed(
-    ledger: &mut [u16; Ledger::SIZE],
-    pool: &mut [u8; Pool::SIZE],
-    out: &mut [u8],
-) -> u32
-    requires { GoodIn ledger.old pool.old }
-    ensures { Packs (enveloping (shown ledger.old pool.old) (length out.old)) ledger.new pool.new result out.old out.new }
-{
-    pack(envelope_in(ledger, pool, out))
-}
-
-// A burst over the lent arrays and the gathered record.
-fn fetch_packed(
-    ledger: &mut [u16; Ledger::SIZE],
-    pool: &mut [u8; Pool::SIZE],
-    gathered: &mut [u8; Gathered::SIZE],
-    bytes: &[u8],
-    out: &mut [u8],
-) -> u64
-    requires { GoodIn ledger.old pool.old × Gathers gathered.old }
-    ensures { PacksBurst (fetch (shown ledger.old pool.old) (lending (length out.old)) (gathered_in gathered.old) bytes.now) ledger.new pool.new gathered.new result out.old out.new }
-{
-    pack_burst(fetch_in(ledger, pool, gathered, bytes, out))
 }
 
 // A fresh session from profile bytes of any length, in the host's record, whatever it held.
@@ -174,7 +73,7 @@ fn fetch_packed(
 pub extern "C" fn pomerassol_start(s: &mut Session, profile: &[u8])
     ensures { Shows (start profile.now) s.new.ledger s.new.pool × Good s.new }
 {
-    start_lent(&mut s.ledger, &mut s.pool, profile);
+    s.restart(profile);
 }
 
 // The card sends a command.
@@ -183,7 +82,7 @@ pub extern "C" fn pomerassol_command(s: &mut Session, bytes: &[u8], out: &mut [u
     requires { Good s.old }
     ensures { Hosts (command (view s.old) (lending (length out.old)) bytes.now) s.new result out.old out.new }
 {
-    command_packed(&mut s.ledger, &mut s.pool, bytes, out)
+    pack(command_in(s, bytes, out))
 }
 
 // The radio brings bytes for a channel.
@@ -197,7 +96,7 @@ pub extern "C" fn pomerassol_arrival(
     requires { Good s.old }
     ensures { Hosts (arrival (view s.old) (length out.old) (record { 0 = channel }) bytes.now) s.new result out.old out.new }
 {
-    arrival_packed(&mut s.ledger, &mut s.pool, channel, bytes, out)
+    pack(arrival_in(s, ChannelNumber(channel), bytes, out))
 }
 
 // The radio takes the bytes of a channel that are ready, as many as fit.
@@ -206,7 +105,7 @@ pub extern "C" fn pomerassol_take(s: &mut Session, channel: u8, out: &mut [u8]) 
     requires { Good s.old }
     ensures { Hosts (taking (view s.old) (length out.old) (record { 0 = channel })) s.new result out.old out.new }
 {
-    take_packed(&mut s.ledger, &mut s.pool, channel, out)
+    pack(taking_in(s, ChannelNumber(channel), out))
 }
 
 // The radio tells that the link of a channel was dropped.
@@ -215,16 +114,16 @@ pub extern "C" fn pomerassol_drop(s: &mut Session, channel: u8, out: &mut [u8]) 
     requires { Good s.old }
     ensures { Hosts (dropping (view s.old) (length out.old) (record { 0 = channel })) s.new result out.old out.new }
 {
-    drop_packed(&mut s.ledger, &mut s.pool, channel, out)
+    pack(dropping_in(s, ChannelNumber(channel), out))
 }
 
 // A second passes for the timers.
 #[unsafe(no_mangle)]
 pub extern "C" fn pomerassol_second(s: &mut Session)
     requires { Good s.old }
-    ensures { Answers (passing (view s.old)) s.new.ledger s.new.pool (Wrote 0) [] [] }
+    ensures { Answers (passing (view s.old)) s.new.ledger s.new.pool (Ok 0) [] [] }
 {
-    second_lent(&mut s.ledger, &mut s.pool);
+    pass_second(s);
 }
 
 // The envelope of the lowest timer that waits.
@@ -233,7 +132,7 @@ pub extern "C" fn pomerassol_envelope(s: &mut Session, out: &mut [u8]) -> u32
     requires { Good s.old }
     ensures { Hosts (enveloping (view s.old) (length out.old)) s.new result out.old out.new }
 {
-    envelope_packed(&mut s.ledger, &mut s.pool, out)
+    pack(envelope_in(s, out))
 }
 
 // What command is at hand: number, type and qualifier in one number, or R2; from the outer head and the first object alone.
@@ -281,5 +180,5 @@ pub extern "C" fn pomerassol_fetch(
     requires { Good s.old × Gathers gathered.old }
     ensures { HostsBurst (fetch (view s.old) (lending (length out.old)) (gathered_in gathered.old) bytes.now) s.new gathered.new result out.old out.new }
 {
-    fetch_packed(&mut s.ledger, &mut s.pool, gathered, bytes, out)
+    pack_burst(fetch_in(s, gathered, bytes, out))
 }

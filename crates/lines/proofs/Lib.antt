@@ -1,3 +1,4 @@
 pub mod Telling
 pub mod Timing
+pub mod Acting
 pub mod Settled

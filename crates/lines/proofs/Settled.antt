@@ -26,14 +26,14 @@ module _ {f : Said State} {t p u q before after after' : List ℕ} {m n at : ℕ
   pool_same : p ≡ q
   pool_same = g.good.shows.pool ∙ ap pool_of shown_same ∙ sym h.good.shows.pool
 
-pub begin_settled : Determined 4 begin-kinds.ps begin-kinds.r begin-reads.Pre begin-reads.Post
+pub begin_settled : Determined 3 begin-kinds.ps begin-kinds.r begin-reads.Pre begin-reads.Post
 begin_settled κs a _ x y v w p q =
-    (p.place ∙ sym q.place, λ i. (ledger_same p q i, (pool_same p q i, (tt, ((p.stands ∙ sym q.stands) i, (tt, tt))))))
+    (p.place ∙ sym q.place, λ i. (record { ledger = ledger_same p q i; pool = pool_same p q i }, (tt, ((p.stands ∙ sym q.stands) i, (tt, tt)))))
 
-pub end_line_settled : Determined 4 end-line-kinds.ps end-line-kinds.r end-line-reads.Pre end-line-reads.Post
+pub end_line_settled : Determined 3 end-line-kinds.ps end-line-kinds.r end-line-reads.Pre end-line-reads.Post
 end_line_settled κs a _ x y v w p q =
-    (p.place ∙ sym q.place, λ i. (tt, (ledger_same p q i, (pool_same p q i, (tt, ((p.stands ∙ sym q.stands) i, (tt, tt)))))))
+    (p.place ∙ sym q.place, λ i. (tt, (record { ledger = ledger_same p q i; pool = pool_same p q i }, (tt, ((p.stands ∙ sym q.stands) i, (tt, tt))))))
 
-pub tell_call_settled : Determined 4 tell-call-kinds.ps tell-call-kinds.r tell-call-reads.Pre tell-call-reads.Post
+pub tell_call_settled : Determined 3 tell-call-kinds.ps tell-call-kinds.r tell-call-reads.Pre tell-call-reads.Post
 tell_call_settled κs a _ x y v w p q =
-    (p.place ∙ sym q.place, λ i. (tt, (ledger_same p q i, (pool_same p q i, (tt, ((p.stands ∙ sym q.stands) i, (tt, tt)))))))
+    (p.place ∙ sym q.place, λ i. (tt, (record { ledger = ledger_same p q i; pool = pool_same p q i }, (tt, ((p.stands ∙ sym q.stands) i, (tt, tt))))))

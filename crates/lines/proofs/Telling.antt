@@ -18,14 +18,14 @@ use Rattle.rules.specs.Command.{wrote, refused, lending}
 use Rattle.rules.specs.Radio.{arrives, takes, drops}
 use Rattle.rules.specs.Run.{Call, starting, commanding, arriving, taking_out, dropping_link, step, radio, timing}
 use Rattle.rules.specs.Reading.{pair_in}
-use Rattle.rules.specs.Lines.{printed, frame_of, call_in, call_of, perform, line_step}
-use Rattle.rules.specs.Input.{Said, line_bytes, begins, goes}
+use Rattle.rules.specs.Lines.{printed, call_of}
+use Rattle.rules.specs.Input.{Said, line_bytes, begins}
 use Rattle.rules.proofs.Laws.{branch, both_right}
 use Rattle.rules.proofs.Soundness.{start_sound, step_sound}
 use Rattle.rules.specs.Pool.{pool_size, grant_cap}
 use Rattle.octets.specs.Parts.{part, pasted, cleared}
-use Rattle.rules.specs.declared.Ended.{Ended}
-use Rattle.rules.specs.declared.Ended.TheVariants.{Wrote, Refused}
+use Rattle.rules.specs.Words.{Ended}
+use Rattle.std.specs.Prelude.{Ok, Err, Option as CodeOption, Some, None}
 use Rattle.session.specs.Picture.{Shows, GoodIn, shown, ledger_of}
 use Rattle.session.specs.Calls.{Answers}
 use Rattle.session.proofs.Facts.{bounds}
@@ -33,19 +33,18 @@ use Rattle.session.proofs.Starts.{empty_pool, over_all}
 use Rattle.session.proofs.Views.{shows_back, shows_good}
 use Rattle.rules.specs.Results.{response_cap, event_cap}
 use Rattle.text.specs.declared.Spoken.{Spoken}
-use Rattle.text.specs.declared.Spoken.TheVariants.{Command, Arrival, Take, Drop, Nothing}
+use Rattle.text.specs.declared.Spoken.TheVariants.{Command, Arrival, Take, Drop}
 use Rattle.text.specs.Calls.{call_spoken}
-use Rattle.text.specs.Prints.{count_of, outcome_of, line_of, Prints}
+use Rattle.text.specs.Prints.{count_of, outcome_of, Prints}
 use Rattle.octets.proofs.Stores.{paste_none}
-use Rattle.text.proofs.Printing.{prints_as}
 use Rattle.text.proofs.Bounds.{front_back, count_within}
 use Rattle.lines.specs.Says.{answer_to, Replies, Says}
 
 -- what a call wrote stands in every buffer in front of which its own stands
 outcome_front : (e : Ended) (s w : List ℕ) → count_of e ≤ length s → outcome_of e (s ++ w) ≡ outcome_of e s
 unfolding outcome_of count_of
-outcome_front (Wrote k) s w h = ap wrote (take-append-le k s w h)
-outcome_front (Refused r) s w h = refl
+outcome_front (Ok k) s w h = ap wrote (take-append-le k s w h)
+outcome_front (Err r) s w h = refl
 
 -- a call that was lent the front of a buffer
 module _ (t p : List ℕ) (g : GoodIn t p) (o : Option Call) (t' p' : List ℕ) (e : Ended) where
@@ -66,59 +65,23 @@ module _ (t p : List ℕ) (g : GoodIn t p) (o : Option Call) (t' p' : List ℕ) 
       })
 
 -- R9, and the session as it was
-pub unread_replies : (t p : List ℕ) (o : Option Call) (reply : List ℕ) → GoodIn t p → o ≡ none → Replies (answer_to (shown t p) o) t p (Refused R9) reply
+pub unread_replies : (t p : List ℕ) (o : Option Call) (reply : List ℕ) → GoodIn t p → o ≡ none → Replies (answer_to (shown t p) o) t p (Err R9) reply
 unfolding answer_to count_of outcome_of
 unread_replies t p o reply g q =
-    subst (λ (y : Option Call). Replies (answer_to (shown t p) y) t p (Refused R9) reply) (sym q) (record { good = g; state = refl; fits = omega arith; outcome = refl })
+    subst (λ (y : Option Call). Replies (answer_to (shown t p) y) t p (Err R9) reply) (sym q) (record { good = g; state = refl; fits = omega arith; outcome = refl })
 
 -- by the frame of a line
-pub frame_replies :
-    (a : State) (o : Option (List ℕ)) (s t p : List ℕ) (e : Ended) (reply : List ℕ) → o ≡ some s → Replies (answer_to a (call_of s)) t p e reply →
-    Replies (answer_to a (call_in o)) t p e reply
-unfolding call_in
-frame_replies a o s t p e reply q h = rw q h
-
--- a line after the first is printed as its call ended
-line_is : (a : State) (o : Option Call) → perform a o ≡ record { state = (answer_to a o).state; line = printed (answer_to a o).outcome }
-unfolding perform answer_to
-line_is a none = refl
-line_is a (some c) = refl
-
-pub line_says :
-    (a : State) (l t p : List ℕ) (e : Ended) (reply out : List ℕ) (at k : ℕ) (after : List ℕ) → Replies (answer_to a (call_in (frame_of l))) t p e reply →
-    Prints (line_of (outcome_of e reply)) k out at after → Says (goes a l) t p k out at after
-unfolding goes line_step
-line_says a l t p e reply out at k after h w =
-    let x = answer_to a (call_in (frame_of l)) in
-    let q = prints_as (ap line_of h.outcome) w in
-    let f : Said State = record { kept = x.state; out = line_bytes (printed x.outcome) } in
-    let says : Says f t p k out at after =
-    record { good = h.good; state = h.state; stands = q.stands; place = q.place } in
-    rw (line_is a (call_in (frame_of l))) says
-
 -- a line that is whole, by what it comes to
 pub ends_says : (f g : Said State) (t p : List ℕ) (k : ℕ) (out : List ℕ) (at : ℕ) (after : List ℕ) → f ≡ g → Says g t p k out at after → Says f t p k out at after
 ends_says f g t p k out at after e w = rw e w
 
 -- a fresh session
-module _ (s t pool p u : List ℕ) (g : GoodIn u pool) (c : p ≡ cleared pool 0 pool_size) (m : t ≡ ledger_of (start s)) where
-  pool_size_lem : length pool ≡ pool_size
-  pool_size_lem = (bounds u pool (record { 0 = 1 }) (record { good = g; low = omega arith; high = omega arith })).size
-
-  fresh_shows : Shows (start s) t p
-  unfolding cleared
-  fresh_shows = record { ledger = m; pool = c ∙ over_all pool (replicate pool_size 0) (pool_size_lem ∙ sym (length-replicate {A = ℕ} pool_size 0)) ∙ empty_pool s }
-
+module _ (s t p : List ℕ) (m : Shows (start s) t p) where
   fresh_says :
       (f : Said State) (before : List ℕ) (at k : ℕ) (after : List ℕ) → f.kept ≡ start s → after ≡ pasted before at f.out → k ≡ at + length f.out →
       Says f t p k before at after
   fresh_says f before at k after e w z =
-      record {
-        good = shows_good (start s) t p (start_sound s) fresh_shows;
-        state = shows_back (start s) t p (start_sound s) fresh_shows ∙ sym e;
-        stands = w;
-        place = z;
-      }
+      record { good = shows_good (start s) t p (start_sound s) m; state = shows_back (start s) t p (start_sound s) m ∙ sym e; stands = w; place = z }
 
   pub first_read : (o : Option (List ℕ)) (out : List ℕ) (at : ℕ) → o ≡ some s → Says (begins o) t p at out at out
   unfolding begins
@@ -126,11 +89,10 @@ module _ (s t pool p u : List ℕ) (g : GoodIn u pool) (c : p ≡ cleared pool 0
 
 -- an unreadable first line is a blank one, and R9
 pub first_unread :
-    (t pool p u : List ℕ) → GoodIn u pool → p ≡ cleared pool 0 pool_size → t ≡ ledger_of (start []) → (o : Option (List ℕ)) (before : List ℕ) (at k : ℕ) (after : List ℕ) →
-    o ≡ none → Prints (line_bytes (printed (refused R9))) k before at after →
-    Says (begins o) t p k before at after
+    (t p : List ℕ) → Shows (start []) t p → (o : Option (List ℕ)) (before : List ℕ) (at k : ℕ) (after : List ℕ) → o ≡ none →
+    Prints (line_bytes (printed (refused R9))) k before at after → Says (begins o) t p k before at after
 unfolding begins
-first_unread t pool p u g c m o before at k after e w = rw e (fresh_says [] t pool p u g c m _ before at k after refl w.stands w.place)
+first_unread t p m o before at k after e w = rw e (fresh_says [] t p m _ before at k after refl w.stands w.place)
 
 -- the front of a reply
 pub front_size : (k : ℕ) (z : List ℕ) → length z ≡ grant_cap → k ≤ grant_cap → k ≡ length (take k z)
@@ -157,40 +119,40 @@ call_bounded s =
     (λ _. branch (Bounded s) _ _ _ (λ _. tt) (λ _. tt))))
 
 -- by the call that the code read, with the front of a buffer that is lent to it
-module _ (s : List ℕ) (r : Spoken) (t : call_of s ≡ call_spoken r s) where
-  spoken : (k : Spoken) → r ≡ k → call_of s ≡ call_spoken k s
-  spoken k e = t ∙ ap (λ (x : Spoken). call_spoken x s) e
+module _ (s : List ℕ) (r : CodeOption Spoken) (t : call_of s ≡ call_spoken r s) where
+  spoken : (k : CodeOption Spoken) → r ≡ k → call_of s ≡ call_spoken k s
+  spoken k e = t ∙ ap (λ (x : CodeOption Spoken). call_spoken x s) e
 
-  pub nothing_spoken : r ≡ Nothing → call_of s ≡ none
+  pub nothing_spoken : r ≡ None → call_of s ≡ none
   unfolding call_spoken
-  nothing_spoken e = spoken Nothing e
+  nothing_spoken e = spoken None e
 
-  pub arrival_bounded : (n : ChannelNumber) → r ≡ Arrival n → 2 ≤ length s
+  pub arrival_bounded : (n : ChannelNumber) → r ≡ Some (Arrival n) → 2 ≤ length s
   unfolding call_spoken
-  arrival_bounded n e = subst (Bounded s) (spoken (Arrival n) e) (call_bounded s)
+  arrival_bounded n e = subst (Bounded s) (spoken (Some (Arrival n)) e) (call_bounded s)
 
-  pub take_bounded : (n : ChannelNumber) (k : ℕ) → r ≡ Take n k → k ≤ grant_cap
+  pub take_bounded : (n : ChannelNumber) (k : ℕ) → r ≡ Some (Take n k) → k ≤ grant_cap
   unfolding call_spoken
-  take_bounded n k e = subst (Bounded s) (spoken (Take n k) e) (call_bounded s)
+  take_bounded n k e = subst (Bounded s) (spoken (Some (Take n k)) e) (call_bounded s)
 
   module _ (z : List ℕ) (h : length z ≡ grant_cap) where
     lent : (c : ℕ → Call) (k : ℕ) → k ≤ grant_cap → call_of s ≡ some (c k) → call_of s ≡ some (c (length (take k z)))
     lent c k f e = e ∙ ap (λ (j : ℕ). some (c j)) (front_size k z h f)
 
-    pub command_spoken : r ≡ Command → call_of s ≡ some (commanding (lending (length (take response_cap z))) s)
+    pub command_spoken : r ≡ Some Command → call_of s ≡ some (commanding (lending (length (take response_cap z))) s)
     unfolding call_spoken
-    command_spoken e = lent (λ (k : ℕ). commanding (lending k) s) response_cap (omega arith) (spoken Command e)
+    command_spoken e = lent (λ (k : ℕ). commanding (lending k) s) response_cap (omega arith) (spoken (Some Command) e)
 
-    pub arrival_spoken : (n : ChannelNumber) → r ≡ Arrival n → call_of s ≡ some (arriving (length (take event_cap z)) n (part 2 (length s) s))
+    pub arrival_spoken : (n : ChannelNumber) → r ≡ Some (Arrival n) → call_of s ≡ some (arriving (length (take event_cap z)) n (part 2 (length s) s))
     unfolding call_spoken
     arrival_spoken n e =
         lent (λ (k : ℕ). arriving k n (part 2 (length s) s)) event_cap (omega arith)
-        (spoken (Arrival n) e ∙ ap (λ (t : List ℕ). some (arriving event_cap n t)) (sym (part_to_end s 2)))
+        (spoken (Some (Arrival n)) e ∙ ap (λ (t : List ℕ). some (arriving event_cap n t)) (sym (part_to_end s 2)))
 
-    pub take_spoken : (n : ChannelNumber) (k : ℕ) → r ≡ Take n k → call_of s ≡ some (taking_out (length (take k z)) n)
+    pub take_spoken : (n : ChannelNumber) (k : ℕ) → r ≡ Some (Take n k) → call_of s ≡ some (taking_out (length (take k z)) n)
     unfolding call_spoken
-    take_spoken n k e = lent (λ (j : ℕ). taking_out j n) k (take_bounded n k e) (spoken (Take n k) e)
+    take_spoken n k e = lent (λ (j : ℕ). taking_out j n) k (take_bounded n k e) (spoken (Some (Take n k)) e)
 
-    pub drop_spoken : (n : ChannelNumber) → r ≡ Drop n → call_of s ≡ some (dropping_link (length (take event_cap z)) n)
+    pub drop_spoken : (n : ChannelNumber) → r ≡ Some (Drop n) → call_of s ≡ some (dropping_link (length (take event_cap z)) n)
     unfolding call_spoken
-    drop_spoken n e = lent (λ (k : ℕ). dropping_link k n) event_cap (omega arith) (spoken (Drop n) e)
+    drop_spoken n e = lent (λ (k : ℕ). dropping_link k n) event_cap (omega arith) (spoken (Some (Drop n)) e)

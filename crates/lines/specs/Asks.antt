@@ -1,6 +1,5 @@
 -- The tool over the calls: the line program's lines, and beside them A3, a second that passes, and A4, the envelope of a timer.
 use Rattle.std.specs.Prelude.{ℕ, zero, suc, Bool, List, [], length, get_or, drop, eqb}
-use Rattle.std.proofs.Math.Option.{Option, none, some}
 use Rattle.rules.specs.declared.Refusal.TheVariants.{Unreadable}
 use Rattle.rules.specs.Checks.{◌⇒◌else◌}
 use Rattle.rules.specs.Results.{envelope_cap}
@@ -9,9 +8,10 @@ use Rattle.rules.specs.Reading.{pair_in}
 use Rattle.rules.specs.Command.{Answer, answered, refusal}
 use Rattle.rules.specs.TimerCalls.{envelope, passing}
 use Rattle.rules.specs.Run.{timing, step}
-use Rattle.rules.specs.Lines.{frame_of, call_of, printed}
-use Rattle.rules.specs.Input.{Said, line_bytes, begins}
+use Rattle.rules.specs.Lines.{frame_of, call_of}
+use Rattle.rules.specs.Input.{Said, begins}
 use Rattle.lines.specs.Says.{answer_to}
+use Rattle.lines.specs.Acts.{goes_by}
 
 -- so many seconds pass
 unfoldable pub later : ℕ → State → State
@@ -39,17 +39,8 @@ frame_for a s =
     eqb (get_or s 0 0) 0xA4 ⇒ envelope_for a s else
     answer_to a (call_of s)
 
--- by the frame of a line; R9 where it is unreadable
-unfoldable pub answer_for : State → Option (List ℕ) → Answer
-answer_for a none = refusal a Unreadable
-answer_for a (some s) = frame_for a s
-
--- a line after the first
-unfoldable pub goes_on : State → List ℕ → Said State
-goes_on a l = let r = answer_for a (frame_of l) in record { kept = r.state; out = line_bytes (printed r.outcome) }
-
 -- the first line is the profile
 unfoldable pub calls_ends : Bool → State → List ℕ → Said State
 calls_ends begun a l =
-    begun ⇒ goes_on a l else
+    begun ⇒ goes_by frame_for a l else
     begins (frame_of l)

@@ -1,2 +1,3 @@
 pub mod Says
+pub mod Acts
 pub mod Asks

@@ -7,7 +7,7 @@ use Rattle.rules.specs.Command.{Answer, refusal}
 use Rattle.rules.specs.Run.{Call, step}
 use Rattle.rules.specs.Input.{Said}
 use Rattle.octets.specs.Parts.{pasted}
-use Rattle.rules.specs.declared.Ended.{Ended}
+use Rattle.rules.specs.Words.{Ended}
 use Rattle.session.specs.Picture.{GoodIn, shown}
 use Rattle.text.specs.Prints.{count_of, outcome_of}
 

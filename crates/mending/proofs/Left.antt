@@ -2,7 +2,9 @@
 -- Assumes nothing.
 use Prim.Native.Nat.{ℕ, ◌+◌, ◌-◌, ◌*◌, ◌/◌, ◌%◌, ◌≤◌, ◌<◌}
 use mathlib.Core.Path.{◌≡◌, refl, sym, ap, ◌∙◌}
+use mathlib.Core.Logic.{⊎_elim}
 use mathlib.Core.Bool.{Bool, false, ◌&&◌}
+use Rattle.std.proofs.lemmas.Bool.{cases_lt}
 use mathlib.Core.List.{List, [], ◌∷◌, ◌++◌, append_assoc, append-nil}
 use native.Mathlib.Omega.{arith}
 use lib.ListN.{length, take, drop, length-append, length-drop, drop_of_length-le, take-append-drop}
@@ -62,9 +64,11 @@ module _ {whole rest before : List ℕ} {start : ℕ} {out : List ℕ} {to : ℕ
   pub left_room : (x y : List ℕ) → rest ≡ x ++ y → to + length x ≤ length out
   left_room x y e = let n = ap length e ∙ length-append x y in omega (arith, l.fits)
 
--- nothing comes out behind the end
-pub end_bytes : (s : List ℕ) (at : ℕ) → length s ≤ at → (mend_from at (drop at s)).bytes ≡ []
-end_bytes s at h = ap (λ (x : List ℕ). (mend_from at x).bytes) (drop_of_length-le s h) ∙ ap (λ (m : Mended). m.bytes) (mend_end at)
+-- nothing comes out behind the end, and from a fault on
+pub end_bytes : (s : List ℕ) (at : ℕ) → (at < length s → mend_from at (drop at s) ≡ cut_from at) → (mend_from at (drop at s)).bytes ≡ []
+end_bytes s at f =
+    ⊎_elim (λ h. ap (λ (m : Mended). m.bytes) (f h))
+    (λ h. ap (λ (x : List ℕ). (mend_from at x).bytes) (drop_of_length-le s h) ∙ ap (λ (m : Mended). m.bytes) (mend_end at)) (cases_lt at (length s))
 
 pub end_text : (s : List ℕ) (at : ℕ) → length s ≤ at → changes_text (mend_from at (drop at s)).changes ≡ []
 unfolding changes_text
@@ -79,23 +83,13 @@ module _ {s : List ℕ} {at sized kept next : ℕ} (st : Stands s at sized kept 
   kept_size_lem = length_part kept next s st.within
 
   module _ {whole before : List ℕ} {start : ℕ} {out : List ℕ} {to : ℕ} (l : Left whole (mend_from at (drop at s)).bytes before start out to) where
-    pub object_room : to + (sized - at) + (next - kept) ≤ length out
+    object_room : to + (sized - at) + (next - kept) ≤ length out
     object_room =
         let h = left_room l (part at sized s ++ part kept next s) (mend_from next (drop next s)).bytes st.bytes in
         let a = length-append (part at sized s) (part kept next s) in
         let t = tag_size in
         let k = kept_size_lem in
         omega arith
-
-    pub tag_put : (at ≤ sized) × (sized ≤ length s) × (to + (sized - at) ≤ length out)
-    tag_put = (omega (arith, st.tagged), omega (arith, st.from, st.behind, st.within), let h = object_room in omega arith)
-
-    pub kept_put : {middle : List ℕ} → middle ≡ pasted out to (part at sized s) → (kept ≤ next) × (next ≤ length s) × (to + (sized - at) + (next - kept) ≤ length middle)
-    kept_put p =
-        let t = tag_size in
-        let h = object_room in
-        let same = ap length p ∙ length_pasted out to (part at sized s) (omega arith) in
-        (omega (arith, st.behind), st.within, omega arith)
 
     pub object_left :
         {middle after : List ℕ} → middle ≡ pasted out to (part at sized s) → after ≡ pasted middle (to + (sized - at)) (part kept next s) →

@@ -9,6 +9,7 @@ use native.Mathlib.Omega.{arith}
 use lib.ListN.{length, take, drop, get_or, length-append}
 use lib.Dec.{ltb, eqb}
 use borrow.Author.Tests.{lt-ltb, le-ltb, eq-eqb, ne_eqb, eqb-true, eqb-false, ltb-true}
+use Rattle.std.proofs.lemmas.Bool.{false_from_ne_true}
 use Rattle.rules.specs.declared.Refusal.TheVariants.{Unreadable, Unmendable}
 use Rattle.rules.specs.Checks.{◌⇒◌else◌, is_empty, same}
 use Rattle.rules.specs.Frames.{no_length, length_at, length_bytes}
@@ -22,27 +23,23 @@ use Rattle.text.specs.Prints.{line_of, Prints}
 use Rattle.text.proofs.Printing.{hex_size, prints_after, prints_as}
 use Rattle.mending.specs.Mends.{Change, outer_length, loose_length_at, is_overlong, Mended, mend_from, Head, head, no_head, head_of, outer_head, mended, unmendable, framing, outer_change, mends_behind, mends}
 use Rattle.mending.specs.Printed.{room, frame_room, objects_cap, change_cap, changes_text, mending_line, frame_line}
-use Rattle.mending.specs.Places.{Length, outer_place, head_at, outer_text}
+use Rattle.mending.specs.Places.{LengthAt, outer_place, head_at, outer_text}
 use Rattle.mending.proofs.Walked.{mend_few}
 use Rattle.mending.proofs.Kept.{not_overlong}
 use Rattle.mending.proofs.Reading.{front_part}
 use Rattle.mending.proofs.Left.{front_is, text_append, text_few}
 
-refuted : (b : Bool) → (b ≡ true → ⊥) → b ≡ false
-refuted true k = absurd (k refl)
-refuted false k = refl
-
 -- shortest forms are the same where they say the same
 alike : (m n : ℕ) (b : Bool) → eqb m n ≡ b → same (length_bytes m) (length_bytes n) ≡ b
 alike m n true e = ap (λ (k : ℕ). same (length_bytes m) (length_bytes k)) (sym (eqb-true m n e)) ∙ same_refl (length_bytes m)
 alike m n false e =
-    refuted _
+    false_from_ne_true _
     (λ z.
     let f = sym (length_back m []) ∙ ap (λ (l : List ℕ). length_at (l ++ [])) (same_true (length_bytes m) (length_bytes n) z) ∙ length_back n [] in
     eqb-false m n e cc)
 
 -- whether the bytes of the outer length stay, by what it said and where its shortest form began
-module _ {s : List ℕ} {said kept start : ℕ} (h : Length s outer_place said kept start) where
+module _ {s : List ℕ} {said kept start : ℕ} (h : LengthAt s outer_place said kept start) where
   abbrev was : List ℕ
   was = part outer_place start s
 
@@ -55,7 +52,7 @@ module _ {s : List ℕ} {said kept start : ℕ} (h : Length s outer_place said k
       both true f = alike said n true f
       both false f = alike said n false f
   stays n false e =
-      refuted _
+      false_from_ne_true _
       (λ z.
       let other = eqb-false kept outer_place e in
       let over = h.overlong ∙ lt-ltb outer_place kept (omega (arith, h.from, other)) in
@@ -142,21 +139,22 @@ module _ {s : List ℕ} {said kept start : ℕ} (h : Length s outer_place said k
           let z = size in
           omega arith
 
-      pub outer_few : length (outer_text said kept count) ≤ change_cap
+      outer_few : length (outer_text said kept count) ≤ change_cap
       outer_few = branch (λ (cs : List Change). length (changes_text cs) ≤ change_cap) (eqb said count && eqb kept outer_place) [] (outer_length ∷ []) (λ _. let z = text_few [] in omega arith) (λ _. let z = text_few (outer_length ∷ []) in omega arith)
 
-      pub changes_few : length (changes_text m.changes) ≤ 762
+      changes_few : length (changes_text m.changes) ≤ 762
       changes_few =
           let z = text_few m.changes in
           omega (arith, (mend_few start (drop start s)).changes, p.place)
+
+      pub line_fits : length (hex (framing (take count buffer))) + length (outer_text said kept count) + length (changes_text m.changes) + 1 ≤ room
+      line_fits = let f = frame_few in let o = outer_few in let g = changes_few in omega arith
 
       pub mended_told :
           {x y z before after : List ℕ} {at j k l r : ℕ} → at + room ≤ length before → Prints (hex (framing (take count buffer))) j before at x → Prints (outer_text said kept count) k x j y →
           Prints (changes_text m.changes) l y k z → Prints (10 ∷ []) r z l after → Prints (mending_line (mends_behind (head_at s start))) r before at after
       mended_told h a b c d =
-          let f = frame_few in
-          let o = outer_few in
-          let g = changes_few in
+          let fits = line_fits in
           let first = length-append (hex (framing (take count buffer))) (outer_text said kept count) in
           let second = length-append (hex (framing (take count buffer)) ++ outer_text said kept count) (changes_text m.changes) in
           prints_as (sym line_is) (prints_after (prints_after (prints_after a b (omega arith)) c (omega arith)) d (omega arith))
@@ -174,14 +172,17 @@ headed (b ∷ s) n e = stop _ _ _ (eq-eqb b 0xD0 e)
 
 -- the first byte, and the outer length
 module _ (s : List ℕ) where
-  pub blank_told : {r : ℕ} {before : List ℕ} {at : ℕ} {after : List ℕ} → length s ≡ 0 → Prints (line_of (refused Unreadable)) r before at after → Prints (frame_line (some s)) r before at after
+  pub blank_told : {r : ℕ} {before : List ℕ} {at : ℕ} {after : List ℕ} → eqb (length s) 0 ≡ true → Prints (line_of (refused Unreadable)) r before at after → Prints (frame_line (some s)) r before at after
   unfolding frame_line
-  blank_told e w = prints_as (sym (stop _ _ _ (sym (empty_length s) ∙ eq-eqb (length s) 0 e))) w
+  blank_told e w = prints_as (sym (stop _ _ _ (sym (empty_length s) ∙ e))) w
 
-  module _ (n : length s ≡ 0 → ⊥) where
+  module _ (z : eqb (length s) 0 ≡ false) where
+    n : length s ≡ 0 → ⊥
+    n = eqb-false (length s) 0 z
+
     by_head : (x : Head) → outer_head s ≡ x → frame_line (some s) ≡ mending_line (mends_behind x)
     unfolding frame_line mends
-    by_head x e = skip _ _ _ (sym (empty_length s) ∙ ne_eqb (length s) 0 n) ∙ ap (λ (y : Head). mending_line (mends_behind y)) e
+    by_head x e = skip _ _ _ (sym (empty_length s) ∙ z) ∙ ap (λ (y : Head). mending_line (mends_behind y)) e
 
     pub other_told :
         {r : ℕ} {before : List ℕ} {at : ℕ} {after : List ℕ} → (get_or s 0 0 ≡ 0xD0 → ⊥) → Prints (line_of (refused Unmendable)) r before at after → Prints (frame_line (some s)) r before at after
@@ -196,7 +197,7 @@ module _ (s : List ℕ) where
       unsized_told k w = prints_as (sym (by_head _ (headed s n e ∙ ap (head_of (drop outer_place s)) k))) w
 
       pub sized_told :
-          {said kept start r : ℕ} {before : List ℕ} {at : ℕ} {after : List ℕ} → Length s outer_place said kept start → Prints (mending_line (mends_behind (head_at s start))) r before at after →
+          {said kept start r : ℕ} {before : List ℕ} {at : ℕ} {after : List ℕ} → LengthAt s outer_place said kept start → Prints (mending_line (mends_behind (head_at s start))) r before at after →
           Prints (frame_line (some s)) r before at after
       unfolding head_of
       sized_told {start = start} h w =

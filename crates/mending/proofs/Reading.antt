@@ -1,121 +1,27 @@
 -- A length and an object at a place, case by case.
 -- Assumes nothing.
-use Prim.Native.Nat.{ℕ, ◌+◌, ◌-◌, ◌≤◌, ◌<◌}
-use mathlib.Core.Path.{◌≡◌, sym, ap, subst, ◌∙◌}
-use mathlib.Core.Bool.{Bool, ◌&&◌}
+use Prim.Native.Nat.{ℕ, suc, ◌+◌, ◌-◌, ◌≤◌, ◌<◌}
+use mathlib.Core.Path.{◌≡◌, refl, sym, ap, subst, ◌∙◌}
+use mathlib.Core.Bool.{Bool, false}
 use mathlib.Core.List.{List, [], ◌∷◌, ◌++◌}
 use native.Mathlib.Omega.{arith}
-use lib.ListN.{length, take, drop, get_or, length-append, length-drop, drop_of_length-le}
+use lib.ListN.{length, take, drop, get_or, length-append, length-drop}
 use lib.Seq.{drop-drop, take-add}
-use lib.Dec.{ltb}
-use borrow.Author.Tests.{lt-ltb, le-ltb, eq-eqb, ne_eqb}
+use lib.Dec.{ltb, leb, eqb}
+use Rattle.std.proofs.lemmas.Bool.{false_from_ne_true}
+use borrow.Author.Tests.{lt-ltb, le-ltb, eq-eqb, ne_eqb, leb-false}
 use Rattle.rules.specs.Checks.{◌⇒◌else◌}
-use Rattle.rules.specs.Frames.{len, no_length, length_bytes, Object, no_tag, tag_at}
-use Rattle.rules.proofs.Laws.{stop, skip}
+use Rattle.rules.specs.Frames.{LengthRead, len, no_length, long_length, length_at, length_bytes, Object, no_tag, tag_at}
+use Rattle.rules.proofs.Laws.{stop, skip, branch}
 use Rattle.octets.specs.Parts.{part}
 use Rattle.octets.proofs.Copies.{length_part}
-use Rattle.objects.specs.Places.{Tag}
+use Rattle.objects.specs.Places.{TagAt}
+use Rattle.objects.specs.Places as objects
+use Rattle.mending.proofs.Kept.{StrictLength, strict_length, not_overlong}
 use Rattle.objects.proofs.Reading.{cons_at}
-use Rattle.mending.specs.declared.Sized.{Sized}
-use Rattle.mending.specs.declared.Sized.TheVariants.{By, Not}
-use Rattle.mending.specs.declared.Found.{Found}
-use Rattle.mending.specs.declared.Found.TheVariants as found
 use Rattle.mending.specs.Mends.{shortened, in_front, any_length, loose_length_at, is_overlong, loose, fault, loose_value, loose_tag, loose_at, Mended, cut_from, with_object, mend_from}
-use Rattle.mending.specs.Places.{Length, Measures, Stands, Finds}
+use Rattle.mending.specs.Places.{LengthAt, Stands}
 use Rattle.mending.proofs.Walked.{mend_fault, mend_object}
-
--- the length at a place
-module _ (s : List ℕ) (at : ℕ) where
-  abbrev b : ℕ
-  b = get_or s at 0
-
-  abbrev c : ℕ
-  c = get_or s (at + 1) 0
-
-  pub length_none : length s ≤ at → loose_length_at (drop at s) ≡ no_length
-  unfolding loose_length_at
-  length_none h = ap loose_length_at (drop_of_length-le s h)
-
-  module _ (h : at < length s) where
-    one_byte : part at (at + 1) s ≡ b ∷ []
-    one_byte = let e : at + 1 - at ≡ 1 = omega arith in (λ i. take (e i) (cons_at s at h i))
-
-    pub length_short : b < 0x80 → Length s at b at (at + 1)
-    unfolding loose_length_at length_bytes is_overlong
-    length_short few =
-        record {
-          is = ap loose_length_at (cons_at s at h) ∙ stop _ _ _ (lt-ltb b 0x80 few);
-          shortest = one_byte ∙ sym (stop _ _ _ (lt-ltb b 0x80 few));
-          overlong = ap is_overlong one_byte ∙ ap (λ (x : Bool). x && ltb 0 0x80) (ne_eqb b 0x81 (omega arith)) ∙ sym (le-ltb at at (omega arith));
-          from = omega arith;
-          behind = omega arith;
-          within = omega arith;
-        }
-
-    module _ (many : 0x80 ≤ b) where
-      pub length_other : (b ≡ 0x81 → ⊥) → loose_length_at (drop at s) ≡ no_length
-      unfolding loose_length_at
-      length_other n = ap loose_length_at (cons_at s at h) ∙ skip _ _ _ (le-ltb b 0x80 many) ∙ skip _ _ _ (ne_eqb b 0x81 n)
-
-      module _ (e : b ≡ 0x81) where
-        by_second : loose_length_at (drop at s) ≡ any_length (drop (at + 1) s)
-        unfolding loose_length_at
-        by_second = ap loose_length_at (cons_at s at h) ∙ skip _ _ _ (le-ltb b 0x80 many) ∙ stop _ _ _ (eq-eqb b 0x81 e)
-
-        pub second_none : length s ≤ at + 1 → loose_length_at (drop at s) ≡ no_length
-        unfolding any_length
-        second_none n = by_second ∙ ap any_length (drop_of_length-le s n)
-
-        module _ (n : at + 1 < length s) where
-          said : loose_length_at (drop at s) ≡ len c (drop (at + 1 + 1) s)
-          unfolding any_length
-          said = by_second ∙ ap any_length (cons_at s (at + 1) n)
-
-          two_bytes : part at (at + 1 + 1) s ≡ 0x81 ∷ c ∷ []
-          two_bytes =
-              let k : at + 1 + 1 - at ≡ 2 = omega arith in
-              (λ i. take (k i) ((cons_at s at h ∙ (λ j. e j ∷ cons_at s (at + 1) n j)) i))
-
-          pub long_short : c < 0x80 → Length s at c (at + 1) (at + 1 + 1)
-          unfolding length_bytes is_overlong
-          long_short few =
-              let k : at + 1 + 1 - (at + 1) ≡ 1 = omega arith in
-              record {
-                is = said;
-                shortest = (λ i. take (k i) (cons_at s (at + 1) n i)) ∙ sym (stop _ _ _ (lt-ltb c 0x80 few));
-                overlong = ap is_overlong two_bytes ∙ lt-ltb c 0x80 few ∙ sym (lt-ltb at (at + 1) (omega arith));
-                from = omega arith;
-                behind = omega arith;
-                within = omega arith;
-              }
-
-          pub long_length_lem : 0x80 ≤ c → Length s at c at (at + 1 + 1)
-          unfolding length_bytes is_overlong
-          long_length_lem more =
-              record {
-                is = said;
-                shortest = two_bytes ∙ sym (skip _ _ _ (le-ltb c 0x80 more));
-                overlong = ap is_overlong two_bytes ∙ le-ltb c 0x80 more ∙ sym (le-ltb at at (omega arith));
-                from = omega arith;
-                behind = omega arith;
-                within = omega arith;
-              }
-
--- what the readers told, by the case that it is
-pub length_told : {s : List ℕ} {at : ℕ} {r : Sized} {n kept start : ℕ} → r ≡ By n kept start → Measures r s at → Length s at n kept start
-length_told {s} {at} e w = subst (λ (x : Sized). Measures x s at) e w
-
-pub length_within : (s : List ℕ) (at : ℕ) {r : Sized} {n kept start : ℕ} → r ≡ By n kept start → Measures r s at → start ≤ length s
-length_within s at e w = (length_told e w).within
-
-pub length_missed : (s : List ℕ) (at : ℕ) {r : Sized} → r ≡ Not → Measures r s at → loose_length_at (drop at s) ≡ no_length
-length_missed s at e w = subst (λ (x : Sized). Measures x s at) e w
-
-pub object_told : {s : List ℕ} {at : ℕ} {r : Found} {sized kept next : ℕ} → r ≡ found.Object sized kept next → Finds r s at → Stands s at sized kept next
-object_told {s} {at} e w = subst (λ (x : Found). Finds x s at) e w
-
-pub object_missed : (s : List ℕ) (at : ℕ) {r : Found} → r ≡ found.Fault → Finds r s at → mend_from at (drop at s) ≡ cut_from at
-object_missed s at e w = subst (λ (x : Found). Finds x s at) e w
 
 -- the bytes between two places
 pub front_part : (s : List ℕ) (a e : ℕ) → a ≤ e → e ≤ length s → in_front (drop a s) (drop e s) ≡ part a e s
@@ -125,6 +31,79 @@ front_part s a e h k =
     let m = length-drop e s in
     let n : length (drop a s) - length (drop e s) ≡ e - a = omega arith in
     ap (λ (x : ℕ). take x (drop a s)) n
+
+-- what the rules read no length from: the other form of it, or none
+module _ (b : ℕ) (s : List ℕ) (e : length_at (b ∷ s) ≡ no_length) where
+  unread : {n : ℕ} {r : List ℕ} → len n r ≡ no_length → ⊥
+  unread h = let z : ◌≡◌ {A = ℕ} 0 1 = cc in omega arith
+
+  many : ltb b 0x80 ≡ false
+  unfolding length_at
+  many = false_from_ne_true (ltb b 0x80) (λ t. unread (sym (stop _ _ _ t) ∙ e))
+
+  by_second : loose_length_at (b ∷ s) ≡ (eqb b 0x81 ⇒ any_length s else no_length)
+  unfolding loose_length_at
+  by_second = skip _ _ _ many
+
+  second_few : b ≡ 0x81 → (c : ℕ) (r : List ℕ) → s ≡ c ∷ r → c < 0x80
+  unfolding length_at long_length
+  second_few k c r is =
+      leb-false 0x80 c
+      (false_from_ne_true (leb 0x80 c) (λ t. unread (sym (skip _ _ _ many ∙ stop _ _ _ (eq-eqb b 0x81 k) ∙ ap long_length is ∙ stop _ _ _ t) ∙ e)))
+
+pub no_second : (l : List ℕ) → length_at l ≡ no_length → length l < 2 → loose_length_at l ≡ no_length
+unfolding loose_length_at any_length
+no_second [] e h = refl
+no_second (b ∷ []) e h = by_second b [] e ∙ branch (λ (x : LengthRead). x ≡ no_length) (eqb b 0x81) _ _ (λ _. refl) (λ _. refl)
+no_second (b ∷ c ∷ s) e h = absurd (let z : suc (suc (length s)) < 2 = h in omega arith)
+
+pub no_other : (l : List ℕ) → length_at l ≡ no_length → (get_or l 0 0 ≡ 0x81 → ⊥) → loose_length_at l ≡ no_length
+unfolding loose_length_at
+no_other [] e n = refl
+no_other (b ∷ s) e n = by_second b s e ∙ skip _ _ _ (ne_eqb b 0x81 n)
+
+-- 81 and a byte below 80
+overlong : (l : List ℕ) → length_at l ≡ no_length → 2 ≤ length l → get_or l 0 0 ≡ 0x81 →
+    (get_or l 1 0 < 0x80) × (loose_length_at l ≡ len (get_or l 1 0) (drop 2 l)) × (l ≡ 0x81 ∷ get_or l 1 0 ∷ drop 2 l)
+unfolding any_length
+overlong [] e h k = absurd (omega arith)
+overlong (b ∷ []) e h k = absurd (let z : 2 ≤ 1 = h in omega arith)
+overlong (b ∷ c ∷ s) e h k = (second_few b (c ∷ s) e k c s refl, by_second b (c ∷ s) e ∙ stop _ _ _ (eq-eqb b 0x81 k), ap (λ (x : ℕ). x ∷ c ∷ s) k)
+
+-- the length at a place
+module _ (s : List ℕ) (at : ℕ) where
+  -- in its shortest form, as the rules read it
+  pub length_strict : {n start : ℕ} → objects.LengthAt s at n start → LengthAt s at n at start
+  length_strict {n} {start} t =
+      let strict = subst (StrictLength (drop at s)) t.is (strict_length (drop at s)) in
+      let shortest : part at start s ≡ length_bytes n = sym (front_part s at start (omega (arith, t.behind)) t.within) ∙ strict.1 in
+      record {
+        is = strict.0;
+        shortest = shortest;
+        overlong = ap is_overlong shortest ∙ not_overlong n ∙ sym (le-ltb at at (omega arith));
+        from = omega arith;
+        behind = t.behind;
+        within = t.within;
+      }
+
+  -- and in the longer one
+  pub length_overlong : (r : List ℕ) → r ≡ drop at s → length_at (drop at s) ≡ no_length → 2 ≤ length r → get_or r 0 0 ≡ 0x81 → LengthAt s at (get_or r 1 0) (at + 1) (at + 2)
+  unfolding is_overlong length_bytes
+  length_overlong r is e h k =
+      let o = overlong r (ap length_at is ∙ e) h k in
+      let size = ap length is ∙ length-drop at s in
+      let two : drop 2 r ≡ drop (at + 2) s = ap (drop 2) is ∙ drop-drop 2 at s in
+      let one : drop (at + 1) s ≡ get_or r 1 0 ∷ drop 2 r = sym (drop-drop 1 at s) ∙ ap (drop 1) (sym is ∙ o.2) in
+      let first : at + 2 - (at + 1) ≡ 1 = omega arith in
+      let both : at + 2 - at ≡ 2 = omega arith in
+      record {
+        is = ap loose_length_at (sym is) ∙ o.1 ∙ ap (len (get_or r 1 0)) two;
+        shortest = (λ i. take (first i) (one i)) ∙ sym (stop _ _ _ (lt-ltb (get_or r 1 0) 0x80 o.0));
+        overlong = ap is_overlong (λ i. take (both i) ((sym is ∙ o.2) i)) ∙ lt-ltb (get_or r 1 0) 0x80 o.0 ∙ sym (lt-ltb at (at + 1) (omega arith));
+        from = omega arith;
+        behind = omega arith;
+        within = omega arith;
+      }
 
 part_join : (s : List ℕ) (a b e : ℕ) → a ≤ b → b ≤ e → part a b s ++ part b e s ≡ part a e s
 part_join s a b e h k =
@@ -144,7 +123,7 @@ module _ (s : List ℕ) (at : ℕ) where
   unfolding loose_at loose_tag
   object_untagged h e = at_fault h (ap (loose_tag (drop at s)) e)
 
-  module _ {number : ℕ} {flag : Bool} {sized : ℕ} (t : Tag s at number flag sized) where
+  module _ {number : ℕ} {flag : Bool} {sized : ℕ} (t : TagAt s at number flag sized) where
     here : at < length s
     here = omega (arith, t.behind, t.within)
 
@@ -158,7 +137,7 @@ module _ (s : List ℕ) (at : ℕ) where
     unfolding loose_value
     object_unsized e = at_fault here (by_length ∙ ap (loose_value (part at sized s) number flag (drop sized s)) e)
 
-    module _ {n kept start : ℕ} (l : Length s sized n kept start) where
+    module _ {n kept start : ℕ} (l : LengthAt s sized n kept start) where
       pub object_cut : length s - start < n → mend_from at (drop at s) ≡ cut_from at
       unfolding loose_value
       object_cut k =

@@ -8,25 +8,27 @@ ghost use Rattle.text.specs.Sizes.{frame_cap, decimal_cap};
 ghost use Rattle.text.specs.Prints.{Prints};
 ghost use Rattle.mending.specs.Mends.{mend_from, framing, mends_behind};
 ghost use Rattle.mending.specs.Printed.{room, change_cap, frame_room, objects_cap, changes_text, mending_line, frame_line, mend_line};
-ghost use Rattle.mending.specs.Places.{Length, Measures, Finds, outer_place, head_at, shortened_text, outer_text};
+ghost use Rattle.mending.specs.Places.{LengthAt, Measures, Finds, outer_place, head_at, shortened_text, outer_text};
 
-use objects::{Tagged, tag_at, write_length};
+use objects::{tag_at, write_length};
 use octets;
 use rules::Refusal;
-use text::{Frame, Line, print_bytes, print_char, print_decimal, print_refusal, read_frame};
+use text::{Line, answer, print_bytes, print_char, print_decimal, print_refusal};
 
-// A length at a place in either form: what it says, where its shortest form begins, and the place behind it.
+// A length in either form: what it says, where its shortest form begins, and the place behind it.
 #[derive(Clone, Copy)]
-enum Sized {
-    By(usize, usize, usize),
-    Not,
+struct Length {
+    said: usize,
+    kept: usize,
+    start: usize,
 }
 
-// What stands at a place: an object, as the place of its length, from where on it is kept behind its tag, and the place behind it; or a fault.
+// An object: the place of its length, from where on it is kept behind its tag, and the place behind it.
 #[derive(Clone, Copy)]
-enum Found {
-    Object(usize, usize, usize),
-    Fault,
+struct Object {
+    sized: usize,
+    kept: usize,
+    next: usize,
 }
 
 // The first byte of a command.
@@ -38,70 +40,58 @@ const OUTER: usize = 1;
 // The most bytes of objects in a command of 256 bytes.
 const OBJECTS_CAP: usize = 253;
 
-// The length at `at`: one byte 00 to 7F, or 81 and any byte.
-fn length_at(s: &[u8], at: usize) -> Sized
+// The length at `at`: as the rules read it, or 81 and a byte below 80, of which that byte is the shortest form.
+fn length_at(s: &[u8], at: usize) -> Option<Length>
     ensures { Measures result s.now at }
 {
-    if s.len() <= at {
-        return Sized::Not;
+    if let Some(length) = objects::length_at(s, at) {
+        return Some(Length {
+            said: length.count,
+            kept: at,
+            start: length.start,
+        });
     }
-    let b = s[at];
-    if b < 0x80 {
-        return Sized::By(b as usize, at, at + 1);
+    let rest = s.get(at..)?;
+    if rest.len() < 2 || rest[0] != 0x81 {
+        return None;
     }
-    if b != 0x81 {
-        return Sized::Not;
-    }
-    let next = at + 1;
-    if s.len() <= next {
-        return Sized::Not;
-    }
-    let c = s[next];
-    if c < 0x80 {
-        return Sized::By(c as usize, next, next + 1);
-    }
-    Sized::By(c as usize, at, next + 1)
+    Some(Length {
+        said: usize::from(rest[1]),
+        kept: at + 1,
+        start: at + 2,
+    })
 }
 
 // The object at `at`: a tag, a length in either form, a value that stands whole.
-fn object_at(s: &[u8], at: usize) -> Found
-    requires { at < length s.now }
+fn object_at(s: &[u8], at: usize) -> Option<Object>
     ensures { Finds result s.now at }
 {
-    let Tagged::As(_, _, sized) = tag_at(s, at) else {
-        return Found::Fault;
-    };
-    match length_at(s, sized) {
-        Sized::By(len, kept, start) => {
-            if s.len() - start < len {
-                return Found::Fault;
-            }
-            Found::Object(sized, kept, start + len)
-        }
-        Sized::Not => Found::Fault,
+    let tag = tag_at(s, at)?;
+    let length = length_at(s, tag.sized)?;
+    if s.len() - length.start < length.said {
+        return None;
     }
+    Some(Object {
+        sized: tag.sized,
+        kept: length.kept,
+        next: length.start + length.said,
+    })
 }
 
 // Writes the mended objects from `from` on to the front of `out`, and tells how many bytes they are.
 fn mend_objects(s: &[u8], from: usize, out: &mut [u8]) -> usize
-    requires { (from ≤ length s.now) × (length s.now ≤ length out.old) }
+    requires { length s.now ≤ length out.old }
     ensures { Prints (mend_from from (drop from s.now)).bytes result out.old 0 out.new }
 {
     let mut at = from;
-    let mut to: usize = 0;
-    while at < s.len() {
-        match object_at(s, at) {
-            Found::Object(sized, kept, next) => {
-                octets::put_part(out, to, s, at, sized);
-                let tagged = to + (sized - at);
-                octets::put_part(out, tagged, s, kept, next);
-                to = tagged + (next - kept);
-                at = next;
-            }
-            Found::Fault => return to,
-        }
+    let mut count: usize = 0;
+    while let Some(Object { sized, kept, next }) = object_at(s, at) {
+        octets::put_part(out, count, s, at, sized);
+        let tagged = count + (sized - at);
+        octets::put_part(out, tagged, s, kept, next);
+        (at, count) = (next, tagged + (next - kept));
     }
-    to
+    count
 }
 
 // Prints a change, a blank, its letter and its place, and tells the place behind it.
@@ -114,13 +104,13 @@ fn print_change(out: &mut [u8], at: usize, letter: u8, place: usize) -> usize
     print_decimal(out, placed, place)
 }
 
-// Prints S for an object that is kept from behind the place of its length on, and tells the place behind it.
-fn print_shortened(out: &mut [u8], at: usize, sized: usize, kept: usize) -> usize
-    requires { (sized < decimal_cap) × (at + length (shortened_text sized kept) ≤ length out.old) }
-    ensures { Prints (shortened_text sized kept) result out.old at out.new }
+// Prints S for an object whose length is shortened, and tells the place behind it.
+fn print_shortened(out: &mut [u8], at: usize, object: Object) -> usize
+    requires { (object.sized < decimal_cap) × (at + length (shortened_text object.sized object.kept) ≤ length out.old) }
+    ensures { Prints (shortened_text object.sized object.kept) result out.old at out.new }
 {
-    if sized < kept {
-        return print_change(out, at, b'S', sized);
+    if object.sized < object.kept {
+        return print_change(out, at, b'S', object.sized);
     }
     at
 }
@@ -132,27 +122,22 @@ fn print_changes(s: &[u8], from: usize, out: &mut [u8], start: usize) -> usize
 {
     let mut at = from;
     let mut to = start;
-    while at < s.len() {
-        match object_at(s, at) {
-            Found::Object(sized, kept, next) => {
-                to = print_shortened(out, to, sized, kept);
-                at = next;
-            }
-            Found::Fault => return print_change(out, to, b'T', at),
-        }
+    while let Some(object) = object_at(s, at) {
+        to = print_shortened(out, to, object);
+        at = object.next;
+    }
+    if at < s.len() {
+        return print_change(out, to, b'T', at);
     }
     to
 }
 
 // Prints L where the outer length said another number than there are bytes, or said it in two bytes where one does; tells the place behind it.
-fn print_outer(out: &mut [u8], at: usize, said: usize, kept: usize, count: usize) -> usize
+fn print_outer(out: &mut [u8], at: usize, outer: Length, count: usize) -> usize
     requires { at + change_cap ≤ length out.old }
-    ensures { Prints (outer_text said kept count) result out.old at out.new }
+    ensures { Prints (outer_text outer.said outer.kept count) result out.old at out.new }
 {
-    if said != count {
-        return print_change(out, at, b'L', OUTER);
-    }
-    if kept != OUTER {
+    if outer.said != count || outer.kept != OUTER {
         return print_change(out, at, b'L', OUTER);
     }
     at
@@ -170,28 +155,18 @@ fn print_frame(out: &mut [u8], at: usize, objects: &[u8]) -> usize
 }
 
 // Prints the mended frame and the changes of what is behind an outer length, or R16; tells the place behind them.
-fn print_behind(
-    s: &[u8],
-    said: usize,
-    kept: usize,
-    start: usize,
-    out: &mut [u8],
-    at: usize,
-) -> usize
-    requires { Length s.now outer_place said kept start × (length s.now ≤ frame_cap) × (at + room ≤ length out.old) }
-    ensures { Prints (mending_line (mends_behind (head_at s.now start))) result out.old at out.new }
+fn print_behind(s: &[u8], outer: Length, out: &mut [u8], at: usize) -> usize
+    requires { LengthAt s.now outer_place outer.said outer.kept outer.start × (length s.now ≤ frame_cap) × (at + room ≤ length out.old) }
+    ensures { Prints (mending_line (mends_behind (head_at s.now outer.start))) result out.old at out.new }
 {
     let mut objects = [0u8; Line::FRAME];
-    let count = mend_objects(s, start, &mut objects);
-    if count == 0 {
-        return print_refusal(out, at, Refusal::Unmendable);
-    }
-    if OBJECTS_CAP < count {
+    let count = mend_objects(s, outer.start, &mut objects);
+    if count == 0 || OBJECTS_CAP < count {
         return print_refusal(out, at, Refusal::Unmendable);
     }
     let framed = print_frame(out, at, &objects[..count]);
-    let outer = print_outer(out, framed, said, kept, count);
-    let listed = print_changes(s, start, out, outer);
+    let told = print_outer(out, framed, outer, count);
+    let listed = print_changes(s, outer.start, out, told);
     print_char(out, listed, b'\n')
 }
 
@@ -200,16 +175,16 @@ fn print_mended(s: &[u8], out: &mut [u8], at: usize) -> usize
     requires { (length s.now ≤ frame_cap) × (at + room ≤ length out.old) }
     ensures { Prints (frame_line (some s.now)) result out.old at out.new }
 {
-    if s.len() == 0 {
+    if s.is_empty() {
         return print_refusal(out, at, Refusal::Unreadable);
     }
     if s[0] != COMMAND {
         return print_refusal(out, at, Refusal::Unmendable);
     }
-    match length_at(s, OUTER) {
-        Sized::By(said, kept, start) => print_behind(s, said, kept, start, out, at),
-        Sized::Not => print_refusal(out, at, Refusal::Unmendable),
-    }
+    let Some(outer) = length_at(s, OUTER) else {
+        return print_refusal(out, at, Refusal::Unmendable);
+    };
+    print_behind(s, outer, out, at)
 }
 
 // Prints the mended frame of a line and its changes, R9 where the line is unreadable, R16 where it cannot be mended; tells the place behind them.
@@ -217,9 +192,5 @@ pub fn tell_mended(line: &[u8], out: &mut [u8], at: usize) -> usize
     requires { at + room ≤ length out.old }
     ensures { Prints (mend_line line.now) result out.old at out.new }
 {
-    let mut frame = [0u8; Line::FRAME];
-    match read_frame(line, &mut frame) {
-        Frame::Bytes(n) => print_mended(&frame[..n], out, at),
-        Frame::Unreadable => print_refusal(out, at, Refusal::Unreadable),
-    }
+    answer(print_mended, line, out, at)
 }

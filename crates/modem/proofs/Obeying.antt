@@ -21,8 +21,8 @@ use Rattle.rules.specs.Command.{Answer, answered, meant_by}
 use Rattle.rules.proofs.Laws.{skip, both_left, both_right}
 use Rattle.rules.proofs.Readings.{details_told_lem}
 use Rattle.octets.specs.Parts.{part}
-use Rattle.rules.specs.declared.Ended.{Ended}
-use Rattle.rules.specs.declared.Ended.TheVariants.{Wrote}
+use Rattle.rules.specs.Words.{Ended}
+use Rattle.std.specs.Prelude.{Ok}
 use Rattle.session.specs.Picture.{GoodIn, shown}
 use Rattle.session.specs.Calls.{Answers}
 use Rattle.session.specs.Changed.{Numbered}
@@ -45,10 +45,10 @@ as_obeyed x y t p e before after q w = subst (λ (z : Answer). Answers z t p e b
 -- an error of the reading is told with its details
 pub wrong_answers :
     (t p s : List ℕ) (d : Details) (e k : ℕ) (before after : List ℕ) → GoodIn t p → read_objects (part 0 profile_size t) s ≡ wrong d e →
-    Filled (response d (error e)) k before after → Answers (obeyed (shown t p) s) t p (Wrote k) before after
+    Filled (response d (error e)) k before after → Answers (obeyed (shown t p) s) t p (Ok k) before after
 unfolding obeyed shown meant_by
 wrong_answers t p s d e k before after g h w =
-    as_obeyed (obeyed (shown t p) s) (told d (reply (shown t p) (error e))) t p (Wrote k) before after
+    as_obeyed (obeyed (shown t p) s) (told d (reply (shown t p) (error e))) t p (Ok k) before after
     (ap (λ (r : Reading). answered (meant_by (shown t p) r).state (response_bytes (meant_by (shown t p) r).response)) h)
     (left_answers d (reply (shown t p) (error e)) (error e) t p k before after refl g w)
 
@@ -79,13 +79,13 @@ module _ (t p s : List ℕ) (q : Request) (g : GoodIn t p) (h : AskedFor q (part
   -- what the own checks come to, with the arrays and the buffer that they leave
   module _ (u r : List ℕ) (k : ℕ) (before after : List ℕ) where
     abbrev ends : Reply → Type 0
-    ends x = Answers (told d x) u r (Wrote k) before after
+    ends x = Answers (told d x) u r (Ok k) before after
 
     abbrev obeys : Type 0
-    obeys = Answers (obeyed a s) u r (Wrote k) before after
+    obeys = Answers (obeyed a s) u r (Ok k) before after
 
     as_body : (b : Body) (x : Reply) → c.body ≡ b → own a c b q.ignored ≡ x → ends x → obeys
-    as_body b x e f w = as_obeyed (obeyed a s) (told d x) u r (Wrote k) before after (asked_told x (ap (λ (y : Body). own a c y q.ignored) e ∙ f)) w
+    as_body b x e f w = as_obeyed (obeyed a s) (told d x) u r (Ok k) before after (asked_told x (ap (λ (y : Body). own a c y q.ignored) e ∙ f)) w
 
     pub bare_answers : q.handler ≡ Bare → ends (reply a (telling a d.kind q.ignored)) → obeys
     unfolding own

@@ -8,13 +8,11 @@ use native.Mathlib.Omega.{arith}
 use lib.ListN.{length, drop, length-take, length-drop}
 use Rattle.rules.specs.Frames as frames
 use Rattle.octets.specs.Parts.{part}
-use Rattle.objects.specs.declared.Tagged.{Tagged}
-use Rattle.objects.specs.declared.Tagged.TheVariants as tagged
-use Rattle.objects.specs.declared.Tagged.TheVariants.{As}
-use Rattle.objects.specs.declared.Sized.{Sized}
-use Rattle.objects.specs.declared.Sized.TheVariants.{By, Not}
-use Rattle.objects.specs.declared.Found.{Found}
-use Rattle.objects.specs.declared.Found.TheVariants.{Object, Fault}
+use Rattle.std.specs.Prelude.{Option, Some, None, Result, Ok, Err}
+use Rattle.rules.specs.declared.Ending.{Ending}
+use Rattle.objects.specs.declared.Tag.{Tag}
+use Rattle.objects.specs.declared.Length.{Length}
+use Rattle.objects.specs.declared.Object.{Object}
 use Rattle.objects.specs.Places.{Tags, Measures, object_of, Stands, Meets}
 
 -- places within the bytes, with the same bytes behind them, are one place
@@ -36,24 +34,24 @@ part_alike s a b n m h k e = sym (part_size s a n h) ∙ ap length e ∙ part_si
 never : ◌≡◌ {A = ℕ} 0 1 → ⊥
 never z = omega arith
 
-pub tagged_alike : (x y : Tagged) (s : List ℕ) (at : ℕ) → Tags x s at → Tags y s at → x ≡ y
-tagged_alike (As m f a) (As n g b) s at p q =
-    let number : m ≡ n = cc (p.is, q.is) in
-    let flag : f ≡ g = cc (p.is, q.is) in
-    let rest : drop a s ≡ drop b s = cc (p.is, q.is) in
-    λ i. As (number i) (flag i) (drop_alike s a b p.within q.within rest i)
-tagged_alike (As m f a) tagged.Not s at p q = absurd (never (cc (p.is, q)))
-tagged_alike tagged.Not (As n g b) s at p q = absurd (never (cc (p, q.is)))
-tagged_alike tagged.Not tagged.Not s at p q = refl
+pub tag_alike : (x y : Option Tag) (s : List ℕ) (at : ℕ) → Tags x s at → Tags y s at → x ≡ y
+tag_alike (Some t) (Some u) s at p q =
+    let number : t.number ≡ u.number = cc (p.is, q.is) in
+    let flag : t.flagged ≡ u.flagged = cc (p.is, q.is) in
+    let rest : drop t.sized s ≡ drop u.sized s = cc (p.is, q.is) in
+    λ i. Some (record { number = number i; flagged = flag i; sized = drop_alike s t.sized u.sized p.within q.within rest i })
+tag_alike (Some t) None s at p q = absurd (never (cc (p.is, q)))
+tag_alike None (Some u) s at p q = absurd (never (cc (p, q.is)))
+tag_alike None None s at p q = refl
 
-pub sized_alike : (x y : Sized) (s : List ℕ) (at : ℕ) → Measures x s at → Measures y s at → x ≡ y
-sized_alike (By n a) (By m b) s at p q =
-    let count : n ≡ m = cc (p.is, q.is) in
-    let rest : drop a s ≡ drop b s = cc (p.is, q.is) in
-    λ i. By (count i) (drop_alike s a b p.within q.within rest i)
-sized_alike (By n a) Not s at p q = absurd (never (cc (p.is, q)))
-sized_alike Not (By m b) s at p q = absurd (never (cc (p, q.is)))
-sized_alike Not Not s at p q = refl
+pub length_alike : (x y : Option Length) (s : List ℕ) (at : ℕ) → Measures x s at → Measures y s at → x ≡ y
+length_alike (Some l) (Some m) s at p q =
+    let count : l.count ≡ m.count = cc (p.is, q.is) in
+    let rest : drop l.start s ≡ drop m.start s = cc (p.is, q.is) in
+    λ i. Some (record { count = count i; start = drop_alike s l.start m.start p.within q.within rest i })
+length_alike (Some l) None s at p q = absurd (never (cc (p.is, q)))
+length_alike None (Some m) s at p q = absurd (never (cc (p, q.is)))
+length_alike None None s at p q = refl
 
 module _
     {s : List ℕ} {at m : ℕ} {f : Bool} {a n k l : ℕ} {g : Bool} {b o j : ℕ} (p : Stands s at m f a n k) (q : Stands s at l g b o j) where
@@ -70,14 +68,17 @@ module _
   start_alike : a ≡ b
   start_alike = omega (arith, size_alike, next_alike, p.ends, q.ends)
 
-  object_alike : ◌≡◌ {A = Found} (Object m f a n (record { at = k })) (Object l g b o (record { at = j }))
-  object_alike = λ i. Object (same_object i).number (same_object i).flag (start_alike i) (size_alike i) (record { at = next_alike i })
+  stands_alike :
+      ◌≡◌ {A = Object} (record { number = m; flagged = f; start = a; len = n; next = record { at = k } })
+      (record { number = l; flagged = g; start = b; len = o; next = record { at = j } })
+  stands_alike =
+      λ i. record { number = (same_object i).number; flagged = (same_object i).flag; start = start_alike i; len = size_alike i; next = record { at = next_alike i } }
 
-pub found_alike : (x y : Found) (s : List ℕ) (at : ℕ) → Meets x s at → Meets y s at → x ≡ y
-found_alike (Object m f a n k) (Object l g b o j) s at p q = object_alike p q
-found_alike (Object m f a n k) (Fault e) s at p q = absurd (never (cc (p.is, q)))
-found_alike (Fault e) (Object m f a n k) s at p q = absurd (never (cc (p, q.is)))
-found_alike (Fault e) (Fault f) s at p q = let same : e ≡ f = cc (p, q) in ap Fault same
+pub object_alike : (x y : Result Object Ending) (s : List ℕ) (at : ℕ) → Meets x s at → Meets y s at → x ≡ y
+object_alike (Ok o) (Ok u) s at p q = λ i. Ok (stands_alike p q i)
+object_alike (Ok o) (Err f) s at p q = absurd (never (cc (p.is, q)))
+object_alike (Err e) (Ok u) s at p q = absurd (never (cc (p, q.is)))
+object_alike (Err e) (Err f) s at p q = let same : e ≡ f = cc (p, q) in λ i. Err (same i)
 
 pub same_place : (a b r n : ℕ) → a + r ≡ n → b + r ≡ n → a ≡ b
 same_place a b r n e f = omega arith

@@ -1,46 +1,44 @@
 -- What the readers find at places, tied to the values of the rules.
-use Rattle.std.specs.Prelude.{ℕ, zero, suc, ◌+◌, ◌-◌, ◌≤◌, ◌<◌, ◌≡◌, Bool, List, length, drop, get_or, eqb}
+use Rattle.std.specs.Prelude.{ℕ, zero, suc, ◌+◌, ◌-◌, ◌≤◌, ◌<◌, ◌≡◌, Bool, List, length, drop, get_or, eqb, Option, Some, None, Result, Ok, Err}
 use Rattle.rules.specs.Checks.{◌⇒◌else◌}
 use Rattle.rules.specs.Frames as frames
 use Rattle.rules.specs.Frames.{long_tag, tag_at, tag, no_tag, length_at, len, no_length, ObjectRead, object_at, object, faulty}
 use Rattle.octets.specs.Parts.{part}
-use Rattle.objects.specs.declared.Tagged.{Tagged}
-use Rattle.objects.specs.declared.Tagged.TheVariants as tagged
-use Rattle.objects.specs.declared.Sized.{Sized}
-use Rattle.objects.specs.declared.Sized.TheVariants.{By, Not}
-use Rattle.objects.specs.declared.Found.{Found}
-use Rattle.objects.specs.declared.Found.TheVariants.{Object, Fault}
+use Rattle.rules.specs.declared.Ending.{Ending}
+use Rattle.objects.specs.declared.Tag.{Tag}
+use Rattle.objects.specs.declared.Length.{Length}
+use Rattle.objects.specs.declared.Object.{Object}
 
 -- a tag of this number and flag at `at`; its length stands at next
-pub record Tag (s : List ℕ) (at number : ℕ) (flag : Bool) (next : ℕ) : Type 0 where
+pub record TagAt (s : List ℕ) (at number : ℕ) (flag : Bool) (next : ℕ) : Type 0 where
   pub is : tag_at (drop at s) ≡ tag number flag (drop next s)
   pub behind : at < next
   pub within : next ≤ length s
 
-abbrev pub Tags : Tagged → List ℕ → ℕ → Type 0
-Tags (tagged.As number flag next) s at = Tag s at number flag next
-Tags tagged.Not s at = tag_at (drop at s) ≡ no_tag
+abbrev pub Tags : Option Tag → List ℕ → ℕ → Type 0
+Tags (Some t) s at = TagAt s at t.number t.flagged t.sized
+Tags None s at = tag_at (drop at s) ≡ no_tag
 
 -- the same of the two bytes behind a 7F
-pub record LongTag (s : List ℕ) (at number : ℕ) (flag : Bool) (next : ℕ) : Type 0 where
+pub record LongTagAt (s : List ℕ) (at number : ℕ) (flag : Bool) (next : ℕ) : Type 0 where
   pub is : long_tag (drop at s) ≡ tag number flag (drop next s)
   pub behind : at < next
   pub within : next ≤ length s
 
-abbrev pub LongTags : Tagged → List ℕ → ℕ → Type 0
-LongTags (tagged.As number flag next) s at = LongTag s at number flag next
-LongTags tagged.Not s at = long_tag (drop at s) ≡ no_tag
+abbrev pub LongTags : Option Tag → List ℕ → ℕ → Type 0
+LongTags (Some t) s at = LongTagAt s at t.number t.flagged t.sized
+LongTags None s at = long_tag (drop at s) ≡ no_tag
 
 -- a length of n at `at`; what it counts starts at start, and its last byte is n in either form
-pub record Length (s : List ℕ) (at n start : ℕ) : Type 0 where
+pub record LengthAt (s : List ℕ) (at n start : ℕ) : Type 0 where
   pub is : length_at (drop at s) ≡ len n (drop start s)
   pub within : start ≤ length s
   pub behind : at < start
   pub last : get_or s (start - 1) 0 ≡ n
 
-abbrev pub Measures : Sized → List ℕ → ℕ → Type 0
-Measures (By n start) s at = Length s at n start
-Measures Not s at = length_at (drop at s) ≡ no_length
+abbrev pub Measures : Option Length → List ℕ → ℕ → Type 0
+Measures (Some l) s at = LengthAt s at l.count l.start
+Measures None s at = length_at (drop at s) ≡ no_length
 
 -- the object of this number and flag whose value is the n bytes from start on
 abbrev pub object_of : List ℕ → ℕ → Bool → ℕ → ℕ → frames.Object
@@ -54,9 +52,9 @@ pub record Stands (s : List ℕ) (at number : ℕ) (flag : Bool) (start n next :
   pub behind : at + 2 ≤ start
   pub last : get_or s (start - 1) 0 ≡ n
 
-abbrev pub Meets : Found → List ℕ → ℕ → Type 0
-Meets (Object number flag start n next) s at = Stands s at number flag start n next.at
-Meets (Fault e) s at = object_at (drop at s) ≡ faulty e
+abbrev pub Meets : Result Object Ending → List ℕ → ℕ → Type 0
+Meets (Ok o) s at = Stands s at o.number o.flagged o.start o.len o.next.at
+Meets (Err e) s at = object_at (drop at s) ≡ faulty e
 
 -- where the value of the first object of a number starts: behind the bytes that neither it nor what stands after it has
 unfoldable pub place_in : ℕ → List ℕ → ObjectRead → (List ℕ → ℕ) → ℕ

@@ -11,16 +11,17 @@ use rules::Ending;
 
 // A tag at a place: its number, its flag, and where its length stands.
 #[derive(Clone, Copy)]
-pub enum Tagged {
-    As(u16, bool, usize),
-    Not,
+pub struct Tag {
+    pub number: u16,
+    pub flagged: bool,
+    pub sized: usize,
 }
 
-// A length at a place: how many bytes it says, and where they start.
+// A length at a place: how many bytes it counts, and where they start.
 #[derive(Clone, Copy)]
-pub enum Sized {
-    By(usize, usize),
-    Not,
+pub struct Length {
+    pub count: usize,
+    pub start: usize,
 }
 
 // A place between two objects.
@@ -29,11 +30,14 @@ pub struct Cursor {
     pub at: usize,
 }
 
-// What stands at a cursor: an object, as its number, its flag, where its value starts, how long it is and the cursor behind it; or a fault.
+// An object at a cursor: its number, its flag, where its value starts, how long it is, and the cursor behind it.
 #[derive(Clone, Copy)]
-pub enum Found {
-    Object(u16, bool, usize, usize, Cursor),
-    Fault(Ending),
+pub struct Object {
+    pub number: u16,
+    pub flagged: bool,
+    pub start: usize,
+    pub len: usize,
+    pub next: Cursor,
 }
 
 // Where a walk stopped, and how.
@@ -46,70 +50,66 @@ pub struct Stop {
 // The first byte of a tag of three.
 const LONG_TAG: u8 = 0x7F;
 
+// The byte before a length of 80 to FF.
+const LONGER_FORM: u8 = 0x81;
+
 // The two bytes at `at`, behind a 7F: the top bit of the first is the flag, its other seven bits and the second the number, which is not 0.
-fn long_tag_at(s: &[u8], at: usize) -> Tagged
+fn long_tag_at(s: &[u8], at: usize) -> Option<Tag>
     ensures { LongTags result s.now at }
 {
-    if s.len() <= at {
-        return Tagged::Not;
-    }
-    let third = at + 1;
-    if s.len() <= third {
-        return Tagged::Not;
-    }
-    let b = s[at];
-    let c = s[third];
-    let number = 256 * (b % 0x80) as u16 + c as u16;
+    let high = *s.get(at)?;
+    let low = *s.get(at + 1)?;
+    let number = u16::from_be_bytes([high % 0x80, low]);
     if number == 0 {
-        return Tagged::Not;
+        return None;
     }
-    Tagged::As(number, 0x80 <= b, third + 1)
+    Some(Tag {
+        number,
+        flagged: 0x80 <= high,
+        sized: at + 2,
+    })
 }
 
 // The tag at `at`: three bytes from 7F on, else one, whose top bit is the flag and whose low seven bits are the number, which is not 0 or 127.
-pub fn tag_at(s: &[u8], at: usize) -> Tagged
+pub fn tag_at(s: &[u8], at: usize) -> Option<Tag>
     ensures { Tags result s.now at }
 {
-    if s.len() <= at {
-        return Tagged::Not;
+    let byte = *s.get(at)?;
+    let number = byte % 0x80;
+    match number {
+        0 => None,
+        LONG_TAG if byte == LONG_TAG => long_tag_at(s, at + 1),
+        LONG_TAG => None,
+        _ => Some(Tag {
+            number: u16::from(number),
+            flagged: 0x80 <= byte,
+            sized: at + 1,
+        }),
     }
-    let b = s[at];
-    let number = b % 0x80;
-    if number == 0 {
-        return Tagged::Not;
-    }
-    if number < LONG_TAG {
-        return Tagged::As(number as u16, 0x80 <= b, at + 1);
-    }
-    if b == LONG_TAG {
-        return long_tag_at(s, at + 1);
-    }
-    Tagged::Not
 }
 
 // The length at `at`: one byte 00 to 7F, or 81 and a byte 80 to FF.
-pub fn length_at(s: &[u8], at: usize) -> Sized
+pub fn length_at(s: &[u8], at: usize) -> Option<Length>
     ensures { Measures result s.now at }
 {
-    if s.len() <= at {
-        return Sized::Not;
+    let byte = *s.get(at)?;
+    if byte < 0x80 {
+        return Some(Length {
+            count: usize::from(byte),
+            start: at + 1,
+        });
     }
-    let b = s[at];
-    if b < 0x80 {
-        return Sized::By(b as usize, at + 1);
+    if byte != LONGER_FORM {
+        return None;
     }
-    if b != 0x81 {
-        return Sized::Not;
+    let count = *s.get(at + 1)?;
+    if count < 0x80 {
+        return None;
     }
-    let next = at + 1;
-    if s.len() <= next {
-        return Sized::Not;
-    }
-    let c = s[next];
-    if c < 0x80 {
-        return Sized::Not;
-    }
-    Sized::By(c as usize, next + 1)
+    Some(Length {
+        count: usize::from(count),
+        start: at + 2,
+    })
 }
 
 // Writes the tag and the length of an object, in the shortest form, and tells the place behind them.
@@ -123,28 +123,30 @@ pub fn write_length(out: &mut [u8], at: usize, tag: u8, len: u8) -> usize
         octets::put(out, at, &short);
         return at + 2;
     }
-    let long = [tag, 0x81, len];
+    let long = [tag, LONGER_FORM, len];
     octets::put(out, at, &long);
     at + 3
 }
 
 impl Cursor {
     // The object at the cursor: a tag, a length, a value that stands whole.
-    pub fn object(self, s: &[u8]) -> Found
+    pub fn object(self, s: &[u8]) -> Result<Object, Ending>
         ensures { Meets result s.now self.at }
     {
-        let Tagged::As(number, flag, sized) = tag_at(s, self.at) else {
-            return Found::Fault(Ending::BadTag);
-        };
-        match length_at(s, sized) {
-            Sized::By(len, start) => {
-                if s.len() - start < len {
-                    return Found::Fault(Ending::CutValue);
-                }
-                Found::Object(number, flag, start, len, Cursor { at: start + len })
-            }
-            Sized::Not => Found::Fault(Ending::BadLength),
+        let tag = tag_at(s, self.at).ok_or(Ending::BadTag)?;
+        let length = length_at(s, tag.sized).ok_or(Ending::BadLength)?;
+        if s.len() - length.start < length.count {
+            return Err(Ending::CutValue);
         }
+        Ok(Object {
+            number: tag.number,
+            flagged: tag.flagged,
+            start: length.start,
+            len: length.count,
+            next: Cursor {
+                at: length.start + length.count,
+            },
+        })
     }
 }
 
@@ -157,14 +159,14 @@ pub fn walk(s: &[u8]) -> Stop
     loop {
         let at = c.at;
         if s.len() <= at {
-            break Stop {
+            return Stop {
                 ending: Ending::End,
                 at,
             };
         }
         match c.object(s) {
-            Found::Object(_, _, _, _, next) => c = next,
-            Found::Fault(ending) => break Stop { ending, at },
+            Ok(object) => c = object.next,
+            Err(ending) => return Stop { ending, at },
         }
     }
 }

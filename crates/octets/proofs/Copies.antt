@@ -6,9 +6,9 @@ use mathlib.Core.List.{List, [], ◌∷◌, ◌++◌, append_assoc}
 use native.Mathlib.Omega.{arith}
 use native.Mathlib.Nat.{add-zero, add-suc}
 use native.Mathlib.Numerals.{add-one}
-use lib.ListN.{length, take, drop, get_or, set, length-take, length-drop, length-set, take-append-drop, get_or-append, replicate, length-replicate, get_or-replicate}
+use lib.ListN.{length, take, drop, get_or, set, length-take, length-drop, length-set, take-append-drop, get_or-append}
 use lib.Seq.{paste, paste-zero, paste-suc, drop-paste, take-length, drop-length, drop-cons, take-suc, set_at, append_snoc, get_or-drop, get_or-take, length-take-le}
-use Rattle.octets.specs.Parts.{part, pasted, cleared, moved}
+use Rattle.octets.specs.Parts.{part, pasted, moved}
 
 -- d is d₀ with the first n bytes of s copied in from at
 pub record Copied (d₀ : List ℕ) (at : ℕ) (s : List ℕ) (n : ℕ) (d : List ℕ) : Type 0 where
@@ -106,19 +106,6 @@ part_get a e i d h = get_or-take (e - a) (drop a d) i 0 h ∙ get_or-drop a d i 
 
 pub length_part : (a e : ℕ) (d : List ℕ) → e ≤ length d → length (part a e d) ≡ e - a
 length_part a e d h = simp (length-take, length-drop) (omega arith)
-
--- zeros copied in, over the bytes from at up to end
-module _ (d₀ : List ℕ) (at end : ℕ) (h : (at ≤ end) × (end ≤ length d₀)) where
-  pub clear_none : Copied d₀ at (replicate (end - at) 0) 0 d₀
-  clear_none = copied_none d₀ at (replicate (end - at) 0) (let e = length-replicate {A = ℕ} (end - at) 0 in omega arith)
-
-  pub clear_more : (i : ℕ) (d : List ℕ) → Copied d₀ at (replicate (end - at) 0) i d → i < end - at → Copied d₀ at (replicate (end - at) 0) (i + 1) (set d (at + i) 0)
-  clear_more i d c k =
-      copied_more d₀ at (replicate (end - at) 0) i d 0 c (let e = length-replicate {A = ℕ} (end - at) 0 in omega arith) (sym (get_or-replicate (end - at) i 0 0 k))
-
-  pub clear_all : (i : ℕ) (d : List ℕ) → Copied d₀ at (replicate (end - at) 0) i d → end - at ≤ i → d ≡ cleared d₀ at end
-  unfolding cleared
-  clear_all i d c k = copied_all d₀ at (replicate (end - at) 0) i d c (let e = length-replicate {A = ℕ} (end - at) 0 in omega arith)
 
 -- a part copied down, from its front
 module _ (d₀ : List ℕ) (to from end : ℕ) (h : (to ≤ from) × (from ≤ end) × (end ≤ length d₀)) where

@@ -7,7 +7,13 @@ use native.Mathlib.Omega.{arith}
 use native.Mathlib.Nat.{zero-add}
 use lib.ListN.{length, take, drop, replicate, length-append, length-take, length-drop, length-replicate}
 use lib.Seq.{take_at, drop_at, drop-drop, take-take, take-append-le, length-take-le}
+use borrow.Rule.Slice.PartMut.{put_mid}
 use Rattle.octets.specs.Parts.{part, pasted, cleared, moved, cut_out, spread, overlaid, pad}
+
+-- a part that is written over as a whole is a paste
+pub paste_mid : (d now s : List ℕ) (at k : ℕ) → now ≡ s → k ≡ length s → put_mid at k d now ≡ pasted d at s
+unfolding pasted
+paste_mid d now s at k e l = λ i. take at d ++ (e i ++ (drop-drop k at d ∙ ap (λ (m : ℕ). drop (at + m) d) l) i)
 
 module _ (d : List ℕ) (at : ℕ) (s : List ℕ) (h : at + length s ≤ length d) where
   front : length (take at d ++ s) ≡ at + length s

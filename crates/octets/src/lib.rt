@@ -5,56 +5,47 @@ ghost use Rattle.std.specs.Prelude.{◌≡◌, ◌+◌, ◌-◌, ◌≤◌, leng
 ghost use Rattle.octets.specs.Parts.{part, pasted, cleared, moved, cut_out, spread};
 
 // Writes `s` into `d` from `at` on.
+#[tactic(auto, using(crate::proofs::Pastes::paste_mid))]
 pub fn put(d: &mut [u8], at: usize, s: &[u8])
     requires { at + length s.now ≤ length d.old }
     ensures { d.new ≡ pasted d.old at s.now }
 {
-    let mut i: usize = 0;
-    while i < s.len() {
-        d[at + i] = s[i];
-        i += 1;
-    }
+    d[at..at + s.len()].copy_from_slice(s);
 }
 
 // Writes 0 over the bytes from `at` up to `end`.
+#[tactic(auto, using(crate::proofs::Pastes::paste_mid, crate::proofs::Copies::length_part), unfolding(crate::specs::Parts::cleared))]
 pub fn clear(d: &mut [u8], at: usize, end: usize)
     requires { (at ≤ end) × (end ≤ length d.old) }
     ensures { d.new ≡ cleared d.old at end }
 {
-    let n = end - at;
-    let mut i: usize = 0;
-    while i < n {
-        d[at + i] = 0;
-        i += 1;
-    }
+    d[at..end].fill(0);
 }
 
 // Moves the bytes from `from` up to `end` down to `to`; what stood above them stays.
+// Kept: a loop, since `copy_within` takes its range by a trait whose bounds are structures that lie otherwise on machines of 32 bits (targets/README.md).
 fn move_down(d: &mut [u8], to: usize, from: usize, end: usize)
     requires { (to ≤ from) × (from ≤ end) × (end ≤ length d.old) }
     ensures { d.new ≡ moved d.old to from end }
 {
-    let n = end - from;
-    let mut i: usize = 0;
-    while i < n {
+    for i in 0..end - from {
         d[to + i] = d[from + i];
-        i += 1;
     }
 }
 
 // Moves the bytes from `from` up to `end` up to `to`; what stood below them stays.
+// Kept: a loop, as in `move_down`.
 fn move_up(d: &mut [u8], to: usize, from: usize, end: usize)
     requires { (from ≤ to) × (from ≤ end) × (to + (end - from) ≤ length d.old) }
     ensures { d.new ≡ moved d.old to from end }
 {
-    let mut n = end - from;
-    while 0 < n {
-        n -= 1;
+    for n in (0..end - from).rev() {
         d[to + n] = d[from + n];
     }
 }
 
 // Takes the `k` bytes from `at` out: those up to `end` move down, and the last `k` of them are 0.
+#[tactic(auto, using(crate::proofs::Pastes::cut_is))]
 pub fn cut(d: &mut [u8], at: usize, k: usize, end: usize)
     requires { (at + k ≤ end) × (end ≤ length d.old) }
     ensures { d.new ≡ cut_out d.old at k end }
@@ -64,6 +55,7 @@ pub fn cut(d: &mut [u8], at: usize, k: usize, end: usize)
 }
 
 // Puts `k` zeros in at `at`: those up to `end` move up, over the `k` bytes past `end`.
+#[tactic(auto, using(crate::proofs::Pastes::spread_is))]
 pub fn spread_at(d: &mut [u8], at: usize, k: usize, end: usize)
     requires { (at ≤ end) × (end + k ≤ length d.old) }
     ensures { d.new ≡ spread d.old at k end }

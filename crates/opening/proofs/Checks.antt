@@ -26,7 +26,7 @@ use Rattle.rules.proofs.Grants.{Granted, grant_law}
 use Rattle.rules.proofs.Soundness.{opened_place, with_sound, fresh_sound, fresh_cells}
 use Rattle.rules.proofs.Sizes.{bearer_short}
 use Rattle.profile.proofs.Bits.{front_bearer, front_channels}
-use Rattle.rules.specs.declared.Ended.TheVariants.{Wrote}
+use Rattle.std.specs.Prelude.{Ok}
 use Rattle.session.specs.Book.{free_in}
 use Rattle.session.specs.Picture.{GoodIn, shown}
 use Rattle.session.specs.Calls.{Answers}
@@ -123,7 +123,7 @@ module _ (t p : List ℕ) (g : GoodIn t p) (d : Details) (v : List ℕ) (size pr
   all = opening b d.qualifier (bearer_in v) size protocol i
 
   abbrev answer : List ℕ → List ℕ → Type 0
-  answer u r = Answers (told d all) u r (Wrote count) before after
+  answer u r = Answers (told d all) u r (Ok count) before after
 
   served_is : not (allows_bearer b.profile (bearer_in v).kind) ≡ not x
   unfolding shown bearer_in

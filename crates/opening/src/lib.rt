@@ -1,15 +1,13 @@
 // Step 9 of OPEN CHANNEL: its own checks, the opening and the response.
 #![tactic(auto)]
 
-ghost use Rattle.std.specs.Prelude.{◌≡◌, true, ◌≤◌, length};
+ghost use Rattle.std.specs.Prelude.{◌≡◌, true, ◌≤◌, length, Ok};
 ghost use Rattle.rules.specs.declared.Link.TheVariants.{NotYet, Established};
 ghost use Rattle.rules.specs.Checks.{◌⇒◌else◌};
 ghost use Rattle.rules.specs.Table.{bearer_fits};
 ghost use Rattle.rules.specs.Reading.{bearer_in};
 ghost use Rattle.rules.specs.Own.{bit1, opening, served, carried_by};
-ghost use Rattle.rules.specs.declared.Ended.TheVariants.{Wrote};
-ghost use Rattle.session.specs.Book.{ledger_size};
-ghost use Rattle.session.specs.Picture.{GoodIn, shown};
+ghost use Rattle.session.specs.Picture.{Good, view};
 ghost use Rattle.session.specs.Calls.{Answers};
 ghost use Rattle.own.specs.Replies.{told};
 ghost use Rattle.opening.specs.Unused.{open_from};
@@ -19,7 +17,7 @@ use pool::Pool;
 use profile::{channels_of, serves};
 use responses::{tell_opened, tell_problem, tell_result};
 use rules::{Carries, Causes, ChannelNumber, Details, Link, Results};
-use session::{Ledger, entry, free_cells, open_channel};
+use session::{Ledger, Session, entry, free_cells};
 
 // The protocols that are served: UDP, which carries datagrams, and TCP, which carries a stream.
 const UDP: u8 = 0x01;
@@ -28,7 +26,7 @@ pub const TCP: u8 = 0x02;
 
 // How many channels, of the first n, stand open before the first that does not; n where none is unused.
 fn open_before(ledger: &[u16; Ledger::SIZE], n: usize) -> usize
-    requires { (length ledger.now ≡ ledger_size) × (n ≤ 7) }
+    requires { n ≤ 7 }
     ensures { result ≡ open_from ledger.now 0 n }
 {
     let mut k: usize = 0;
@@ -75,8 +73,7 @@ fn carried_by(protocol: u8) -> Carries
 
 // OPEN CHANNEL: the lowest unused number is opened; 07 if it grants less than asked.
 pub fn open(
-    ledger: &mut [u16; Ledger::SIZE],
-    pool: &mut [u8; Pool::SIZE],
+    session: &mut Session,
     bearer: &[u8],
     size: u16,
     protocol: u8,
@@ -84,10 +81,10 @@ pub fn open(
     ignored: bool,
     out: &mut [u8],
 ) -> usize
-    requires { GoodIn ledger.old pool.old × (255 ≤ length out.old) × (bearer_fits bearer.now ≡ true) }
-    ensures { Answers (told d (opening (shown ledger.old pool.old) d.qualifier (bearer_in bearer.now) size protocol ignored)) ledger.new pool.new (Wrote result) out.old out.new }
+    requires { Good session.old × (255 ≤ length out.old) × (bearer_fits bearer.now ≡ true) }
+    ensures { Answers (told d (opening (view session.old) d.qualifier (bearer_in bearer.now) size protocol ignored)) session.new.ledger session.new.pool (Ok result) out.old out.new }
 {
-    if !serves(ledger, bearer[0]) {
+    if !serves(&session.ledger, bearer[0]) {
         return tell_result(out, d, Results::BEYOND_CAPABILITIES);
     }
     if !is_served(protocol) {
@@ -96,12 +93,12 @@ pub fn open(
     if size < 1 {
         return tell_problem(out, d, Causes::SIZE_UNAVAILABLE); // no size
     }
-    let n = channels_of(ledger);
-    let k = open_before(ledger, n);
+    let n = channels_of(&session.ledger);
+    let k = open_before(&session.ledger, n);
     if k == n {
         return tell_problem(out, d, Causes::NO_CHANNEL); // no number
     }
-    let free = free_cells(ledger);
+    let free = free_cells(&session.ledger);
     if free < 2 {
         return tell_problem(out, d, Causes::SIZE_UNAVAILABLE); // too few cells
     }
@@ -109,7 +106,7 @@ pub fn open(
     let number = ChannelNumber((k + 1) as u8);
     let link = link_by(d.qualifier);
     let carries = carried_by(protocol);
-    open_channel(ledger, pool, number, grant, link, carries);
+    session.open_channel(number, grant, link, carries);
     let result = short_or(grant < size, Results::MODIFIED, ignored);
     tell_opened(out, d, result, number, link, bearer, grant)
 }

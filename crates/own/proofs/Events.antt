@@ -13,7 +13,7 @@ use Rattle.rules.specs.Sound.{Sound}
 use Rattle.rules.specs.State.{State}
 use Rattle.rules.specs.Own.{error, done, nothing, plain, listed, listing}
 use Rattle.rules.proofs.Laws.{stop, skip}
-use Rattle.rules.specs.declared.Ended.TheVariants.{Wrote}
+use Rattle.std.specs.Prelude.{Ok}
 use Rattle.profile.proofs.Bits.{front_event}
 use Rattle.session.specs.Book.{with_list}
 use Rattle.session.specs.Picture.{Shows, GoodIn, shown}
@@ -35,14 +35,14 @@ module _ (t p es : List ℕ) (i : Bool) (all : Bool) (f : all ≡ every (allows_
   unfolding shown
   allowed_is = f ∙ sym (ap (λ (h : ℕ → Bool). every h es) (λ j e. front_event t e j))
 
-  pub list_forbidden : all ≡ false → Filled (response d (error 0x30)) k before after → Answers (told d (listing (shown t p) es i)) t p (Wrote k) before after
+  pub list_forbidden : all ≡ false → Filled (response d (error 0x30)) k before after → Answers (told d (listing (shown t p) es i)) t p (Ok k) before after
   unfolding listing
   list_forbidden e w = left_answers d _ (error 0x30) t p k before after (stop _ _ _ (ap not (sym allowed_is ∙ e))) g w
 
   pub list_done :
       (x : ℕ) (e : Events) (u : List ℕ) → all ≡ true → e.available ≡ member 0x09 es → e.status ≡ member 0x0A es →
       u ≡ with_list t e → x ≡ plain i → Filled (response d (error x)) k before after →
-      Answers (told d (listing (shown t p) es i)) u p (Wrote k) before after
+      Answers (told d (listing (shown t p) es i)) u p (Ok k) before after
   unfolding listing listed
   list_done x e u q y z s m w =
       let b = listed (shown t p) es in

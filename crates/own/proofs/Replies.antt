@@ -21,7 +21,7 @@ use Rattle.rules.proofs.Soundness.{once_due, chan_sound, closed_sound, removed_s
 use Rattle.rules.specs.Command.{ended_of, written_by}
 use Rattle.octets.specs.Parts.{part}
 use Rattle.session.specs.declared.Channel.{Channel}
-use Rattle.rules.specs.declared.Ended.TheVariants.{Wrote}
+use Rattle.std.specs.Prelude.{Ok}
 use Rattle.session.specs.Book.{entry_in}
 use Rattle.session.specs.Picture.{Shows, GoodIn, shown, entry, start_in}
 use Rattle.session.specs.Calls.{Answers}
@@ -34,16 +34,16 @@ use Rattle.own.specs.Replies.{told}
 -- a reply with this state, which is sound and shown by the session, and this result, which stands in the buffer
 pub told_answers :
     (d : Details) (r : Reply) (b : State) (x : Result) (t p : List ℕ) (k : ℕ) (before after : List ℕ) → r ≡ reply b x →
-    Sound b → Shows b t p → Filled (response d x) k before after → Answers (told d r) t p (Wrote k) before after
+    Sound b → Shows b t p → Filled (response d x) k before after → Answers (told d r) t p (Ok k) before after
 unfolding ended_of written_by
 told_answers d r b x t p k before after e h s w =
-    subst (λ (y : Reply). Answers (told d y) t p (Wrote k) before after) (sym e)
-    (record { shows = s; good = shows_good b t p h s; ended = ap Wrote w.counted; lent = w.lent })
+    subst (λ (y : Reply). Answers (told d y) t p (Ok k) before after) (sym e)
+    (record { shows = s; good = shows_good b t p h s; ended = ap Ok w.counted; lent = w.lent })
 
 -- a reply that leaves the session
 pub left_answers :
     (d : Details) (r : Reply) (x : Result) (t p : List ℕ) (k : ℕ) (before after : List ℕ) → r ≡ reply (shown t p) x → GoodIn t p →
-    Filled (response d x) k before after → Answers (told d r) t p (Wrote k) before after
+    Filled (response d x) k before after → Answers (told d r) t p (Ok k) before after
 left_answers d r x t p k before after e g w = told_answers d r (shown t p) x t p k before after e g.sound g.shows w
 
 -- a result that nothing follows has the bytes of an error
@@ -79,13 +79,13 @@ module _ (t p : List ℕ) (n : ChannelNumber) (h : Numbered t p n) (e : Channel)
 
   -- CLOSE CHANNEL
   module _ (d : Details) (i : Bool) (k : ℕ) (before after : List ℕ) where
-    pub close_unopened : e.grant < 1 → Filled (response d (problem 0x03)) k before after → Answers (told d (closing a n i)) t p (Wrote k) before after
+    pub close_unopened : e.grant < 1 → Filled (response d (problem 0x03)) k before after → Answers (told d (closing a n i)) t p (Ok k) before after
     unfolding closing
     close_unopened o w = left_answers d (closing a n i) (problem 0x03) t p k before after (stop _ _ _ (unopened o)) h.good w
 
     pub close_done :
         (x : ℕ) (u r : List ℕ) → 1 ≤ e.grant → Changed t p n closed u r → x ≡ plain i → Filled (response d (error x)) k before after →
-        Answers (told d (closing a n i)) u r (Wrote k) before after
+        Answers (told d (closing a n i)) u r (Ok k) before after
     unfolding closing
     close_done x u r o s m w =
         told_answers d (closing a n i) (with_chan a n closed) (done (plain i) nothing) u r k before after (skip _ _ _ (unclosed o))
@@ -93,7 +93,7 @@ module _ (t p : List ℕ) (n : ChannelNumber) (h : Numbered t p n) (e : Channel)
 
   -- RECEIVE DATA
   module _ (d : Details) (w : ℕ) (i : Bool) (count : ℕ) (before after : List ℕ) where
-    pub receive_unopened : e.grant < 1 → Filled (response d (problem 0x03)) count before after → Answers (told d (receiving a n w i)) t p (Wrote count) before after
+    pub receive_unopened : e.grant < 1 → Filled (response d (problem 0x03)) count before after → Answers (told d (receiving a n w i)) t p (Ok count) before after
     unfolding receiving
     receive_unopened o s = left_answers d (receiving a n w i) (problem 0x03) t p count before after (stop _ _ _ (unopened o)) h.good s
 
@@ -121,7 +121,7 @@ module _ (t p : List ℕ) (n : ChannelNumber) (h : Numbered t p n) (e : Channel)
         (d : Details) (i : Bool) (count x left at : ℕ) (u r before after : List ℕ) → 1 ≤ e.grant → at ≡ start_in t n e.grant Receive →
         Changed t p n (removed c Receive k) u r → x ≡ (ltb k w ⇒ 0x02 else plain i) → left ≡ capped (e.rx - k) →
         Filled (response d (done x (received (part at (at + k) p) left))) count before after →
-        Answers (told d (receiving a n w i)) u r (Wrote count) before after
+        Answers (told d (receiving a n w i)) u r (Ok count) before after
     unfolding receiving removed with_queue
     receive_done d i count x left at u r before after o l s v g f =
         let from = l ∙ ap (λ (b : Channel). start_in t n b.grant Receive) q in

@@ -22,7 +22,7 @@ use Rattle.rules.proofs.Soundness.{chan_sound, sent_sound, readied_sound, same_s
 use Rattle.rules.proofs.Told.{whole_held}
 use Rattle.rules.specs.Sound.{SoundChan}
 use Rattle.session.specs.declared.Channel.{Channel}
-use Rattle.rules.specs.declared.Ended.TheVariants.{Wrote}
+use Rattle.std.specs.Prelude.{Ok}
 use Rattle.session.specs.Book.{entry_in}
 use Rattle.session.specs.Picture.{link_of, shown, entry}
 use Rattle.session.specs.Calls.{Answers}
@@ -125,7 +125,7 @@ module _ (t p : List ℕ) (n : ChannelNumber) (h : Numbered t p n) (e : Channel)
   c = chan a n
 
   abbrev answer : List ℕ → List ℕ → Type 0
-  answer u r = Answers (told d (sending a d.qualifier n s i)) u r (Wrote k) before after
+  answer u r = Answers (told d (sending a d.qualifier n s i)) u r (Ok k) before after
 
   link_found : link_of e.link ≡ c.link
   unfolding entry

@@ -6,7 +6,7 @@ use mathlib.Core.Bool.{Bool}
 use mathlib.Core.List.{List}
 use borrow.Author.Tests.{eq-eqb, ne_eqb}
 use Rattle.rules.specs.declared.Details.{Details}
-use Rattle.rules.specs.declared.Ended.TheVariants.{Wrote}
+use Rattle.std.specs.Prelude.{Ok}
 use Rattle.rules.specs.Own.{reply, error, done, nothing, statuses, reports, statuses_from, plain, telling}
 use Rattle.rules.proofs.Laws.{stop, skip}
 use Rattle.session.specs.Picture.{GoodIn, shown}
@@ -18,7 +18,7 @@ use Rattle.own.proofs.Replies.{left_answers, plain_stands}
 
 module _ (t p : List ℕ) (g : GoodIn t p) (d : Details) (i : Bool) (x k : ℕ) (before after : List ℕ) (m : x ≡ plain i) where
   abbrev tells : Type 0
-  tells = Answers (told d (reply (shown t p) (telling (shown t p) d.kind i))) t p (Wrote k) before after
+  tells = Answers (told d (reply (shown t p) (telling (shown t p) d.kind i))) t p (Ok k) before after
 
   pub tell_status : d.kind ≡ 0x44 → Filled (response d (done x (reports (statuses (statuses_in t 0 7))))) k before after → tells
   unfolding telling

@@ -1,27 +1,22 @@
 // Step 9: the own checks of each command, one change of state, and the response.
 #![tactic(auto)]
 
-ghost use Rattle.std.specs.Prelude.{◌≡◌, ◌+◌, ◌≤◌, length};
+ghost use Rattle.std.specs.Prelude.{◌≡◌, ◌+◌, ◌≤◌, length, Ok};
 ghost use Rattle.rules.specs.Checks.{◌⇒◌else◌, every};
 ghost use Rattle.rules.specs.Profile.{profile_size, allows_event};
 ghost use Rattle.rules.specs.declared.Way.TheVariants.{Send};
 ghost use Rattle.rules.specs.State.{is_dropped, crowded};
 ghost use Rattle.rules.specs.Own.{plain, reply, telling, listing, closing, receiving, sending};
-ghost use Rattle.rules.specs.declared.Ended.TheVariants.{Wrote};
-ghost use Rattle.session.specs.Picture.{GoodIn, link_of, shown};
+ghost use Rattle.session.specs.Picture.{Good, link_of, view};
 ghost use Rattle.session.specs.Calls.{Answers};
 ghost use Rattle.session.specs.Book.{entry_in};
 ghost use Rattle.session.specs.Changed.{Numbered, chan_in};
 ghost use Rattle.own.specs.Replies.{told, sent_entry, sent_whole};
 
-use pool::Pool;
 use profile::allows_event;
 use responses::{tell_problem, tell_received, tell_result, tell_sent, tell_statuses};
 use rules::{Causes, ChannelNumber, Details, Events, Limits, Link, Results, Way, lists};
-use session::{
-    Channel, ESTABLISHED, Ledger, append, at_once, capped, close_channel, entry, is_crowded, least,
-    link_of, remove, set_events, start_of,
-};
+use session::{Channel, Session, capped, entry, link_of, set_events, start_of};
 
 // The type of GET CHANNEL STATUS.
 const GET_CHANNEL_STATUS: u8 = 0x44;
@@ -47,18 +42,12 @@ pub fn short_or(short: bool, res: u8, ignored: bool) -> u8
 }
 
 // The types that change nothing: GET CHANNEL STATUS tells the statuses, MORE TIME tells nothing. The session stays.
-pub fn tell(
-    ledger: &[u16; Ledger::SIZE],
-    pool: &[u8; Pool::SIZE],
-    d: Details,
-    ignored: bool,
-    out: &mut [u8],
-) -> usize
-    requires { GoodIn ledger.now pool.now × (255 ≤ length out.old) }
-    ensures { Answers (told d (reply (shown ledger.now pool.now) (telling (shown ledger.now pool.now) d.kind ignored))) ledger.now pool.now (Wrote result) out.old out.new }
+pub fn tell(session: &Session, d: Details, ignored: bool, out: &mut [u8]) -> usize
+    requires { Good session.now × (255 ≤ length out.old) }
+    ensures { Answers (told d (reply (view session.now) (telling (view session.now) d.kind ignored))) session.now.ledger session.now.pool (Ok result) out.old out.new }
 {
     if d.kind == GET_CHANNEL_STATUS {
-        return tell_statuses(out, d, plain(ignored), ledger);
+        return tell_statuses(out, d, plain(ignored), &session.ledger);
     }
     tell_result(out, d, plain(ignored))
 }
@@ -80,67 +69,64 @@ fn all_allowed(ledger: &[u16], events: &[u8]) -> bool
 
 // SET UP EVENT LIST: each value must be allowed, or the list stays; it replaces the old one. The pool stays.
 pub fn list_events(
-    ledger: &mut [u16; Ledger::SIZE],
-    pool: &[u8; Pool::SIZE],
+    session: &mut Session,
     events: &[u8],
     d: Details,
     ignored: bool,
     out: &mut [u8],
 ) -> usize
-    requires { GoodIn ledger.old pool.now × (255 ≤ length out.old) }
-    ensures { Answers (told d (listing (shown ledger.old pool.now) events.now ignored)) ledger.new pool.now (Wrote result) out.old out.new }
+    requires { Good session.old × (255 ≤ length out.old) }
+    ensures { Answers (told d (listing (view session.old) events.now ignored)) session.new.ledger session.new.pool (Ok result) out.old out.new }
 {
-    if !all_allowed(ledger, events) {
+    if !all_allowed(&session.ledger, events) {
         return tell_result(out, d, Results::BEYOND_CAPABILITIES);
     }
     let listed = Events {
         available: lists(events, 0x09),
         status: lists(events, 0x0A),
     };
-    set_events(ledger, listed);
+    set_events(&mut session.ledger, listed);
     tell_result(out, d, plain(ignored))
 }
 
 // CLOSE CHANNEL: the channel ends, held bytes are discarded.
 pub fn close(
-    ledger: &mut [u16; Ledger::SIZE],
-    pool: &mut [u8; Pool::SIZE],
+    session: &mut Session,
     n: ChannelNumber,
     d: Details,
     ignored: bool,
     out: &mut [u8],
 ) -> usize
-    requires { Numbered ledger.old pool.old n × (255 ≤ length out.old) }
-    ensures { Answers (told d (closing (shown ledger.old pool.old) n ignored)) ledger.new pool.new (Wrote result) out.old out.new }
+    requires { Numbered session.old.ledger session.old.pool n × (255 ≤ length out.old) }
+    ensures { Answers (told d (closing (view session.old) n ignored)) session.new.ledger session.new.pool (Ok result) out.old out.new }
 {
-    let c = entry(ledger, n);
+    let c = entry(&session.ledger, n);
     if c.grant < 1 {
         return tell_problem(out, d, Causes::CHANNEL_INVALID);
     }
-    close_channel(ledger, pool, n, c.grant);
+    session.close_channel(n, c.grant);
     tell_result(out, d, plain(ignored))
 }
 
 // RECEIVE DATA: the least of the request, what may be handed out at once and 237 is handed out; 02 if that is fewer than asked.
 pub fn receive(
-    ledger: &mut [u16; Ledger::SIZE],
-    pool: &mut [u8; Pool::SIZE],
+    session: &mut Session,
     n: ChannelNumber,
     request: u8,
     d: Details,
     ignored: bool,
     out: &mut [u8],
 ) -> usize
-    requires { Numbered ledger.old pool.old n × (255 ≤ length out.old) }
-    ensures { Answers (told d (receiving (shown ledger.old pool.old) n request ignored)) ledger.new pool.new (Wrote result) out.old out.new }
+    requires { Numbered session.old.ledger session.old.pool n × (255 ≤ length out.old) }
+    ensures { Answers (told d (receiving (view session.old) n request ignored)) session.new.ledger session.new.pool (Ok result) out.old out.new }
 {
-    let c = entry(ledger, n);
+    let c = entry(&session.ledger, n);
     if c.grant < 1 {
         return tell_problem(out, d, Causes::CHANNEL_INVALID);
     }
     let held = c.rx as usize;
-    let most = at_once(ledger, pool, n, c, Way::Receive);
-    let handed = least(request as usize, least(most, Limits::DATA));
+    let most = session.at_once(n, c, Way::Receive);
+    let handed = (request as usize).min(most.min(Limits::DATA));
     let result = short_or(
         handed < request as usize,
         Results::MISSING_INFORMATION,
@@ -148,9 +134,9 @@ pub fn receive(
     );
     // The count that is told is the one behind the bytes, and they are told before they go, since they go from the pool to the buffer.
     let left = capped(held - handed);
-    let at = start_of(ledger, n, c.grant, Way::Receive);
-    let count = tell_received(out, d, result, pool, at, handed as u8, left);
-    remove(ledger, pool, n, c, Way::Receive, at, handed);
+    let at = start_of(&session.ledger, n, c.grant, Way::Receive);
+    let count = tell_received(out, d, result, &session.pool, at, handed as u8, left);
+    session.remove(n, c, Way::Receive, at, handed);
     count
 }
 
@@ -161,12 +147,9 @@ fn sent_entry(c: Channel, qualifier: u8, count: usize) -> Channel
 {
     if qualifier % 2 == 1 {
         return Channel {
-            grant: c.grant,
-            link: ESTABLISHED,
-            rx: c.rx,
-            tx: c.tx,
+            link: Link::Established as u16,
             ready: (c.tx as usize + count) as u16,
-            carries: c.carries,
+            ..c
         };
     }
     c
@@ -184,15 +167,9 @@ fn sent_whole(c: Channel, qualifier: u8, count: usize) -> usize
 }
 
 // Whether bytes of SEND DATA would begin a datagram for which there is no place; they join the unfinished one, if there is one.
-fn lacks_place(
-    ledger: &[u16; Ledger::SIZE],
-    pool: &[u8; Pool::SIZE],
-    n: ChannelNumber,
-    c: Channel,
-    bytes: &[u8],
-) -> bool
-    requires { Numbered ledger.now pool.now n × (c ≡ entry_in ledger.now n) }
-    ensures { result ≡ crowded (chan_in ledger.now pool.now n) Send bytes.now }
+fn lacks_place(session: &Session, n: ChannelNumber, c: Channel, bytes: &[u8]) -> bool
+    requires { Numbered session.now.ledger session.now.pool n × (c ≡ entry_in session.now.ledger n) }
+    ensures { result ≡ crowded (chan_in session.now.ledger session.now.pool n) Send bytes.now }
 {
     if bytes.len() < 1 {
         return false;
@@ -200,34 +177,29 @@ fn lacks_place(
     if c.ready < c.tx {
         return false;
     }
-    is_crowded(ledger, pool, n, Way::Send)
+    session.is_crowded(n, Way::Send)
 }
 
 // Whether a link was dropped.
 fn is_dropped(link: u16) -> bool
     ensures { result ≡ is_dropped (link_of link) }
 {
-    match link_of(link) {
-        Link::NotYet => false,
-        Link::Established => false,
-        Link::Dropped => true,
-    }
+    matches!(link_of(link), Link::Dropped)
 }
 
 // SEND DATA: the bytes are stored whole or not at all, and the room that is left is told.
 pub fn send(
-    ledger: &mut [u16; Ledger::SIZE],
-    pool: &mut [u8; Pool::SIZE],
+    session: &mut Session,
     n: ChannelNumber,
     bytes: &[u8],
     d: Details,
     ignored: bool,
     out: &mut [u8],
 ) -> usize
-    requires { Numbered ledger.old pool.old n × (255 ≤ length out.old) }
-    ensures { Answers (told d (sending (shown ledger.old pool.old) d.qualifier n bytes.now ignored)) ledger.new pool.new (Wrote result) out.old out.new }
+    requires { Numbered session.old.ledger session.old.pool n × (255 ≤ length out.old) }
+    ensures { Answers (told d (sending (view session.old) d.qualifier n bytes.now ignored)) session.new.ledger session.new.pool (Ok result) out.old out.new }
 {
-    let c = entry(ledger, n);
+    let c = entry(&session.ledger, n);
     if c.grant < 1 {
         return tell_problem(out, d, Causes::CHANNEL_INVALID);
     }
@@ -239,7 +211,7 @@ pub fn send(
     if room < bytes.len() {
         return tell_problem(out, d, Causes::SIZE_UNAVAILABLE);
     }
-    if lacks_place(ledger, pool, n, c, bytes) {
+    if lacks_place(session, n, c, bytes) {
         return tell_problem(out, d, Causes::SIZE_UNAVAILABLE);
     }
     // The room that is told is the one behind the bytes; it is told before they are stored because the call is shorter so.
@@ -247,6 +219,6 @@ pub fn send(
     let count = tell_sent(out, d, plain(ignored), left);
     let joined = sent_entry(c, d.qualifier, bytes.len());
     let len = sent_whole(c, d.qualifier, bytes.len());
-    append(ledger, pool, n, joined, Way::Send, bytes, len);
+    session.append(n, joined, Way::Send, bytes, len);
     count
 }

@@ -1,55 +1,32 @@
 // The program: a tool reads standard input, a line at a time, and prints what it says of each. The first word names the tool; without one it is document 01's program. Words in pairs are tools and data files, which are played one after the other.
 #![tactic(auto)]
 
-ghost use Rattle.std.specs.Prelude.{◌≤◌, length};
-
-use fetch::Gathered;
-use flow::Size;
-use pool::Pool;
 use std::env::{Env, FillError};
 use std::io::{ErrorKind, Read, Write};
 use std::rt::Files;
 use std::{fs, io, str};
-use stream::{fail, run};
-use tools::{Named, Tool, tool_named};
+use stream::{Outlets, run};
+use tools::{Tool, tool_named};
 
-// Runs a tool over an input, with the memory that it ever uses.
-fn play<I: Read, O: Write, E: Write>(input: &mut I, output: &mut O, errors: &mut E, tool: Tool) {
-    let mut pool = [0u8; Pool::SIZE];
-    let mut gathered = [0u8; Gathered::SIZE];
-    let mut line = [0u8; Size::KEPT];
+// Runs a tool over an input, with all the memory that it ever uses. What fails was told.
+fn play<I: Read, O: Write, E: Write>(input: &mut I, outlets: &mut Outlets<O, E>, tool: Tool) {
     let mut piece = [0u8; 65536];
     let mut out = [0u8; 65536];
-    run(
-        input,
-        output,
-        errors,
-        tool,
-        &mut pool,
-        &mut gathered,
-        &mut line,
-        &mut piece,
-        &mut out,
-    );
+    let _ = run(input, outlets, tool, &mut piece, &mut out);
 }
 
-// Tells that no tool has a name.
-fn refuse<E: Write>(errors: &mut E, name: &[u8]) {
-    let _ = errors.write_all(b"there is no tool ");
-    let _ = errors.write_all(name);
-    let _ = errors.write_all(b"\n");
-}
-
-// Runs the tool of a name over an input.
+// Runs the tool of a name over an input, or tells that no tool has the name.
 fn play_input<I: Read, O: Write, E: Write>(
     input: &mut I,
-    output: &mut O,
-    errors: &mut E,
+    outlets: &mut Outlets<O, E>,
     name: &[u8],
 ) {
-    match tool_named(name) {
-        Named::One(tool) => play(input, output, errors, tool),
-        Named::Unknown => refuse(errors, name),
+    if let Some(tool) = tool_named(name) {
+        play(input, outlets, tool);
+        return;
+    }
+    for part in [b"there is no tool ", name, b"\n"] {
+        let _ = outlets.errors.write_all(part);
     }
 }
 
@@ -64,19 +41,16 @@ fn open_read<R: Files>(rt: &R, file: &[u8]) -> io::Result<R::File> {
 // Runs the tool of a name over a data file, and prints both names before its answers.
 fn play_file<R: Files, O: Write, E: Write>(
     rt: &R,
-    output: &mut O,
-    errors: &mut E,
+    outlets: &mut Outlets<O, E>,
     name: &[u8],
     file: &[u8],
 ) {
-    let _ = output.write_all(b"== ");
-    let _ = output.write_all(name);
-    let _ = output.write_all(b" ");
-    let _ = output.write_all(file);
-    let _ = output.write_all(b"\n");
+    for part in [b"== ", name, b" ", file, b"\n"] {
+        let _ = outlets.output.write_all(part);
+    }
     match open_read(rt, file) {
-        Ok(mut input) => play_input(&mut input, output, errors, name),
-        Err(error) => fail(errors, file, error),
+        Ok(mut input) => play_input(&mut input, outlets, name),
+        Err(error) => outlets.fail(file, error),
     }
 }
 
@@ -91,61 +65,50 @@ fn arg_count<R: Env>(rt: &R) -> usize {
     usize::MAX
 }
 
-// Puts a word that the program was started with at the start of a buffer, and tells its length, or 0 where it is missing or longer than the buffer.
-fn arg<R: Env>(rt: &R, place: usize, buffer: &mut [u8]) -> usize
-    ensures { result ≤ length buffer.new }
-{
-    match rt.arg(place, buffer) {
-        Ok(n) => n,
-        Err(_) => 0,
-    }
+// A word that the program was started with, at the start of a buffer; None where it is missing or longer than the buffer.
+fn arg<'a, R: Env>(rt: &R, place: usize, buffer: &'a mut [u8]) -> Option<&'a [u8]> {
+    let n = rt.arg(place, buffer).ok()?;
+    Some(&buffer[..n])
 }
 
-// Plays a pair of words, by their places.
+// Plays a pair of words, by their places. A word that cannot be had is an empty one.
 fn play_pair<R: Env + Files, O: Write, E: Write>(
     rt: &R,
-    output: &mut O,
-    errors: &mut E,
+    outlets: &mut Outlets<O, E>,
     first: usize,
     second: usize,
 ) {
     let mut name = [0u8; 4096];
-    let n = arg(rt, first, &mut name);
     let mut file = [0u8; 4096];
-    let m = arg(rt, second, &mut file);
-    play_file(rt, output, errors, &name[..n], &file[..m]);
+    let name = arg(rt, first, &mut name).unwrap_or(b"");
+    let file = arg(rt, second, &mut file).unwrap_or(b"");
+    play_file(rt, outlets, name, file);
 }
 
 // Plays the tool that the only word names.
 fn play_word<R: Env, I: Read, O: Write, E: Write>(
     rt: &R,
     input: &mut I,
-    output: &mut O,
-    errors: &mut E,
+    outlets: &mut Outlets<O, E>,
 ) {
     let mut name = [0u8; 4096];
-    let n = arg(rt, 1, &mut name);
-    play_input(input, output, errors, &name[..n]);
+    let name = arg(rt, 1, &mut name).unwrap_or(b"");
+    play_input(input, outlets, name);
 }
 
 fn main(rt: HostRuntime) {
     let input = &mut rt.stdin();
-    let output = &mut rt.stdout();
-    let errors = &mut rt.stderr();
-    let count = arg_count(&rt);
-    if count < 2 {
-        play(input, output, errors, Tool::Lines);
-        return;
-    }
-    if count == 2 {
-        play_word(&rt, input, output, errors);
-        return;
-    }
-    let pairs = (count - 1) / 2;
-    let mut k: usize = 0;
-    while k < pairs {
-        let first = 2 * k + 1;
-        play_pair(&rt, output, errors, first, first + 1);
-        k += 1;
+    let outlets = &mut Outlets {
+        output: rt.stdout(),
+        errors: rt.stderr(),
+    };
+    match arg_count(&rt) {
+        0 | 1 => play(input, outlets, Tool::Lines),
+        2 => play_word(&rt, input, outlets),
+        count => {
+            for k in 0..(count - 1) / 2 {
+                play_pair(&rt, outlets, 2 * k + 1, 2 * k + 2);
+            }
+        }
     }
 }

@@ -6,8 +6,6 @@ use Rattle.pool.proofs.Pool.cells.Kinds as cells-kinds
 use Rattle.pool.proofs.Pool.cells.Reads as cells-reads
 use Rattle.pool.proofs.Pool.space.Kinds as space-kinds
 use Rattle.pool.proofs.Pool.space.Reads as space-reads
-use Rattle.pool.proofs.Pool.within_cap.Kinds as within-cap-kinds
-use Rattle.pool.proofs.Pool.within_cap.Reads as within-cap-reads
 use Rattle.pool.proofs.Pool.grant.Kinds as grant-kinds
 use Rattle.pool.proofs.Pool.grant.Reads as grant-reads
 
@@ -16,9 +14,6 @@ cells_settled κs a _ x y v w p q = (p ∙ sym q, refl)
 
 pub space_settled : Determined 0 space-kinds.ps space-kinds.r space-reads.Pre space-reads.Post
 space_settled κs a _ x y v w p q = (p.0 ∙ sym q.0, refl)
-
-pub within_cap_settled : Determined 0 within-cap-kinds.ps within-cap-kinds.r within-cap-reads.Pre within-cap-reads.Post
-within_cap_settled κs a _ x y v w p q = (p ∙ sym q, refl)
 
 pub grant_settled : Determined 0 grant-kinds.ps grant-kinds.r grant-reads.Pre grant-reads.Post
 grant_settled κs a _ x y v w p q = (p ∙ sym q, refl)

@@ -1,6 +1,6 @@
 -- The profile is the front of the numbers that are lent: every place lies in it.
 -- Assumes nothing.
-use Prim.Native.Nat.{ℕ, ◌+◌, ◌-◌, ◌/◌, ◌%◌, ◌^◌, ◌≤◌}
+use Prim.Native.Nat.{ℕ, ◌-◌, ◌/◌, ◌%◌, ◌^◌, ◌≤◌}
 use mathlib.Core.Path.{◌≡◌, ap}
 use mathlib.Core.Bool.{true, false}
 use mathlib.Core.List.{List}
@@ -31,14 +31,3 @@ module _ (t : List ℕ) where
   pub front_channels : channels p ≡ channels t
   unfolding channels
   front_channels = ap (λ (b : ℕ). b / 32 % 8) (get_or-take profile_size t 12 0 (omega arith))
-
--- a bit that is none of 1 to 7 is the eighth
-above : (k b : ℕ) → k ≤ b → (b ≡ k → ⊥) → k + 1 ≤ b
-above k b h n = omega arith
-
-pub eighth :
-    (b : ℕ) → 1 ≤ b → b ≤ 8 → (b ≡ 1 → ⊥) → (b ≡ 2 → ⊥) → (b ≡ 3 → ⊥) → (b ≡ 4 → ⊥) → (b ≡ 5 → ⊥) → (b ≡ 6 → ⊥) → (b ≡ 7 → ⊥) → b ≡ 8
-eighth b low high a c d e f g h = last b (above 7 b (above 6 b (above 5 b (above 4 b (above 3 b (above 2 b (above 1 b low a) c) d) e) f) g) h) high
-  where
-    last : (b : ℕ) → 8 ≤ b → b ≤ 8 → b ≡ 8
-    last b x y = omega arith

@@ -1,7 +1,7 @@
 // What the profile allows: a bit of it, the events, the bearers, and the number of channels. It stands at the front of the numbers that are lent.
 #![tactic(auto)]
 
-ghost use Rattle.std.specs.Prelude.{◌≡◌, ◌-◌, ◌^◌, ◌≤◌, length};
+ghost use Rattle.std.specs.Prelude.{◌≡◌, ◌≤◌, length};
 ghost use Rattle.rules.specs.Profile.{profile_size, bit, allows_event, allows_bearer, channels};
 
 // A bit of the profile; bytes and bits are numbered from 1.
@@ -11,35 +11,18 @@ pub struct Place {
     pub bit: u8,
 }
 
-// The weight of a bit in its byte.
-fn weight(bit: u8) -> u16
-    requires { (1 ≤ bit) × (bit ≤ 8) }
-    ensures { result ≡ 2 ^ (bit - 1) }
-{
-    match bit {
-        1 => 1,
-        2 => 2,
-        3 => 4,
-        4 => 8,
-        5 => 16,
-        6 => 32,
-        7 => 64,
-        _ => 128,
-    }
-}
-
 // Whether the profile has the bit of a place set.
+#[tactic(auto, using(std::proofs::lemmas::Nat::Bits::shr_and_one), unfolding(rules::specs::Profile::bit))]
 pub fn allowed(profile: &[u16], place: Place) -> bool
     requires le_byte { ((1 ≤ place.byte) × (place.byte ≤ profile_size)) × ((1 ≤ place.bit) × (place.bit ≤ 8)) }
     requires profile_size_in_bounds { profile_size ≤ length profile.now }
     ensures { result ≡ bit profile.now place.byte place.bit }
 {
-    let at = place.byte - 1;
-    let b = profile[at];
-    b / weight(place.bit) % 2 == 1
+    (profile[place.byte - 1] >> (place.bit - 1)) & 1 == 1
 }
 
 // Whether an event may be listed: it is 09 or 0A, and the profile allows it.
+#[tactic(auto, using(rules::proofs::Laws::checks), unfolding(rules::specs::Profile::allows_event))]
 pub fn allows_event(profile: &[u16], event: u8) -> bool
     requires { profile_size ≤ length profile.now }
     ensures { result ≡ allows_event profile.now event }
@@ -52,6 +35,7 @@ pub fn allows_event(profile: &[u16], event: u8) -> bool
 }
 
 // Whether a bearer of this type is served: 03, or 02 if the profile allows it.
+#[tactic(auto, using(rules::proofs::Laws::checks), unfolding(rules::specs::Profile::allows_bearer))]
 pub fn serves(profile: &[u16], kind: u8) -> bool
     requires { profile_size ≤ length profile.now }
     ensures { result ≡ allows_bearer profile.now kind }
@@ -64,9 +48,10 @@ pub fn serves(profile: &[u16], kind: u8) -> bool
 }
 
 // The number N of channels.
+#[tactic(auto, unfolding(rules::specs::Profile::channels))]
 pub fn channels_of(profile: &[u16]) -> usize
     requires { profile_size ≤ length profile.now }
     ensures { result ≡ channels profile.now }
 {
-    (profile[12] / 32 % 8) as usize
+    usize::from((profile[12] >> 5) & 7)
 }

@@ -8,7 +8,7 @@ use native.Mathlib.Omega.{arith}
 use lib.ListN.{length, take, get_or, length-append, length-take}
 use lib.Dec.{ltb, leb, eqb}
 use lib.Seq.{set-get_or}
-use borrow.Author.Tests.{lt-ltb, le-ltb, leb-false, eq-eqb, ne_eqb}
+use borrow.Author.Tests.{lt-ltb, le-ltb, eq-eqb, ne_eqb, eqb-true, eqb-false}
 use Rattle.rules.specs.declared.ChannelNumber.{ChannelNumber}
 use Rattle.rules.specs.declared.Link.TheVariants.{Dropped}
 use Rattle.rules.specs.declared.Refusal.TheVariants.{Overfull, NoPlace, Undersized}
@@ -28,11 +28,11 @@ use Rattle.rules.proofs.Soundness.{step_sound}
 use Rattle.octets.specs.Parts.{part, pasted, overlaid}
 use Rattle.octets.proofs.Pastes.{front_over}
 use Rattle.session.specs.declared.Channel.{Channel}
-use Rattle.rules.specs.declared.Ended.TheVariants.{Wrote, Refused}
+use Rattle.std.specs.Prelude.{Ok, Err}
 use Rattle.session.specs.Book.{available_at, status_at, entry_in, with_entry, listed}
 use Rattle.session.specs.Picture.{entry, link_of, carries_of, start_in, shown}
 use Rattle.session.specs.Calls.{Answers}
-use Rattle.session.specs.Changed.{chan_in, Changed, held_in, Marks}
+use Rattle.session.specs.Changed.{chan_in, Changed, Marks}
 use Rattle.session.proofs.Views.{link_back, carries_back}
 use Rattle.session.proofs.Facts.{bounds, removing, mark_law, held_read}
 use Rattle.session.proofs.Answers.{refuse_answers, wrote_answers, quiet_answers}
@@ -55,12 +55,12 @@ unfolding drop_told event_bytes written object_bytes status_object status_bytes 
 drop_event_lem out n = front_over out _
 
 -- an event is listed where its number is not 0
-listed_not : (k : ℕ) → k < 1 → listed k ≡ false
+listed_not : (k : ℕ) → k ≡ 0 → listed k ≡ false
 listed_not zero h = refl
 listed_not (suc k) h = absurd (omega arith)
 
-listed_is : (k : ℕ) → 1 ≤ k → listed k ≡ true
-listed_is zero h = absurd (omega arith)
+listed_is : (k : ℕ) → (k ≡ 0 → ⊥) → listed k ≡ true
+listed_is zero h = absurd (h refl)
 listed_is (suc k) h = refl
 
 -- event 09 is told where nothing was held, bytes came and it is listed
@@ -114,17 +114,6 @@ unfolding crowded is_empty places_used queue
 crowded_some c [] e = absurd (e refl)
 crowded_some c (x ∷ s) e = refl
 
--- R12 by the number of what is carried
-pub short_stream : (k : ℕ) (b : Bool) → k ≡ 0 → false ≡ not (is_stream (carries_of k)) && b
-unfolding is_stream
-short_stream zero b e = refl
-short_stream (suc k) b e = absurd (omega arith)
-
-pub short_datagrams : (k : ℕ) (b : Bool) → (k ≡ 0 → ⊥) → b ≡ not (is_stream (carries_of k)) && b
-unfolding is_stream
-short_datagrams zero b e = absurd (e refl)
-short_datagrams (suc k) b e = refl
-
 module _ {t p : List ℕ} {n : ChannelNumber} {x : Channel} (u : Usable t p n x) where
   abbrev a : State
   a = shown t p
@@ -166,17 +155,6 @@ module _ {t p : List ℕ} {n : ChannelNumber} {x : Channel} (u : Usable t p n x)
   pub accept_room : {k : ℕ} → k ≤ x.grant - x.rx → k ≤ room c Receive
   accept_room h = omega (arith, room_is)
 
-  -- what fits is a number of the ledger
-  pub accept_count : {k : ℕ} → k ≤ x.grant - x.rx → k ≤ 65535
-  accept_count h = omega (arith, ap (λ (y : Channel). y.grant) u.entry, (bounds t p n u.numbered).capped)
-
-  -- R11 by the lengths: where they do not have every place, one is free
-  pub accept_place :
-      (b : Bool) (k : ℕ) → b ≡ leb place_count (length (queue c Receive).lengths) → b ≡ false → length (queue c Receive).lengths + min 1 k ≤ place_count
-  accept_place b k e f =
-      let l = leb-false place_count (length (queue c Receive).lengths) (sym e ∙ f) in
-      omega arith
-
   module _ (s out : List ℕ) (b : 16 ≤ length out) where
     by_room :
         arrival a (length out) n s ≡
@@ -186,7 +164,7 @@ module _ {t p : List ℕ} {n : ChannelNumber} {x : Channel} (u : Usable t p n x)
     unfolding arrival
     by_room = skip _ _ _ (le-ltb (length out) 16 b) ∙ passing t p n u _
 
-    pub accept_overfull : x.grant - x.rx < length s → Answers (arrival a (length out) n s) t p (Refused Overfull) out out
+    pub accept_overfull : x.grant - x.rx < length s → Answers (arrival a (length out) n s) t p (Err Overfull) out out
     accept_overfull h =
         refuse_answers _ t p out _ u.numbered.good (by_room ∙ stop _ _ _ (lt-ltb (room c Receive) (length s) (omega (arith, room_is))))
 
@@ -195,31 +173,32 @@ module _ {t p : List ℕ} {n : ChannelNumber} {x : Channel} (u : Usable t p n x)
       by_place = by_room ∙ skip _ _ _ (le-ltb (room c Receive) (length s) (accept_room fit))
 
       -- no bytes leave the session as it was
-      pub accept_empty : length s ≡ 0 → Answers (arrival a (length out) n s) t p (Wrote 0) out out
+      pub accept_empty : true ≡ eqb (length s) 0 → Answers (arrival a (length out) n s) t p (Ok 0) out out
       unfolding step
-      accept_empty e =
+      accept_empty q =
+          let e = eqb-true (length s) 0 (sym q) in
           quiet_answers _ a _ t p out (sound (arriving (length out) n s))
           (by_place ∙ skip _ _ _ (crowded_empty c s e) ∙ ap (λ (d : State). answered d (arrival_event a n s)) (nothing_arrives a n s e))
           (silent_empty a n s e) u.numbered.good.shows
 
-      module _ (some : length s ≡ 0 → ⊥) (r : Bool) (is-full : r ≡ leb place_count (length (queue c Receive).lengths)) where
-        full_is : crowded c Receive s ≡ r
-        full_is = crowded_some c s some ∙ sym is-full
+      module _ (come : false ≡ eqb (length s) 0) where
+        some : length s ≡ 0 → ⊥
+        some = eqb-false (length s) 0 (sym come)
 
-        pub accept_crowded : r ≡ true → Answers (arrival a (length out) n s) t p (Refused NoPlace) out out
-        accept_crowded f = refuse_answers _ t p out _ u.numbered.good (by_place ∙ stop _ _ _ (full_is ∙ f))
+        pub accept_crowded : true ≡ leb place_count (length (queue c Receive).lengths) → Answers (arrival a (length out) n s) t p (Err NoPlace) out out
+        accept_crowded f = refuse_answers _ t p out _ u.numbered.good (by_place ∙ stop _ _ _ (crowded_some c s some ∙ sym f))
 
         -- behind the append
-        module _ (free : r ≡ false) (t' p' : List ℕ)
+        module _ (free : false ≡ leb place_count (length (queue c Receive).lengths)) (t' p' : List ℕ)
             (ch : Changed t p n (whole (appended (marked c (link_of x.link) x.ready) Receive s) Receive (length s)) t' p') where
           stored : arrival a (length out) n s ≡ answered (with_chan a n (arrived c s)) (arrival_event a n s)
-          stored = by_place ∙ skip _ _ _ (full_is ∙ free)
+          stored = by_place ∙ skip _ _ _ (crowded_some c s some ∙ sym free)
 
           shows : Changed t p n (arrived c s) t' p'
           unfolding arrived
           shows = subst (λ (d : Chan). Changed t p n (whole (appended d Receive s) Receive (length s)) t' p') marked_own ch
 
-          pub accept_unlisted : get_or t available_at 0 < 1 → Answers (arrival a (length out) n s) t' p' (Wrote 0) out out
+          pub accept_unlisted : get_or t available_at 0 ≡ 0 → Answers (arrival a (length out) n s) t' p' (Ok 0) out out
           unfolding shown step
           accept_unlisted e =
               quiet_answers _ _ _ t' p' out (sound (arriving (length out) n s)) stored (silent_unlisted a n s (listed_not (get_or t available_at 0) e)) shows
@@ -228,12 +207,12 @@ module _ {t p : List ℕ} {n : ChannelNumber} {x : Channel} (u : Usable t p n x)
           unfolding entry
           none_held = sym (empty_length (held c Receive)) ∙ ap (λ (y : Channel). eqb y.rx 0) (sym is)
 
-          pub accept_held : 0 < x.rx → Answers (arrival a (length out) n s) t' p' (Wrote 0) out out
+          pub accept_held : 0 < x.rx → Answers (arrival a (length out) n s) t' p' (Ok 0) out out
           unfolding step
           accept_held e =
               quiet_answers _ _ _ t' p' out (sound (arriving (length out) n s)) stored (silent_held a n s (none_held ∙ ne_eqb x.rx 0 (omega arith))) shows
 
-          told : 1 ≤ get_or t available_at 0 → x.rx ≤ 0 → arrival_event a n s ≡ arrival_told n (length s)
+          told : (get_or t available_at 0 ≡ 0 → ⊥) → x.rx ≤ 0 → arrival_event a n s ≡ arrival_told n (length s)
           unfolding arrival_told appended with_queue queue joined shown entry
           told e none =
               let empty : x.rx ≡ 0 = omega arith in
@@ -243,22 +222,18 @@ module _ {t p : List ℕ} {n : ChannelNumber} {x : Channel} (u : Usable t p n x)
               ∙ (λ i. event_bytes 0x09 (status_object n (u.link i) ∷ unflagged 0x37 (capped (sum i) ∷ []) ∷ []))
 
           pub accept_told :
-              (after : List ℕ) → 1 ≤ get_or t available_at 0 → x.rx ≤ 0 → after ≡ overlaid (arrival_told n (length s)) out →
-              Answers (arrival a (length out) n s) t' p' (Wrote 16) out after
+              (after : List ℕ) (size : ℕ) → (get_or t available_at 0 ≡ 0 → ⊥) → x.rx ≤ 0 → after ≡ overlaid (arrival_told n (length s)) out → size ≡ 16 →
+              Answers (arrival a (length out) n s) t' p' (Ok size) out after
           unfolding arrival_told event_bytes written object_bytes status_object status_bytes length_bytes ◌⇒◌else◌ step
-          accept_told after e none o =
-              wrote_answers _ _ (arrival_told n (length s)) t' p' out after (sound (arriving (length out) n s))
-              (stored ∙ ap (answered _) (told e none)) shows o
+          accept_told after size e none o k =
+              subst (λ (j : ℕ). Answers (arrival a (length out) n s) t' p' (Ok j) out after) (sym k) (wrote_answers _ _ (arrival_told n (length s)) t' p' out after (sound (arriving (length out) n s))
+              (stored ∙ ap (answered _) (told e none)) shows o)
 
   -- the bytes to send lie in the pool, from where they begin, and those that may be handed out at once are the first of them
   pub send_lies : (at most : ℕ) → at ≡ start_in t n x.grant Send → most ≡ at_once c Send → (at + x.tx ≤ length p) × (most ≤ x.tx)
-  unfolding held_in
   send_lies at most from once =
       let l = removing t p n u.numbered x Send at most u.entry from (omega arith) in
       (l.0, l.1)
-
-  pub hand_once : (m k most : ℕ) → most ≡ at_once c Send → k ≡ min m most → k ≤ at_once c Send
-  hand_once m k most once count = omega arith
 
   -- the take: R12 by the entry
   module _ (out : List ℕ) (most : ℕ) (once : most ≡ at_once c Send) (r : Bool) (short : r ≡ not (is_stream (carries_of x.carries)) && ltb (length out) most) where
@@ -277,21 +252,21 @@ module _ {t p : List ℕ} {n : ChannelNumber} {x : Channel} (u : Usable t p n x)
         ∙ (λ i. short_is i ⇒ refusal a Undersized else
         answered (with_chan a n (removed c Send (min (length out) (sym once i)))) (take (min (length out) (sym once i)) (held c Send)))
 
-    pub hand_short : r ≡ true → Answers (taking a (length out) n) t p (Refused Undersized) out out
+    pub hand_short : r ≡ true → Answers (taking a (length out) n) t p (Err Undersized) out out
     hand_short e = refuse_answers _ t p out _ u.numbered.good (by_size ∙ stop _ _ _ e)
 
     -- the bytes that are handed out lie in the pool, from where those to send begin, and are the first of them
     pub handed :
         r ≡ false → (at k : ℕ) → at ≡ start_in t n x.grant Send → k ≡ min (length out) most →
         (t' p' after : List ℕ) → Changed t p n (removed c Send k) t' p' → after ≡ pasted out 0 (part at (at + k) p) →
-        Answers (taking a (length out) n) t' p' (Wrote k) out after
+        Answers (taking a (length out) n) t' p' (Ok k) out after
     unfolding step entry
     handed e at k from count t' p' after ch o =
         let f : k ≤ length (held c Send) = let l = send_lies at most from once in omega (arith, ap (λ (y : Channel). y.tx) is) in
         let size : length (take k (held c Send)) ≡ k = simp length-take (omega arith) in
         let start = from ∙ ap (λ (y : Channel). start_in t n y.grant Send) u.entry in
         let read = ap (λ (j : ℕ). part j (j + k) p) start ∙ held_read t p n u.numbered Send k f in
-        subst (λ (j : ℕ). Answers (taking a (length out) n) t' p' (Wrote j) out after) size
+        subst (λ (j : ℕ). Answers (taking a (length out) n) t' p' (Ok j) out after) size
         (wrote_answers _ _ (take k (held c Send)) t' p' out after (sound (taking_out (length out) n))
         (by_size ∙ skip _ _ _ e ∙ ap (λ (j : ℕ). answered (with_chan a n (removed c Send j)) (take j (held c Send))) (sym count))
         ch (o ∙ front_over out _ ∙ ap (λ (v : List ℕ). overlaid v out) read))
@@ -308,17 +283,17 @@ module _ {t p : List ℕ} {n : ChannelNumber} {x : Channel} (u : Usable t p n x)
     unfolding dropping
     dropping_is = skip _ _ _ (le-ltb (length out) 16 b) ∙ passing t p n u _
 
-    pub drop_quiet : get_or t status_at 0 < 1 → Answers (dropping a (length out) n) t' p (Wrote 0) out out
+    pub drop_quiet : get_or t status_at 0 ≡ 0 → Answers (dropping a (length out) n) t' p (Ok 0) out out
     unfolding drop_event shown step
     drop_quiet h =
         quiet_answers _ _ _ t' p out (sound (dropping_link (length out) n)) dropping_is (skip _ _ _ (listed_not (get_or t status_at 0) h)) shows_drop
 
-    told_drop : 1 ≤ get_or t status_at 0 → drop_event a n ≡ drop_told n
+    told_drop : (get_or t status_at 0 ≡ 0 → ⊥) → drop_event a n ≡ drop_told n
     unfolding drop_event drop_told dropped marked shown
     told_drop h = stop _ _ _ (listed_is (get_or t status_at 0) h)
 
     pub drop_told_lem :
-        (after : List ℕ) → 1 ≤ get_or t status_at 0 → after ≡ overlaid (drop_told n) out → Answers (dropping a (length out) n) t' p (Wrote 13) out after
+        (after : List ℕ) (size : ℕ) → (get_or t status_at 0 ≡ 0 → ⊥) → after ≡ overlaid (drop_told n) out → size ≡ 13 → Answers (dropping a (length out) n) t' p (Ok size) out after
     unfolding drop_told event_bytes written object_bytes status_object status_bytes length_bytes ◌⇒◌else◌ step
-    drop_told_lem after h o =
-        wrote_answers _ _ (drop_told n) t' p out after (sound (dropping_link (length out) n)) (dropping_is ∙ ap (answered _) (told_drop h)) shows_drop o
+    drop_told_lem after size h o k =
+        subst (λ (j : ℕ). Answers (dropping a (length out) n) t' p (Ok j) out after) (sym k) (wrote_answers _ _ (drop_told n) t' p out after (sound (dropping_link (length out) n)) (dropping_is ∙ ap (answered _) (told_drop h)) shows_drop o)

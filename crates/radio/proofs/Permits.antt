@@ -6,7 +6,7 @@ use mathlib.Core.Bool.{true, not, false≢true}
 use mathlib.Core.List.{List}
 use lib.ListN.{length}
 use lib.Dec.{leb, eqb}
-use borrow.Author.Tests.{lt-ltb, le-ltb, le-leb, lt-leb, leb-true, eq-eqb, ne_eqb}
+use borrow.Author.Tests.{lt-ltb, le-ltb, le-leb, leb-true}
 use Rattle.rules.specs.declared.ChannelNumber.{ChannelNumber}
 use Rattle.rules.specs.declared.Link.{Link}
 use Rattle.rules.specs.declared.Link.TheVariants.{NotYet, Established, Dropped}
@@ -18,45 +18,13 @@ use Rattle.rules.specs.Command.{Answer, refusal}
 use Rattle.rules.specs.Radio.{numbered, arrival, taking, dropping}
 use Rattle.rules.proofs.Laws.{branch, stop, skip, not_not, both_left, both_right}
 use Rattle.session.specs.declared.Channel.{Channel}
-use Rattle.rules.specs.declared.Ended.TheVariants.{Refused}
-use Rattle.session.specs.Book.{entry_in}
+use Rattle.std.specs.Prelude.{Result, Ok, Err}
 use Rattle.session.specs.Picture.{link_number, entry, shown, GoodIn}
 use Rattle.session.specs.Calls.{Answers}
 use Rattle.session.specs.Changed.{Numbered, chan_in}
 use Rattle.session.proofs.Facts.{entry_is}
 use Rattle.session.proofs.Answers.{refuse_answers}
-use Rattle.radio.specs.declared.Permit.{Permit}
-use Rattle.radio.specs.declared.Permit.TheVariants.{Pass, Refuse}
 use Rattle.radio.specs.Permits.{permit_in, Usable}
-
--- each return of the check, over what it found
-module _ (t : List ℕ) (n : ChannelNumber) where
-  pub permit_low : n.0 < 1 → Refuse NoChannel ≡ permit_in t n
-  unfolding permit_in numbered ◌⇒◌else◌
-  permit_low l = simp (lt-leb 1 n.0 l)
-
-  pub permit_high : 1 ≤ n.0 → 7 < n.0 → Refuse NoChannel ≡ permit_in t n
-  unfolding permit_in numbered ◌⇒◌else◌
-  permit_high l h = simp (le-leb 1 n.0 l, lt-leb n.0 7 h)
-
-  module _ (l : 1 ≤ n.0) (h : n.0 ≤ 7) (x : Channel) (is : x ≡ entry_in t n) where
-    grant_is : (entry_in t n).grant ≡ x.grant
-    grant_is = ap (λ (y : Channel). y.grant) (sym is)
-
-    link_is : (entry_in t n).link ≡ x.link
-    link_is = ap (λ (y : Channel). y.link) (sym is)
-
-    pub permit_closed : x.grant < 1 → Refuse Unopened ≡ permit_in t n
-    unfolding permit_in numbered ◌⇒◌else◌
-    permit_closed g = simp (le-leb 1 n.0 l, le-leb n.0 7 h, grant_is, lt-leb 1 x.grant g)
-
-    pub permit_unlinked : 1 ≤ x.grant → (x.link ≡ 1 → ⊥) → Refuse Unlinked ≡ permit_in t n
-    unfolding permit_in numbered ◌⇒◌else◌
-    permit_unlinked g k = simp (le-leb 1 n.0 l, le-leb n.0 7 h, grant_is, le-leb 1 x.grant g, link_is, ne_eqb x.link 1 k)
-
-    pub permit_pass : 1 ≤ x.grant → x.link ≡ 1 → Pass x ≡ permit_in t n
-    unfolding permit_in numbered ◌⇒◌else◌
-    permit_pass g k = simp (le-leb 1 n.0 l, le-leb n.0 7 h, le-leb 1 (entry_in t n).grant (rw grant_is g), eq-eqb (entry_in t n).link 1 (link_is ∙ k)) (ap Pass is)
 
 linked_by : (l : Link) → eqb (link_number l) 1 ≡ is_established l
 unfolding is_established
@@ -85,9 +53,9 @@ module _ (t p : List ℕ) (n : ChannelNumber) where
   passing u y = simp (le-leb 1 n.0 u.numbered.low, le-leb n.0 7 u.numbered.high, u.stands, u.link)
 
   -- what a permit tells of them
-  abbrev Verdict : Permit → Type 0
-  Verdict (Pass x) = Usable t p n x
-  Verdict (Refuse why) = (y : Answer) → checked y ≡ refusal (shown t p) why
+  abbrev Verdict : Result Channel Refusal → Type 0
+  Verdict (Ok x) = Usable t p n x
+  Verdict (Err why) = (y : Answer) → checked y ≡ refusal (shown t p) why
 
   verdict : GoodIn t p → Verdict (permit_in t n)
   unfolding permit_in numbered is_open entry
@@ -103,33 +71,33 @@ module _ (t p : List ℕ) (n : ChannelNumber) where
       branch Verdict _ _ _ (λ e₅ y. skip _ _ _ e₃ ∙ skip _ _ _ (opens ∙ e₄) ∙ stop _ _ _ (links ∙ e₅)) (λ e₅.
       record { numbered = h; entry = refl; stands = not_not _ (opens ∙ e₄); link = established_is _ (not_not _ (links ∙ e₅)) })))
 
-  module _ (r : Permit) (g : GoodIn t p) (e : r ≡ permit_in t n) where
-    pub usable : (x : Channel) → r ≡ Pass x → Usable t p n x
-    usable x f = subst Verdict (sym e ∙ f) (verdict g)
+  module _ (g : GoodIn t p) where
+    pub usable : (x : Channel) → Ok x ≡ permit_in t n → Usable t p n x
+    usable x e = subst Verdict (sym e) (verdict g)
 
     -- a permit that refuses, refuses each of the calls
-    module _ (why : Refusal) (f : r ≡ Refuse why) (out : List ℕ) where
-      refused : (x y : Answer) → x ≡ checked y → Answers x t p (Refused why) out out
-      refused x y k = refuse_answers x t p out why g (k ∙ subst Verdict (sym e ∙ f) (verdict g) y)
+    module _ (why : Refusal) (e : Err why ≡ permit_in t n) (out : List ℕ) where
+      refused : (x y : Answer) → x ≡ checked y → Answers x t p (Err why) out out
+      refused x y k = refuse_answers x t p out why g (k ∙ subst Verdict (sym e) (verdict g) y)
 
-      pub arrival_refused : (s : List ℕ) → 16 ≤ length out → Answers (arrival (shown t p) (length out) n s) t p (Refused why) out out
+      pub arrival_refused : (s : List ℕ) → 16 ≤ length out → Answers (arrival (shown t p) (length out) n s) t p (Err why) out out
       unfolding arrival
       arrival_refused s b = refused _ _ (skip _ _ _ (le-ltb (length out) 16 b))
 
-      pub taking_refused : Answers (taking (shown t p) (length out) n) t p (Refused why) out out
+      pub taking_refused : Answers (taking (shown t p) (length out) n) t p (Err why) out out
       unfolding taking
       taking_refused = refused _ _ refl
 
-      pub dropping_refused : 16 ≤ length out → Answers (dropping (shown t p) (length out) n) t p (Refused why) out out
+      pub dropping_refused : 16 ≤ length out → Answers (dropping (shown t p) (length out) n) t p (Err why) out out
       unfolding dropping
       dropping_refused b = refused _ _ (skip _ _ _ (le-ltb (length out) 16 b))
 
 -- R1
 module _ (t p : List ℕ) (n : ChannelNumber) (out : List ℕ) (g : GoodIn t p) (h : length out < 16) where
-  pub arrival_short : (s : List ℕ) → Answers (arrival (shown t p) (length out) n s) t p (Refused ShortBuffer) out out
+  pub arrival_short : (s : List ℕ) → Answers (arrival (shown t p) (length out) n s) t p (Err ShortBuffer) out out
   unfolding arrival
   arrival_short s = refuse_answers _ t p out _ g (stop _ _ _ (lt-ltb (length out) 16 h))
 
-  pub dropping_short : Answers (dropping (shown t p) (length out) n) t p (Refused ShortBuffer) out out
+  pub dropping_short : Answers (dropping (shown t p) (length out) n) t p (Err ShortBuffer) out out
   unfolding dropping
   dropping_short = refuse_answers _ t p out _ g (stop _ _ _ (lt-ltb (length out) 16 h))

@@ -5,55 +5,36 @@ ghost use Rattle.std.specs.Prelude.{◌≡◌, not, ◌&&◌, ◌≤◌, length,
 ghost use Rattle.rules.specs.State.{is_stream};
 ghost use Rattle.rules.specs.Radio.{arrival, taking, dropping};
 ghost use Rattle.octets.specs.Parts.{overlaid};
-ghost use Rattle.session.specs.Book.{ledger_size};
-ghost use Rattle.session.specs.Picture.{Good, GoodIn, carries_of, shown, view};
+ghost use Rattle.session.specs.Picture.{Good, carries_of, view};
 ghost use Rattle.session.specs.Calls.{Answers};
 ghost use Rattle.radio.specs.Permits.{permit_in, Usable, arrival_told, drop_told};
 
 use octets;
-use pool::Pool;
-use rules::{ChannelNumber, Ended, Limits, Refusal, Way};
-use session::{
-    Answered, Channel, DROPPED, ESTABLISHED, Ledger, STREAM, Session, append, at_once, capped,
-    entry, is_crowded, least, put_entry, remove, start_of,
-};
+use rules::{ChannelNumber, Limits, Link, Refusal, Way};
+use session::{Answered, Channel, Ledger, Session, capped, entry, put_entry, start_of};
 
-// How many bytes event 0A has; event 09 has as many as the least buffer.
-const DROP_SIZE: usize = 13;
-
-// The entry of a channel that may be used by the radio, or R3, R4 or R5.
-#[derive(Clone, Copy)]
-enum Permit {
-    Pass(Channel),
-    Refuse(Refusal),
-}
-
-// R3, R4 and R5, in order.
-fn permitted(ledger: &[u16; Ledger::SIZE], n: ChannelNumber) -> Permit
-    requires { length ledger.now ≡ ledger_size }
+// R3, R4 and R5, in order, or the entry of the channel, which the radio may use.
+fn permitted(ledger: &[u16; Ledger::SIZE], n: ChannelNumber) -> Result<Channel, Refusal>
     ensures { result ≡ permit_in ledger.now n }
 {
-    let number = n.0;
-    if number < 1 {
-        return Permit::Refuse(Refusal::NoChannel);
-    }
-    if 7 < number {
-        return Permit::Refuse(Refusal::NoChannel);
+    if n.0 < 1 || 7 < n.0 {
+        return Err(Refusal::NoChannel);
     }
     let c = entry(ledger, n);
-    if c.grant < 1 {
-        return Permit::Refuse(Refusal::Unopened);
+    if c.grant == 0 {
+        return Err(Refusal::Unopened);
     }
-    if c.link != ESTABLISHED {
-        return Permit::Refuse(Refusal::Unlinked);
+    if c.link != Link::Established as u16 {
+        return Err(Refusal::Unlinked);
     }
-    Permit::Pass(c)
+    Ok(c)
 }
 
-// Writes event 09: an established channel, and how many bytes came.
-fn tell_arrival(out: &mut [u8], n: ChannelNumber, count: usize)
+// Writes event 09, an established channel and how many bytes came, and tells the event's size.
+fn tell_arrival(out: &mut [u8], n: ChannelNumber, count: usize) -> usize
     requires { (n.0 ≤ 7) × (16 ≤ length out.old) }
-    ensures { out.new ≡ overlaid (arrival_told n count) out.old }
+    ensures told { out.new ≡ overlaid (arrival_told n count) out.old }
+    ensures size { result ≡ 16 }
 {
     let status = n.0 + 0x80;
     let event = [
@@ -75,160 +56,144 @@ fn tell_arrival(out: &mut [u8], n: ChannelNumber, count: usize)
         capped(count),
     ];
     octets::put(out, 0, &event);
+    event.len()
 }
 
-// Writes event 0A: a channel whose link was dropped.
-fn tell_drop(out: &mut [u8], n: ChannelNumber)
+// Writes event 0A, a channel whose link was dropped, and tells the event's size.
+fn tell_drop(out: &mut [u8], n: ChannelNumber) -> usize
     requires { 13 ≤ length out.old }
-    ensures { out.new ≡ overlaid (drop_told n) out.old }
+    ensures told { out.new ≡ overlaid (drop_told n) out.old }
+    ensures size { result ≡ 13 }
 {
     let event = [
         0xD6u8, 0x0B, 0x19, 0x01, 0x0A, 0x82, 0x02, 0x82, 0x81, 0x38, 0x02, n.0, 0x05,
     ];
     octets::put(out, 0, &event);
+    event.len()
 }
 
 // An arrival on a channel that may be used: R6 and R11, or the bytes are stored whole, and where none were held event 09 tells of them.
 fn accept(
-    ledger: &mut [u16; Ledger::SIZE],
-    pool: &mut [u8; Pool::SIZE],
+    session: &mut Session,
     n: ChannelNumber,
     c: Channel,
     bytes: &[u8],
     out: &mut [u8],
-) -> Ended
-    requires { Usable ledger.old pool.old n c × (16 ≤ length out.old) }
-    ensures { Answers (arrival (shown ledger.old pool.old) (length out.old) n bytes.now) ledger.new pool.new result out.old out.new }
+) -> Result<usize, Refusal>
+    requires { Usable session.old.ledger session.old.pool n c × (16 ≤ length out.old) }
+    ensures { Answers (arrival (view session.old) (length out.old) n bytes.now) session.new.ledger session.new.pool result out.old out.new }
 {
-    let listed = ledger[Ledger::AVAILABLE_AT];
-    let held = c.rx as usize;
-    if c.grant as usize - held < bytes.len() {
-        return Ended::Refused(Refusal::Overfull);
+    let listed = session.ledger[Ledger::AVAILABLE_AT];
+    let room = (c.grant - c.rx) as usize;
+    if room < bytes.len() {
+        return Err(Refusal::Overfull);
     }
-    if bytes.len() == 0 {
-        return Ended::Wrote(0);
+    if bytes.is_empty() {
+        return Ok(0);
     }
-    if is_crowded(ledger, pool, n, Way::Receive) {
-        return Ended::Refused(Refusal::NoPlace);
+    if session.is_crowded(n, Way::Receive) {
+        return Err(Refusal::NoPlace);
     }
-    append(ledger, pool, n, c, Way::Receive, bytes, bytes.len());
-    if listed < 1 {
-        return Ended::Wrote(0);
+    session.append(n, c, Way::Receive, bytes, bytes.len());
+    if listed == 0 {
+        return Ok(0);
     }
     if 0 < c.rx {
-        return Ended::Wrote(0);
+        return Ok(0);
     }
-    tell_arrival(out, n, bytes.len());
-    Ended::Wrote(Limits::EVENT)
+    Ok(tell_arrival(out, n, bytes.len()))
 }
 
-// The arrival call over the record's two arrays.
+// The arrival call over the lent record.
 pub fn arrival_in(
-    ledger: &mut [u16; Ledger::SIZE],
-    pool: &mut [u8; Pool::SIZE],
+    session: &mut Session,
     n: ChannelNumber,
     bytes: &[u8],
     out: &mut [u8],
-) -> Ended
-    requires { GoodIn ledger.old pool.old }
-    ensures { Answers (arrival (shown ledger.old pool.old) (length out.old) n bytes.now) ledger.new pool.new result out.old out.new }
+) -> Result<usize, Refusal>
+    requires { Good session.old }
+    ensures { Answers (arrival (view session.old) (length out.old) n bytes.now) session.new.ledger session.new.pool result out.old out.new }
 {
     if out.len() < Limits::EVENT {
-        return Ended::Refused(Refusal::ShortBuffer);
+        return Err(Refusal::ShortBuffer);
     }
-    match permitted(ledger, n) {
-        Permit::Pass(c) => accept(ledger, pool, n, c, bytes, out),
-        Permit::Refuse(why) => Ended::Refused(why),
-    }
+    let c = permitted(&session.ledger, n)?;
+    accept(session, n, c, bytes, out)
 }
 
 // R12: the channel carries datagrams, and the buffer has no room for the one that would be handed out.
-fn is_short(carries: u16, room: usize, most: usize) -> bool
-    ensures { result ≡ not (is_stream (carries_of carries)) && ltb room most }
+fn is_short(c: Channel, room: usize, most: usize) -> bool
+    ensures { result ≡ not (is_stream (carries_of c.carries)) && ltb room most }
 {
-    if carries == STREAM {
-        return false;
-    }
-    room < most
+    !c.is_stream() && room < most
 }
 
 // A take on a channel that may be used: R12, or as many ready bytes as fit the buffer, of datagrams the oldest finished one, whole.
 fn hand_over(
-    ledger: &mut [u16; Ledger::SIZE],
-    pool: &mut [u8; Pool::SIZE],
+    session: &mut Session,
     n: ChannelNumber,
     c: Channel,
     out: &mut [u8],
-) -> Ended
-    requires { Usable ledger.old pool.old n c }
-    ensures { Answers (taking (shown ledger.old pool.old) (length out.old) n) ledger.new pool.new result out.old out.new }
+) -> Result<usize, Refusal>
+    requires { Usable session.old.ledger session.old.pool n c }
+    ensures { Answers (taking (view session.old) (length out.old) n) session.new.ledger session.new.pool result out.old out.new }
 {
-    let most = at_once(ledger, pool, n, c, Way::Send);
-    if is_short(c.carries, out.len(), most) {
-        return Ended::Refused(Refusal::Undersized);
+    let most = session.at_once(n, c, Way::Send);
+    if is_short(c, out.len(), most) {
+        return Err(Refusal::Undersized);
     }
-    let count = least(out.len(), most);
-    let at = start_of(ledger, n, c.grant, Way::Send);
-    octets::put_part(out, 0, pool, at, at + count);
-    remove(ledger, pool, n, c, Way::Send, at, count);
-    Ended::Wrote(count)
+    let count = out.len().min(most);
+    let at = start_of(&session.ledger, n, c.grant, Way::Send);
+    octets::put_part(out, 0, &session.pool, at, at + count);
+    session.remove(n, c, Way::Send, at, count);
+    Ok(count)
 }
 
-// The take over the record's two arrays.
-pub fn taking_in(
-    ledger: &mut [u16; Ledger::SIZE],
-    pool: &mut [u8; Pool::SIZE],
-    n: ChannelNumber,
-    out: &mut [u8],
-) -> Ended
-    requires { GoodIn ledger.old pool.old }
-    ensures { Answers (taking (shown ledger.old pool.old) (length out.old) n) ledger.new pool.new result out.old out.new }
+// The take over the lent record.
+pub fn taking_in(session: &mut Session, n: ChannelNumber, out: &mut [u8]) -> Result<usize, Refusal>
+    requires { Good session.old }
+    ensures { Answers (taking (view session.old) (length out.old) n) session.new.ledger session.new.pool result out.old out.new }
 {
-    match permitted(ledger, n) {
-        Permit::Pass(c) => hand_over(ledger, pool, n, c, out),
-        Permit::Refuse(why) => Ended::Refused(why),
-    }
+    let c = permitted(&session.ledger, n)?;
+    hand_over(session, n, c, out)
 }
 
 // A drop on a channel that may be used: the link is dropped, and event 0A tells of it.
 fn drop_link(
-    ledger: &mut [u16; Ledger::SIZE],
-    pool: &[u8; Pool::SIZE],
+    session: &mut Session,
     n: ChannelNumber,
     c: Channel,
     out: &mut [u8],
-) -> Ended
-    requires { Usable ledger.old pool.now n c × (16 ≤ length out.old) }
-    ensures { Answers (dropping (shown ledger.old pool.now) (length out.old) n) ledger.new pool.now result out.old out.new }
+) -> Result<usize, Refusal>
+    requires { Usable session.old.ledger session.old.pool n c × (16 ≤ length out.old) }
+    ensures { Answers (dropping (view session.old) (length out.old) n) session.new.ledger session.new.pool result out.old out.new }
 {
-    let listed = ledger[Ledger::STATUS_AT];
-    let mut gone = c;
-    gone.link = DROPPED;
-    put_entry(ledger, n, gone);
-    if listed < 1 {
-        return Ended::Wrote(0);
+    let listed = session.ledger[Ledger::STATUS_AT];
+    let gone = Channel {
+        link: Link::Dropped as u16,
+        ..c
+    };
+    put_entry(&mut session.ledger, n, gone);
+    if listed == 0 {
+        return Ok(0);
     }
-    tell_drop(out, n);
-    Ended::Wrote(DROP_SIZE)
+    Ok(tell_drop(out, n))
 }
 
-// The drop over the record's two arrays; what is held stays.
+// The drop over the lent record; what is held stays.
 pub fn dropping_in(
-    ledger: &mut [u16; Ledger::SIZE],
-    pool: &[u8; Pool::SIZE],
+    session: &mut Session,
     n: ChannelNumber,
     out: &mut [u8],
-) -> Ended
-    requires { GoodIn ledger.old pool.now }
-    ensures { Answers (dropping (shown ledger.old pool.now) (length out.old) n) ledger.new pool.now result out.old out.new }
+) -> Result<usize, Refusal>
+    requires { Good session.old }
+    ensures { Answers (dropping (view session.old) (length out.old) n) session.new.ledger session.new.pool result out.old out.new }
 {
     if out.len() < Limits::EVENT {
-        return Ended::Refused(Refusal::ShortBuffer);
+        return Err(Refusal::ShortBuffer);
     }
-    match permitted(ledger, n) {
-        Permit::Pass(c) => drop_link(ledger, pool, n, c, out),
-        Permit::Refuse(why) => Ended::Refused(why),
-    }
+    let c = permitted(&session.ledger, n)?;
+    drop_link(session, n, c, out)
 }
 
 // The radio brings bytes for a channel.
@@ -236,13 +201,9 @@ pub fn arrival(s: Session, n: ChannelNumber, bytes: &[u8], out: &mut [u8]) -> An
     requires { Good s }
     ensures { Answers (arrival (view s) (length out.old) n bytes.now) result.session.ledger result.session.pool result.ended out.old out.new }
 {
-    let mut ledger = s.ledger;
-    let mut pool = s.pool;
-    let ended = arrival_in(&mut ledger, &mut pool, n, bytes, out);
-    Answered {
-        session: Session { ledger, pool },
-        ended,
-    }
+    let mut session = s;
+    let ended = arrival_in(&mut session, n, bytes, out);
+    Answered { session, ended }
 }
 
 // The radio takes the bytes of a channel that are ready: as many as fit, of datagrams the oldest finished one, whole.
@@ -250,13 +211,9 @@ pub fn take(s: Session, n: ChannelNumber, out: &mut [u8]) -> Answered
     requires { Good s }
     ensures { Answers (taking (view s) (length out.old) n) result.session.ledger result.session.pool result.ended out.old out.new }
 {
-    let mut ledger = s.ledger;
-    let mut pool = s.pool;
-    let ended = taking_in(&mut ledger, &mut pool, n, out);
-    Answered {
-        session: Session { ledger, pool },
-        ended,
-    }
+    let mut session = s;
+    let ended = taking_in(&mut session, n, out);
+    Answered { session, ended }
 }
 
 // The radio tells that the link of a channel was dropped.
@@ -264,11 +221,7 @@ pub fn drop(s: Session, n: ChannelNumber, out: &mut [u8]) -> Answered
     requires { Good s }
     ensures { Answers (dropping (view s) (length out.old) n) result.session.ledger result.session.pool result.ended out.old out.new }
 {
-    let mut ledger = s.ledger;
-    let pool = s.pool;
-    let ended = dropping_in(&mut ledger, &pool, n, out);
-    Answered {
-        session: Session { ledger, pool },
-        ended,
-    }
+    let mut session = s;
+    let ended = dropping_in(&mut session, n, out);
+    Answered { session, ended }
 }

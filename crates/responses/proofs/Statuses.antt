@@ -6,7 +6,7 @@ use mathlib.Core.List.{List, [], ◌∷◌, ◌++◌, map, append_assoc, append-
 use native.Mathlib.Omega.{arith}
 use native.Mathlib.Numerals.{add-one}
 use native.Mathlib.Nat.{add-zero}
-use lib.ListN.{length, take, drop, get_or, length-append, take-append-drop}
+use lib.ListN.{length, drop, get_or, length-append}
 use lib.Seq.{drop-cons, drop-length}
 use lib.Dec.{leb}
 use borrow.Author.Tests.{le-leb, lt-leb}
@@ -23,6 +23,7 @@ use Rattle.rules.specs.Own.{Status, error, done, statuses, reports, statuses_fro
 use Rattle.rules.specs.Written.{further_objects, status_bytes, status_object, status_objects, report_objects}
 use Rattle.rules.proofs.Laws.{stop, skip}
 use Rattle.octets.specs.Parts.{pasted}
+use Rattle.octets.proofs.Stores.{paste_none}
 use Rattle.octets.proofs.Pastes.{paste_after, length_pasted}
 use Rattle.session.specs.declared.Channel.{Channel}
 use Rattle.session.specs.Book.{entry_at, entry_from}
@@ -56,17 +57,17 @@ rest t k = bytes_of (statuses_in t k (7 - k))
 
 -- the status of a channel, as its entry tells it
 abbrev pub status_of : Channel → ℕ → List ℕ
-status_of e k = object_bytes (status_object (record { 0 = k + 1 }) (link_of e.link))
+status_of e n = object_bytes (status_object (record { 0 = n }) (link_of e.link))
 
 one_less : (k : ℕ) → k < 7 → 7 - k ≡ suc (7 - (k + 1))
 one_less k h = omega arith
 
-rest_open : (t : List ℕ) (k : ℕ) (e : Channel) → k < 7 → e ≡ entry_from t (entry_at k) → 1 ≤ e.grant → rest t k ≡ status_of e k ++ rest t (k + 1)
+rest_open : (t : List ℕ) (k : ℕ) (e : Channel) → k < 7 → e ≡ entry_from t (entry_at k) → 1 ≤ e.grant → rest t k ≡ status_of e (k + 1) ++ rest t (k + 1)
 unfolding rest statuses_in written
 rest_open t k e h q o =
     ap (λ (m : ℕ). bytes_of (statuses_in t k m)) (one_less k h)
     ∙ ap bytes_of (stop _ _ _ (le-leb 1 (get_or t (entry_at k) 0) (subst (λ (x : Channel). 1 ≤ x.grant) q o)))
-    ∙ ap (λ (x : Channel). status_of x k ++ bytes_of (statuses_in t (k + 1) (7 - (k + 1)))) (sym q)
+    ∙ ap (λ (x : Channel). status_of x (k + 1) ++ bytes_of (statuses_in t (k + 1) (7 - (k + 1)))) (sym q)
 
 rest_closed : (t : List ℕ) (k : ℕ) (e : Channel) → k < 7 → e ≡ entry_from t (entry_at k) → e.grant ≤ 0 → rest t k ≡ rest t (k + 1)
 unfolding rest statuses_in
@@ -91,11 +92,10 @@ pub record Sofar (t : List ℕ) (head : ℕ) (begun : List ℕ) (k at : ℕ) (ou
 
 module _ (t : List ℕ) (head : ℕ) (begun : List ℕ) where
   pub sofar_none : head + 28 ≤ length begun → Sofar t head begun 0 head begun
-  unfolding pasted
   sofar_none w =
       record {
         text = [];
-        is = sym (take-append-drop head begun) ∙ ap (λ (j : ℕ). take head begun ++ drop j begun) (sym (add-zero head));
+        is = paste_none begun head;
         counted = sym (add-zero head);
         whole = refl;
         few = omega arith;
@@ -104,47 +104,42 @@ module _ (t : List ℕ) (head : ℕ) (begun : List ℕ) where
         same = refl;
       }
 
-  pub sofar_fits : (k at : ℕ) (out : List ℕ) → Sofar t head begun k at out → at ≤ head + 24 → at + 4 ≤ length out
-  sofar_fits k at out h b =
-      let r = h.room in
-      let l = h.same in
-      omega arith
+  -- one more is told, the entry of the place k; n are told then
+  module _ (k n : ℕ) (at m : ℕ) (out after : List ℕ) (e : Channel) (h : Sofar t head begun k at out) (b : k < 7) (p : n ≡ k + 1) (q : e ≡ entry_from t (entry_at k)) where
+    pub sofar_closed : e.grant ≤ 0 → m ≡ at → after ≡ out → Sofar t head begun n m after
+    sofar_closed o c l =
+        subst (λ (j : ℕ). Sofar t head begun j m after) (sym p)
+        (record {
+          text = h.text;
+          is = l ∙ h.is;
+          counted = c ∙ h.counted;
+          whole = ap (λ (r : List ℕ). h.text ++ r) (sym (rest_closed t k e b q o)) ∙ h.whole;
+          few = let f = h.few in omega arith;
+          upto = omega arith;
+          room = h.room;
+          same = ap length l ∙ h.same;
+        })
 
-  pub sofar_closed :
-      (k at : ℕ) (out : List ℕ) (e : Channel) → Sofar t head begun k at out → k < 7 → e ≡ entry_from t (entry_at k) → e.grant ≤ 0 →
-      Sofar t head begun (k + 1) at out
-  sofar_closed k at out e h b q o =
-      record {
-        text = h.text;
-        is = h.is;
-        counted = h.counted;
-        whole = ap (λ (r : List ℕ). h.text ++ r) (sym (rest_closed t k e b q o)) ∙ h.whole;
-        few = let f = h.few in omega arith;
-        upto = omega arith;
-        room = h.room;
-        same = h.same;
-      }
-
-  pub sofar_open :
-      (k at m : ℕ) (out after : List ℕ) (e : Channel) → Sofar t head begun k at out → k < 7 → e ≡ entry_from t (entry_at k) → 1 ≤ e.grant →
-      m ≡ at + 4 → after ≡ pasted out at (status_of e k) → Sofar t head begun (k + 1) m after
-  sofar_open k at m out after e h b q o c p =
-      let f = h.few in
-      let r = h.room in
-      let n = h.counted in
-      let s = status_of e k in
-      let z : length s ≡ 4 = status_size (record { 0 = k + 1 }) (link_of e.link) in
-      let y : length (h.text ++ s) ≡ length h.text + length s = length-append h.text s in
-      record {
-        text = h.text ++ s;
-        is = p ∙ (λ i. pasted (h.is i) (n i) s) ∙ paste_after begun head h.text (omega arith) s;
-        counted = omega arith;
-        whole = append_assoc h.text s (rest t (k + 1)) ∙ ap (λ (x : List ℕ). h.text ++ x) (sym (rest_open t k e b q o)) ∙ h.whole;
-        few = omega arith;
-        upto = omega arith;
-        room = r;
-        same = ap length p ∙ length_pasted out at s (let y = h.same in omega arith) ∙ h.same;
-      }
+    pub sofar_open : (i : ℕ) → i ≡ k + 1 → 1 ≤ e.grant → m ≡ at + 4 → after ≡ pasted out at (status_of e i) → Sofar t head begun n m after
+    sofar_open i i' o c l =
+        let f = h.few in
+        let r = h.room in
+        let a = h.counted in
+        let s = status_of e (k + 1) in
+        let z : length s ≡ 4 = status_size (record { 0 = k + 1 }) (link_of e.link) in
+        let y : length (h.text ++ s) ≡ length h.text + length s = length-append h.text s in
+        let l' : after ≡ pasted out at s = l ∙ ap (λ (j : ℕ). pasted out at (status_of e j)) i' in
+        subst (λ (j : ℕ). Sofar t head begun j m after) (sym p)
+        (record {
+          text = h.text ++ s;
+          is = l' ∙ (λ j. pasted (h.is j) (a j) s) ∙ paste_after begun head h.text (omega arith) s;
+          counted = omega arith;
+          whole = append_assoc h.text s (rest t (k + 1)) ∙ ap (λ (x : List ℕ). h.text ++ x) (sym (rest_open t k e b q o)) ∙ h.whole;
+          few = omega arith;
+          upto = omega arith;
+          room = r;
+          same = ap length l' ∙ length_pasted out at s (let y = h.same in omega arith) ∙ h.same;
+        })
 
   pub sofar_end : (k at : ℕ) (out : List ℕ) → Sofar t head begun k at out → 7 ≤ k → Sofar t head begun 7 at out
   sofar_end k at out h b = let u = h.upto in let e : k ≡ 7 = omega arith in subst (λ (j : ℕ). Sofar t head begun j at out) e h
@@ -188,18 +183,18 @@ module _ (d : Details) (x : ℕ) (t : List ℕ) (before : List ℕ) (head : ℕ)
       text_stands
 
   pub none_stands :
-      at ≤ head → (after : List ℕ) → after ≡ pasted out at (0x38 ∷ 0x02 ∷ 0x00 ∷ 0x00 ∷ []) →
-      Filled (response d (done x (reports (statuses ss)))) (at + 4) before after
-  none_stands g after e =
+      at ≤ head → (m : ℕ) (after : List ℕ) → m ≡ at + 4 → after ≡ pasted out at (0x38 ∷ 0x02 ∷ 0x00 ∷ 0x00 ∷ []) →
+      Filled (response d (done x (reports (statuses ss)))) m before after
+  none_stands g m after f e =
       let z = text_size in
       let c = b.counted ∙ head_size d x in
       let n : bytes_of ss ≡ [] = length_nil (bytes_of ss) (omega arith) in
-      subst (λ (u : List ℕ). Filled u (at + 4) before after)
+      subst (λ (u : List ℕ). Filled u m before after)
       (ap (λ (u : List ℕ). (response d (error x) ++ u) ++ (0x38 ∷ 0x02 ∷ 0x00 ∷ 0x00 ∷ [])) n
       ∙ ap (λ (u : List ℕ). u ++ (0x38 ∷ 0x02 ∷ 0x00 ∷ 0x00 ∷ [])) (append-nil (response d (error x)))
       ∙ ap (λ (u : List ℕ). response d (error x) ++ u) (sym (told_none ss (omega arith)))
       ∙ sym (behind_head d x (reports (statuses ss))))
-      (more (response d (error x) ++ bytes_of ss) (0x38 ∷ 0x02 ∷ 0x00 ∷ 0x00 ∷ []) at (at + 4) before out after text_stands refl (omega arith) e)
+      (more (response d (error x) ++ bytes_of ss) (0x38 ∷ 0x02 ∷ 0x00 ∷ 0x00 ∷ []) at m before out after text_stands f (omega arith) e)
 
 -- the statuses that the ledger tells are those of the state whose ledger it is
 from_entries : (a : State) → length a.profile ≡ profile_size → length a.timers ≡ timer_count → (k m : ℕ) → k + m ≡ length a.chans → statuses_in (ledger_of a) k m ≡ statuses_from (k + 1) (drop k a.chans)

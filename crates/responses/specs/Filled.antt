@@ -12,6 +12,11 @@ use Rattle.session.specs.Picture.{link_of}
 abbrev pub response : Details → Result → List ℕ
 response d r = response_bytes (record { details = d; result = r })
 
+-- the details, the devices and a result of these bytes
+abbrev pub head_bytes : Details → List ℕ → List ℕ
+head_bytes d s =
+    0x81 ∷ 0x03 ∷ d.number ∷ d.kind ∷ d.qualifier ∷ 0x82 ∷ 0x02 ∷ 0x82 ∷ 0x81 ∷ 0x83 ∷ length s ∷ s
+
 -- these bytes stand at the front of the buffer, the others are as they were, and the count is told
 pub record Filled (t : List ℕ) (count : ℕ) (before after : List ℕ) : Type 0 where
   pub lent : after ≡ overlaid t before

@@ -1,7 +1,7 @@
 // The responses, written straight into the buffer that the host lends.
 #![tactic(auto)]
 
-ghost use Rattle.std.specs.Prelude.{◌≡◌, true, ◌+◌, ◌-◌, ◌≤◌, ◌<◌, length};
+ghost use Rattle.std.specs.Prelude.{◌≡◌, true, ◌+◌, ◌-◌, ◌≤◌, ◌<◌, [], ◌∷◌, ◌++◌, length};
 ghost use Rattle.octets.specs.Parts.{part, pasted};
 ghost use Rattle.rules.specs.Frames.{object_bytes};
 ghost use Rattle.rules.specs.Reading.{bearer_in};
@@ -10,7 +10,7 @@ ghost use Rattle.rules.specs.Timers.{of_day};
 ghost use Rattle.rules.specs.Written.{status_bytes, status_object};
 ghost use Rattle.session.specs.Book.{ledger_size};
 ghost use Rattle.session.specs.Picture.{link_of};
-ghost use Rattle.responses.specs.Filled.{response, Filled, statuses_in};
+ghost use Rattle.responses.specs.Filled.{head_bytes, response, Filled, statuses_in};
 
 use objects;
 use octets;
@@ -18,73 +18,97 @@ use rules::{ChannelNumber, Details, Link, Results, Time};
 use session::{Ledger, entry, link_of};
 use times::time_bytes;
 
+// The tags of the objects behind a result: a timer, a time, a bearer, data, a count, a status and a grant.
+const TIMER: u8 = 0x24;
+
+const TIME: u8 = 0x25;
+
+const BEARER: u8 = 0x35;
+
+const DATA: u8 = 0x36;
+
+const COUNT: u8 = 0x37;
+
+const STATUS: u8 = 0x38;
+
+const GRANT: u8 = 0x39;
+
+// Writes bytes from a place on, and tells the place behind them.
+fn append(out: &mut [u8], at: usize, bytes: &[u8]) -> usize
+    requires { at + length bytes.now ≤ length out.old }
+    ensures out_after { out.new ≡ pasted out.old at bytes.now }
+    ensures value { result ≡ at + length bytes.now }
+{
+    octets::put(out, at, bytes);
+    at + bytes.len()
+}
+
+// Writes the details, the devices and the bytes of a result, and tells the count of bytes.
+fn tell_head(out: &mut [u8], d: Details, bytes: &[u8]) -> usize
+    requires { (length bytes.now < 128) × (11 + length bytes.now ≤ length out.old) }
+    ensures { Filled (head_bytes d bytes.now) result out.old out.new }
+{
+    // Kept: the cast, since the clause bounds the length, and `try_from` would have an arm that nothing reaches.
+    let front = [
+        0x81,
+        0x03,
+        d.number,
+        d.kind,
+        d.qualifier,
+        0x82,
+        0x02,
+        0x82,
+        0x81,
+        0x83,
+        bytes.len() as u8,
+    ];
+    let at = append(out, 0, &front);
+    append(out, at, bytes)
+}
+
 // Writes a result that nothing follows, and tells the count of bytes.
+#[tactic(auto, using(crate::proofs::Writes::error_is))]
 pub fn tell_result(out: &mut [u8], d: Details, res: u8) -> usize
     requires { 12 ≤ length out.old }
     ensures { Filled (response d (error res)) result out.old out.new }
 {
-    let head = [
-        0x81u8,
-        0x03,
-        d.number,
-        d.kind,
-        d.qualifier,
-        0x82,
-        0x02,
-        0x82,
-        0x81,
-        0x83,
-        0x01,
-        res,
-    ];
-    octets::put(out, 0, &head);
-    12
+    tell_head(out, d, &[res])
 }
 
 // Writes the result 3A with its cause, and tells the count of bytes.
+#[tactic(auto, using(crate::proofs::Writes::problem_is))]
 pub fn tell_problem(out: &mut [u8], d: Details, cause: u8) -> usize
     requires { 13 ≤ length out.old }
     ensures { Filled (response d (problem cause)) result out.old out.new }
 {
-    let head = [
-        0x81u8,
-        0x03,
-        d.number,
-        d.kind,
-        d.qualifier,
-        0x82,
-        0x02,
-        0x82,
-        0x81,
-        0x83,
-        0x02,
-        Results::CHANNEL_PROBLEM,
-        cause,
-    ];
-    octets::put(out, 0, &head);
-    13
+    tell_head(out, d, &[Results::CHANNEL_PROBLEM, cause])
+}
+
+// Writes a result and an object of one byte behind it, and tells the count of bytes.
+fn tell_byte(out: &mut [u8], d: Details, res: u8, tag: u8, value: u8) -> usize
+    requires { 15 ≤ length out.old }
+    ensures { Filled (response d (error res) ++ (tag ∷ 0x01 ∷ value ∷ [])) result out.old out.new }
+{
+    let at = tell_result(out, d, res);
+    append(out, at, &[tag, 0x01, value])
 }
 
 // Writes the answer to SEND DATA: a result and the room that is left.
+#[tactic(auto, using(crate::proofs::Writes::sent_is))]
 pub fn tell_sent(out: &mut [u8], d: Details, res: u8, room: u8) -> usize
     requires { 15 ≤ length out.old }
     ensures { Filled (response d (done res (sent room))) result out.old out.new }
 {
-    let at = tell_result(out, d, res);
-    let further = [0x37u8, 0x01, room];
-    octets::put(out, at, &further);
-    at + 3
+    tell_byte(out, d, res, COUNT, room)
 }
 
 // Writes the answer to the start of a timer: a result and the timer.
+#[tactic(auto, using(crate::proofs::Writes::started_is))]
 pub fn tell_started(out: &mut [u8], d: Details, res: u8, n: u8) -> usize
     requires { 15 ≤ length out.old }
     ensures { Filled (response d (done res (started n))) result out.old out.new }
 {
-    let at = tell_result(out, d, res);
-    let further = [0x24u8, 0x01, n];
-    octets::put(out, at, &further);
-    at + 3
+    tell_byte(out, d, res, TIMER, n)
 }
 
 // Writes the answer to a stop or an ask: a result, the timer and the time left.
@@ -93,10 +117,9 @@ pub fn tell_left(out: &mut [u8], d: Details, res: u8, n: u8, left: Time) -> usiz
     ensures { Filled (response d (done res (leaves n left))) result out.old out.new }
 {
     let at = tell_result(out, d, res);
-    let time = time_bytes(left);
-    let further = [0x24u8, 0x01, n, 0x25, 0x03, time[0], time[1], time[2]];
-    octets::put(out, at, &further);
-    at + 8
+    let [hours, minutes, seconds] = time_bytes(left);
+    let further = [TIMER, 0x01, n, TIME, 0x03, hours, minutes, seconds];
+    append(out, at, &further)
 }
 
 // Writes the answer to RECEIVE DATA: a result, bytes straight from the pool, and the count of those left.
@@ -113,16 +136,13 @@ pub fn tell_received(
     ensures { Filled (response d (done res (received (part from (from + count) pool.now) left))) result out.old out.new }
 {
     let head = tell_result(out, d, res);
-    let at = objects::write_length(out, head, 0x36, count);
-    let end = from + count as usize;
-    octets::put_part(out, at, pool, from, end);
-    let behind = at + count as usize;
-    let further = [0x37u8, 0x01, left];
-    octets::put(out, behind, &further);
-    behind + 3
+    let at = objects::write_length(out, head, DATA, count);
+    let behind = append(out, at, &pool[from..from + usize::from(count)]);
+    append(out, behind, &[COUNT, 0x01, left])
 }
 
 // The two bytes that tell of a channel and its link.
+#[tactic(auto, unfolding(rules::specs::Written::status_bytes))]
 fn status(n: ChannelNumber, link: Link) -> [u8; 2]
     requires { n.0 ≤ 7 }
     ensures { result ≡ status_bytes n link }
@@ -148,27 +168,24 @@ pub fn tell_opened(
     ensures { Filled (response d (done res (opened (record { number = n; link = link }) (bearer_in bearer.now) grant))) result out.old out.new }
 {
     let head = tell_result(out, d, res);
-    let pair = status(n, link);
-    let first = [0x38u8, 0x02, pair[0], pair[1], 0x35, bearer.len() as u8];
-    octets::put(out, head, &first);
-    let at = head + 6;
-    octets::put(out, at, bearer);
-    let behind = at + bearer.len();
-    let further = [0x39u8, 0x02, (grant / 256) as u8, (grant % 256) as u8];
-    octets::put(out, behind, &further);
-    behind + 4
+    let [number, further] = status(n, link);
+    // Kept: the cast, since the clause bounds the length, and `try_from` would have an arm that nothing reaches.
+    let first = [STATUS, 0x02, number, further, BEARER, bearer.len() as u8];
+    let at = append(out, head, &first);
+    let behind = append(out, at, bearer);
+    let [high, low] = grant.to_be_bytes();
+    append(out, behind, &[GRANT, 0x02, high, low])
 }
 
 // Writes the status of one channel, and tells the place behind it.
+#[tactic(auto, using(crate::proofs::Statuses::status_bytes_lem))]
 fn tell_status(out: &mut [u8], at: usize, n: ChannelNumber, link: u16) -> usize
     requires { (n.0 ≤ 7) × (at + 4 ≤ length out.old) }
     ensures out_after { out.new ≡ pasted out.old at (object_bytes (status_object n (link_of link))) }
     ensures value { result ≡ at + 4 }
 {
-    let pair = status(n, link_of(link));
-    let object = [0x38u8, 0x02, pair[0], pair[1]];
-    octets::put(out, at, &object);
-    at + 4
+    let [number, further] = status(n, link_of(link));
+    append(out, at, &[STATUS, 0x02, number, further])
 }
 
 // Writes the answer to GET CHANNEL STATUS: a result and a status for each open channel, rising; none open: 00 00.
@@ -178,20 +195,15 @@ pub fn tell_statuses(out: &mut [u8], d: Details, res: u8, ledger: &[u16; Ledger:
 {
     let head = tell_result(out, d, res);
     let mut at = head;
-    let mut k: usize = 0;
-    while k < 7 {
-        k += 1;
-        let n = ChannelNumber(k as u8);
+    for k in 1..=7 {
+        let n = ChannelNumber(k);
         let c = entry(ledger, n);
-        let link = c.link;
-        if 0 < c.grant {
-            at = tell_status(out, at, n, link);
+        if c.grant > 0 {
+            at = tell_status(out, at, n, c.link);
         }
     }
-    if head < at {
+    if at > head {
         return at;
     }
-    let none = [0x38u8, 0x02, 0x00, 0x00];
-    octets::put(out, at, &none);
-    at + 4
+    append(out, at, &[STATUS, 0x02, 0x00, 0x00])
 }

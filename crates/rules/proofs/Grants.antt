@@ -1,15 +1,15 @@
 -- Laws of the pool: a grant fits the unpromised cells, and a changed channel changes the sum by its own cells.
 -- Assumes nothing.
-use Prim.Native.Nat.{ℕ, zero, suc, ◌+◌, ◌*◌, ◌/◌, ◌≤◌, ◌<◌, min}
+use Prim.Native.Nat.{ℕ, zero, suc, ◌+◌, ◌*◌, ◌≤◌, ◌<◌, min}
 use mathlib.Core.Path.{◌≡◌}
 use mathlib.Core.List.{List, [], ◌∷◌}
 use native.Mathlib.Omega.{arith}
 use native.Mathlib.Nat.{le_of_suc-le-suc, not-suc-le-zero}
 use lib.ListN.{length, get_or, set}
-use borrow.Author.Tests.{leb-true, leb-false, le-leb, lt-leb}
+use borrow.Author.Tests.{leb-true, leb-false, le-leb}
 use Rattle.rules.specs.State.{Chan, closed}
 use Rattle.rules.specs.Pool.{cells, promised_to, grant_for}
-use Rattle.rules.proofs.Laws.{branch, stop, skip}
+use Rattle.rules.proofs.Laws.{branch, stop}
 
 -- a grant g for a request, with so many cells free
 pub record Granted (size free g : ℕ) : Type 0 where
@@ -38,11 +38,7 @@ promised_set [] k c h = absurd (not-suc-le-zero h)
 promised_set (x ∷ cs) zero c h = omega arith
 promised_set (x ∷ cs) (suc k) c h = let ih = promised_set cs k c (le_of_suc-le-suc h) in omega arith
 
--- the grant where the cells asked for are free, and where they are not
+-- the grant where the cells asked for are free
 pub grant_whole : (size free : ℕ) → 2 * cells (min size 1500) ≤ free → grant_for size free ≡ min size 1500
 unfolding grant_for
 grant_whole size free h = stop _ _ _ (le-leb (2 * cells (min size 1500)) free h)
-
-pub grant_half : (size free : ℕ) → free < 2 * cells (min size 1500) → grant_for size free ≡ 32 * (free / 2)
-unfolding grant_for
-grant_half size free h = skip _ _ _ (lt-leb (2 * cells (min size 1500)) free h)

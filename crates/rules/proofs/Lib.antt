@@ -1,5 +1,7 @@
 pub mod Laws
 pub mod Values
+pub mod Chains
+pub mod Words
 pub mod Addressing
 pub mod Datagrams
 pub mod Timers

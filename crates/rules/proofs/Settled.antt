@@ -4,16 +4,18 @@ use mathlib.Core.Path.{refl, sym, ◌∙◌}
 use Rattle.outcomes.specs.Determined.{Determined}
 use Rattle.rules.proofs.Refusal.number.Kinds as number-kinds
 use Rattle.rules.proofs.Refusal.number.Reads as number-reads
-use Rattle.rules.proofs.ChannelNumber.identity.Kinds as identity-kinds
-use Rattle.rules.proofs.ChannelNumber.identity.Reads as identity-reads
-use Rattle.rules.proofs.DeviceIdentity.channel.Kinds as channel-kinds
-use Rattle.rules.proofs.DeviceIdentity.channel.Reads as channel-reads
+use Rattle.rules.proofs.DeviceIdentityFromChannelNumber.from.Kinds as identity-kinds
+use Rattle.rules.proofs.DeviceIdentityFromChannelNumber.from.Reads as identity-reads
+use Rattle.rules.proofs.ChannelNumberFromDeviceIdentity.from.Kinds as channel-kinds
+use Rattle.rules.proofs.ChannelNumberFromDeviceIdentity.from.Reads as channel-reads
 use Rattle.rules.proofs.lists.Kinds as lists-kinds
 use Rattle.rules.proofs.lists.Reads as lists-reads
 use Rattle.rules.proofs.is_known.Kinds as is-known-kinds
 use Rattle.rules.proofs.is_known.Reads as is-known-reads
 use Rattle.rules.proofs.is_addressed.Kinds as is-addressed-kinds
 use Rattle.rules.proofs.is_addressed.Reads as is-addressed-reads
+use Rattle.rules.proofs.fits_bearer.Kinds as fits-bearer-kinds
+use Rattle.rules.proofs.fits_bearer.Reads as fits-bearer-reads
 
 pub number_settled : Determined 0 number-kinds.ps number-kinds.r number-reads.Pre number-reads.Post
 number_settled κs a _ x y v w p q = (p ∙ sym q, refl)
@@ -32,3 +34,6 @@ is_known_settled κs a _ x y v w p q = (p ∙ sym q, refl)
 
 pub is_addressed_settled : Determined 0 is-addressed-kinds.ps is-addressed-kinds.r is-addressed-reads.Pre is-addressed-reads.Post
 is_addressed_settled κs a _ x y v w p q = (p ∙ sym q, refl)
+
+pub fits_bearer_settled : Determined 1 fits-bearer-kinds.ps fits-bearer-kinds.r fits-bearer-reads.Pre fits-bearer-reads.Post
+fits_bearer_settled κs a _ x y v w p q = (p ∙ sym q, refl)

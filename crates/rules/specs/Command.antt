@@ -1,7 +1,7 @@
 -- The command call: R1, R2, the reading, and the response.
 use Rattle.std.specs.Prelude.{ℕ, ◌||◌, List, [], length, ltb}
-use Rattle.rules.specs.declared.Ended.{Ended}
-use Rattle.rules.specs.declared.Ended.TheVariants.{Wrote, Refused}
+use Rattle.rules.specs.Words.{Ended}
+use Rattle.std.specs.Prelude.{Ok, Err}
 use Rattle.rules.specs.declared.Refusal.{Refusal}
 use Rattle.rules.specs.declared.Refusal.TheVariants.{ShortBuffer, CommandSize}
 use Rattle.rules.specs.Checks.{◌⇒◌else◌, is_empty}
@@ -18,8 +18,8 @@ pub data Outcome : Type 0 where
 
 -- how a call ended, as the code tells it: the count of bytes written, or the refusal
 unfoldable pub ended_of : Outcome → Ended
-ended_of (wrote s) = Wrote (length s)
-ended_of (refused r) = Refused r
+ended_of (wrote s) = Ok (length s)
+ended_of (refused r) = Err r
 
 -- the bytes that a call wrote; a refusal writes none
 unfoldable pub written_by : Outcome → List ℕ

@@ -2,17 +2,27 @@
 #![tactic(auto)]
 
 ghost use Rattle.std.specs.Prelude.{◌≡◌};
-ghost use Rattle.rules.specs.Words.{number_of, identity_of, channel_of};
+ghost use Rattle.rules.specs.Words.{number_of, identity_of, channel_of, Acts, Typed};
 ghost use Rattle.rules.specs.Checks.{member};
 ghost use Rattle.rules.specs.Table.{known};
 ghost use Rattle.rules.specs.Reading.{to_modem, addressed};
+ghost use Rattle.rules.specs.Bench.{bearer_proper};
 
 // Object 01 of a command: its number, its type and its qualifier. Every response echoes them.
-#[derive(Clone, Copy)]
+#[derive(Clone, Copy, PartialEq, Eq)]
 pub struct Details {
     pub number: u8,
     pub kind: u8,
     pub qualifier: u8,
+}
+
+impl Details {
+    // What a response echoes where a command has no details.
+    pub const ZEROS: Details = Details {
+        number: 0,
+        kind: 0,
+        qualifier: 0,
+    };
 }
 
 // The results that a response tells, by the names of TS 102 223.
@@ -76,25 +86,25 @@ impl Limits {
 }
 
 // The refusals R1 to R14 and R16 to R18, by their numbers.
-#[derive(Clone, Copy)]
+#[derive(Clone, Copy, PartialEq, Eq)]
 pub enum Refusal {
-    ShortBuffer,
-    CommandSize,
-    NoChannel,
-    Unopened,
-    Unlinked,
-    Overfull,
-    UnfitRecord,
-    NoResponse,
-    Unreadable,
-    NoneWaits,
-    NoPlace,
-    Undersized,
-    Malformed,
-    ShortText,
-    Unmendable,
-    NoRecord,
-    WrongCount,
+    ShortBuffer = 1,
+    CommandSize = 2,
+    NoChannel = 3,
+    Unopened = 4,
+    Unlinked = 5,
+    Overfull = 6,
+    UnfitRecord = 7,
+    NoResponse = 8,
+    Unreadable = 9,
+    NoneWaits = 10,
+    NoPlace = 11,
+    Undersized = 12,
+    Malformed = 13,
+    ShortText = 14,
+    Unmendable = 16,
+    NoRecord = 17,
+    WrongCount = 18,
 }
 
 impl Refusal {
@@ -102,37 +112,72 @@ impl Refusal {
     pub fn number(self) -> u8
         ensures { result ≡ number_of self }
     {
-        match self {
-            Refusal::ShortBuffer => 1,
-            Refusal::CommandSize => 2,
-            Refusal::NoChannel => 3,
-            Refusal::Unopened => 4,
-            Refusal::Unlinked => 5,
-            Refusal::Overfull => 6,
-            Refusal::UnfitRecord => 7,
-            Refusal::NoResponse => 8,
-            Refusal::Unreadable => 9,
-            Refusal::NoneWaits => 10,
-            Refusal::NoPlace => 11,
-            Refusal::Undersized => 12,
-            Refusal::Malformed => 13,
-            Refusal::ShortText => 14,
-            Refusal::Unmendable => 16,
-            Refusal::NoRecord => 17,
-            Refusal::WrongCount => 18,
+        self as u8
+    }
+}
+
+// The types of commands that are served, by their bytes.
+#[derive(Clone, Copy, PartialEq, Eq)]
+pub enum CommandType {
+    MoreTime = 0x02,
+    SetUpEventList = 0x05,
+    TimerManagement = 0x27,
+    OpenChannel = 0x40,
+    CloseChannel = 0x41,
+    ReceiveData = 0x42,
+    SendData = 0x43,
+    GetChannelStatus = 0x44,
+}
+
+// A byte that is no type of the table.
+#[derive(Clone, Copy, PartialEq, Eq)]
+pub struct UnknownType;
+
+impl TryFrom<u8> for CommandType {
+    type Error = UnknownType;
+
+    ghost try_from_gives = { Typed };
+
+    fn try_from(kind: u8) -> Result<Self, UnknownType> {
+        match kind {
+            0x02 => Ok(CommandType::MoreTime),
+            0x05 => Ok(CommandType::SetUpEventList),
+            0x27 => Ok(CommandType::TimerManagement),
+            0x40 => Ok(CommandType::OpenChannel),
+            0x41 => Ok(CommandType::CloseChannel),
+            0x42 => Ok(CommandType::ReceiveData),
+            0x43 => Ok(CommandType::SendData),
+            0x44 => Ok(CommandType::GetChannelStatus),
+            _ => Err(UnknownType),
         }
     }
 }
 
-// How a call ended: with so many bytes written, or refused.
-#[derive(Clone, Copy)]
-pub enum Ended {
-    Wrote(usize),
-    Refused(Refusal),
+// What TIMER MANAGEMENT does with a timer.
+#[derive(Clone, Copy, PartialEq, Eq)]
+pub enum Action {
+    Start,
+    Stop,
+    Ask,
+    Nothing,
+}
+
+impl From<u8> for Action {
+    ghost from_gives = { Acts };
+
+    // The action of a qualifier is its two low bits.
+    fn from(qualifier: u8) -> Self {
+        match qualifier % 4 {
+            0 => Action::Start,
+            1 => Action::Stop,
+            2 => Action::Ask,
+            _ => Action::Nothing,
+        }
+    }
 }
 
 // The link of an open channel.
-#[derive(Clone, Copy)]
+#[derive(Clone, Copy, PartialEq, Eq)]
 pub enum Link {
     NotYet,
     Established,
@@ -140,7 +185,7 @@ pub enum Link {
 }
 
 // What a channel carries: a stream of bytes, or datagrams that stay whole.
-#[derive(Clone, Copy)]
+#[derive(Clone, Copy, PartialEq, Eq)]
 pub enum Carries {
     Stream,
     Datagrams,
@@ -162,7 +207,7 @@ pub struct Events {
 }
 
 // A time of a timer: hours, minutes and seconds.
-#[derive(Clone, Copy)]
+#[derive(Clone, Copy, PartialEq, Eq)]
 pub struct Time {
     pub hours: u16,
     pub minutes: u16,
@@ -194,23 +239,21 @@ pub struct ChannelNumber(pub u8);
 #[derive(Clone, Copy)]
 pub struct DeviceIdentity(pub u8);
 
-impl ChannelNumber {
+impl From<ChannelNumber> for DeviceIdentity {
+    ghost from_gives = { λ n d. d ≡ identity_of n };
+
     // The identity by which the card names the channel: 20 plus its number.
-    pub fn identity(self) -> DeviceIdentity
-        ensures { result ≡ identity_of self }
-    {
-        let n = self.0 as u16;
-        DeviceIdentity(((n + 0x20) % 256) as u8)
+    fn from(n: ChannelNumber) -> Self {
+        DeviceIdentity(n.0.wrapping_add(0x20))
     }
 }
 
-impl DeviceIdentity {
+impl From<DeviceIdentity> for ChannelNumber {
+    ghost from_gives = { λ d n. n ≡ channel_of d };
+
     // The channel that the identity names: its number is the identity less 20.
-    pub fn channel(self) -> ChannelNumber
-        ensures { result ≡ channel_of self }
-    {
-        let i = self.0 as u16;
-        ChannelNumber(((i + 0xE0) % 256) as u8)
+    fn from(d: DeviceIdentity) -> Self {
+        ChannelNumber(d.0.wrapping_sub(0x20))
     }
 }
 
@@ -218,30 +261,21 @@ impl DeviceIdentity {
 pub fn lists(values: &[u8], value: u8) -> bool
     ensures { result ≡ member value values.now }
 {
-    let mut i: usize = 0;
-    while i < values.len() {
-        if value == values[i] {
-            return true;
-        }
-        i += 1;
-    }
-    false
+    values.contains(&value)
 }
 
 // Whether a type is one of the table.
 pub fn is_known(kind: u8) -> bool
     ensures { result ≡ known kind }
 {
-    let table = [0x02u8, 0x05, 0x27, 0x40, 0x41, 0x42, 0x43, 0x44];
-    lists(&table, kind)
+    CommandType::try_from(kind).is_ok()
 }
 
 // Whether a command of a type goes to the modem itself; the others go to a channel.
 fn to_modem(kind: u8) -> bool
     ensures { result ≡ to_modem kind }
 {
-    let types = [0x02u8, 0x05, 0x27, 0x40, 0x44];
-    lists(&types, kind)
+    matches!(kind, 0x02 | 0x05 | 0x27 | 0x40 | 0x44)
 }
 
 // Step 8: whether a command of a type comes from the card, 81, and goes to the modem, 82, or to a channel, 21 to 27.
@@ -258,4 +292,12 @@ pub fn is_addressed(kind: u8, from: DeviceIdentity, to: DeviceIdentity) -> bool
         return false;
     }
     to.0 <= 0x27
+}
+
+// Whether a bearer is such as the bench writes and reads: of type 02 with 6 bytes, or of type 03 with none.
+#[tactic(auto, using(crate::proofs::Words::bearer_sized))]
+pub fn fits_bearer(bearer: u8, parameters: &[u8]) -> bool
+    ensures { result ≡ bearer_proper (record { kind = bearer; parameters = parameters.now }) }
+{
+    matches!((bearer, parameters.len()), (0x02, 6) | (0x03, 0))
 }

@@ -6,7 +6,7 @@ use Prim.Native.Nat.{ℕ}
 use Rattle.rules.specs.State.{State}
 use Rattle.rules.specs.Command.{Answer}
 use Rattle.session.specs.declared.Session.{Session}
-use Rattle.rules.specs.declared.Ended.{Ended}
+use Rattle.rules.specs.Words.{Ended}
 use Rattle.session.specs.declared.Answered.{Answered}
 use Rattle.session.specs.Picture.{Shows}
 use Rattle.session.specs.Calls.{Answers}
@@ -35,9 +35,13 @@ module _ {r : Answer} {t u : List ℕ} {p q : List ℕ} {e f : Ended} {before af
   pub ledger_told : Answers r t p e before after → Answers r u q f before after' → t ≡ u
   ledger_told s o = ledger_alike s.shows o.shows
 
+pub session_told :
+    {r : Answer} {e f : Ended} {before after after' : List ℕ} (x y : Session) →
+    Answers r x.ledger x.pool e before after → Answers r y.ledger y.pool f before after' → x ≡ y
+session_told x y s o = λ i. record { ledger = ledger_told s o i; pool = pool_told s o i }
+
 pub answered_alike :
     {r : Answer} {before after after' : List ℕ} (x y : Answered) →
     Answers r x.session.ledger x.session.pool x.ended before after →
     Answers r y.session.ledger y.session.pool y.ended before after' → x ≡ y
-answered_alike x y s o =
-    λ i. record { session = record { ledger = ledger_told s o i; pool = pool_told s o i }; ended = ended_alike s o i }
+answered_alike x y s o = λ i. record { session = session_told x.session y.session s o i; ended = ended_alike s o i }

@@ -18,6 +18,7 @@ use Rattle.session.specs.Picture.{space, region, regions, pool_of, link_number, 
 use Rattle.session.specs.Cells.{HeldAt, SameLengths}
 use Rattle.session.proofs.Regions.{Fits, length_way, length_region}
 use Rattle.session.proofs.Owners.{first_start}
+use Rattle.session.proofs.Ledgers.{zeros_get}
 
 -- what is 0 in the front of a list or in its rest is 0 in the list
 append_zero :
@@ -28,15 +29,10 @@ append_zero (v ∷ x) y zero f g = f (omega arith)
 append_zero (v ∷ x) y (suc j) f g =
     append_zero x y j (λ h. f (omega arith)) (λ i e. g i (let q : suc j ≡ suc (length x) + i = omega arith in q))
 
-zeros_zero : (n j : ℕ) → get_or {A = ℕ} (replicate n 0) j 0 ≡ 0
-zeros_zero zero j = refl
-zeros_zero (suc n) zero = refl
-zeros_zero (suc n) (suc j) = zeros_zero n j
-
 -- behind a list nothing but zeros is padded
 pad_zero : (n : ℕ) (l : List ℕ) (j : ℕ) → (j < length l → get_or l j 0 ≡ 0) → get_or (pad n l) j 0 ≡ 0
 unfolding pad
-pad_zero n l j f = append_zero l (replicate (n - length l) 0) j f (λ i _. zeros_zero (n - length l) i)
+pad_zero n l j f = append_zero l (replicate (n - length l) 0) j f (λ i _. zeros_get (n - length l) i)
 
 -- a region is 0 where neither way holds a byte
 region_zero :

@@ -9,7 +9,6 @@ use lib.ListN.{length, take, drop, get_or, set, replicate, length-append, length
 use lib.Dec.{ltb, leb}
 use lib.Seq.{take_all}
 use Rattle.rules.specs.declared.Carries.{Carries}
-use Rattle.rules.specs.declared.Carries.TheVariants.{Stream, Datagrams}
 use Rattle.rules.specs.declared.ChannelNumber.{ChannelNumber}
 use Rattle.rules.specs.declared.Events.{Events}
 use Rattle.rules.specs.declared.Link.{Link}
@@ -26,38 +25,38 @@ use Rattle.rules.proofs.Laws.{by_way, stop, skip, each_take}
 use Rattle.rules.proofs.Datagrams.{Some, first}
 use Rattle.rules.proofs.Soundness.{once_due, chan_sound}
 use Rattle.octets.specs.Parts.{part, pasted, cut_out, spread}
-use Rattle.octets.proofs.Pastes.{length_pasted, length_pad}
+use Rattle.octets.proofs.Pastes.{paste_parts, length_pad}
 use Rattle.session.specs.declared.Channel.{Channel}
 use Rattle.session.specs.Book.{free_at, free_in, ledger_size, entry_at, numbers_of, entry_in, with_entry, lengths_at, lengths_from, lengths_in, places, with_length, less_length, with_list}
-use Rattle.session.specs.Picture.{space, regions, pool_of, link_number, link_of, carries_number, entry, chan_numbers, ledger_of, base_in, offset, start_in, shown, Shows, GoodIn}
+use Rattle.session.specs.Picture.{space, regions, pool_of, link_number, link_of, carries_number, carries_of, entry, chan_numbers, ledger_of, base_in, offset, start_in, shown, Shows, GoodIn}
 use Rattle.session.specs.Changed.{Numbered, chan_in, Changed, held_in, due_in, more_in, less_in, Marks, with_events}
 use Rattle.session.proofs.Places.{places_size, places_last}
-use Rattle.session.proofs.Ways.{paste_parts, way_read, way_get, way_more, way_first, way_less, way_front, way_rest, way_parts, way_size, other_lengths}
+use Rattle.session.proofs.Ways.{way_read, way_get, way_more, way_first, way_less, way_front, way_rest, way_parts, way_size, other_lengths}
 use Rattle.session.proofs.Ledgers.{closed_numbers, ledger_size_lem, entry_read, free_read, base_read, list_written, before, behind, before_size, ledger_with, ledger_same, ledger_parts}
 use Rattle.session.proofs.Regions.{length_regions, front, used, used_parts, used_fits, length_region, held_space, same_queue}
-use Rattle.session.proofs.Views.{number_back, few_lengths}
+use Rattle.session.proofs.Views.{number_back, carries_back, few_lengths}
 use Rattle.session.proofs.Changes.{appended_fits, appended_grant, appended_pool, counted_pool, removed_pool, removed_grant, counted_grant, held_part, closed_pool, opened_pool, marked_pool, due_held}
 
 -- the counts of an entry are those of the channel, for either way
 held_entry : (c : Chan) (w : Way) → held_in (entry c) w ≡ length (held c w)
-unfolding held_in entry
+unfolding entry
 held_entry c Receive = refl
 held_entry c Send = refl
 
 due_entry : (c : Chan) (w : Way) → due_in (entry c) w ≡ due c w
-unfolding due_in due entry
+unfolding due entry
 due_entry c Receive = refl
 due_entry c Send = refl
 
 -- the entry of a channel to which bytes came, and of one from which they were removed
 module _ (c : Chan) (l : Link) (k : ℕ) (s : List ℕ) where
   more_entry : (w : Way) → more_in (entry (marked c l k)) w (length s) ≡ entry (appended (marked c l k) w s)
-  unfolding more_in entry appended with_queue marked queue joined
+  unfolding entry appended with_queue marked queue joined
   more_entry Receive = λ i. record { grant = c.grant; link = link_number l; rx = sym (length-append c.receive.bytes s) i; tx = length c.send.bytes; ready = k; carries = carries_number c.carries }
   more_entry Send = λ i. record { grant = c.grant; link = link_number l; rx = length c.receive.bytes; tx = sym (length-append c.send.bytes s) i; ready = k; carries = carries_number c.carries }
 
 less_entry : (c : Chan) (w : Way) (k : ℕ) → less_in (entry c) w k ≡ entry (removed c w k)
-unfolding less_in entry removed with_queue marked queue without
+unfolding entry removed with_queue marked queue without
 less_entry c Receive k = λ i. record { grant = c.grant; link = link_number c.link; rx = sym (length-drop k c.receive.bytes) i; tx = length c.send.bytes; ready = c.ready; carries = carries_number c.carries }
 less_entry c Send k = λ i. record { grant = c.grant; link = link_number c.link; rx = length c.receive.bytes; tx = sym (length-drop k c.send.bytes) i; ready = c.ready - k; carries = carries_number c.carries }
 
@@ -112,17 +111,6 @@ none_lessened c Receive k e =
 none_lessened c Send k e =
     let same : c.send.lengths ≡ lessened c.send.lengths k = e ∙ sym (ap (λ (l : List ℕ). lessened l k) e) in
     λ i. with_queue (marked c c.link (c.ready - k)) Send (record { bytes = drop k c.send.bytes; lengths = same i })
-
--- what a number of the ledger says of a channel's kind
-number_stream : (k : Carries) → carries_number k ≡ 0 → is_stream k ≡ true
-unfolding is_stream
-number_stream Stream e = refl
-number_stream Datagrams e = absurd (omega arith)
-
-number_datagrams : (k : Carries) → (carries_number k ≡ 0 → ⊥) → is_stream k ≡ false
-unfolding is_stream
-number_datagrams Stream e = absurd (e refl)
-number_datagrams Datagrams e = refl
 
 -- a channel that is not open has no datagram
 total_none : (ls : List ℕ) → Some ls → total ls ≡ 0 → ls ≡ []
@@ -277,19 +265,9 @@ module _ (t p : List ℕ) (n : ChannelNumber) (h : Numbered t p n) where
   entry_written d e r same =
       let x = places c.receive.lengths ++ places c.send.lengths in
       (λ i. pasted ((table_is ∙ ledger_parts a sound.thirteen sound.eight n place ∙ ap (λ (l : List ℕ). front_of ++ l) (append_assoc (numbers_of (entry c)) x rest_of)) i) (entry_at (n.0 - 1)) (numbers_of (r i)))
-      ∙ paste_parts front_of (numbers_of (entry c)) (x ++ rest_of) (numbers_of (entry d)) (entry_at (n.0 - 1)) (before_size a sound.thirteen sound.eight n place) refl
+      ∙ paste_parts front_of (numbers_of (entry c)) (numbers_of (entry d)) (x ++ rest_of) (entry_at (n.0 - 1)) (before_size a sound.thirteen sound.eight n place) refl
       ∙ ap (λ (l : List ℕ). front_of ++ l) (sym (append_assoc (numbers_of (entry d)) x rest_of))
       ∙ (λ i. front_of ++ ((numbers_of (entry d) ++ (places (sym (same Receive) i) ++ places (sym (same Send) i))) ++ rest_of))
-
-  pub entry_size_lem : (e : Channel) (v : List ℕ) → v ≡ with_entry t n e → length v ≡ ledger_size
-  unfolding with_entry
-  entry_size_lem e v q =
-      let l = good_table t p h.good in
-      ap (λ (u : List ℕ). length u) q ∙ length_pasted t (entry_at (n.0 - 1)) (numbers_of e) (omega (arith, h.high)) ∙ l
-
-  pub cleared_size : (v w : List ℕ) → length v ≡ ledger_size → w ≡ pasted v (lengths_at n Receive) (replicate 32 0) → length w ≡ ledger_size
-  cleared_size v w e q =
-      ap (λ (u : List ℕ). length u) q ∙ length_pasted v (lengths_at n Receive) (replicate 32 0) (omega (arith, h.high)) ∙ e
 
   -- the two arrays with the entry of a channel, and its pool, are the session with that channel
   changed :
@@ -352,23 +330,19 @@ module _ (t p : List ℕ) (n : ChannelNumber) (h : Numbered t p n) where
       ∙ places_last (queue c w).lengths (own_some w) (own_few w)
 
   -- what the channel carries, by the number that its entry has
-  pub stream_is : x.carries ≡ 0 → is_stream c.carries ≡ true
+  kind_is : (e : Channel) → e.carries ≡ x.carries → is_stream (carries_of e.carries) ≡ is_stream c.carries
   unfolding entry
-  stream_is e = number_stream c.carries (sym (ap (λ (y : Channel). y.carries) entry_is) ∙ e)
-
-  pub datagrams_is : (x.carries ≡ 0 → ⊥) → is_stream c.carries ≡ false
-  unfolding entry
-  datagrams_is e = number_datagrams c.carries (λ q. e (ap (λ (y : Channel). y.carries) entry_is ∙ q))
+  kind_is e q = ap (λ (k : ℕ). is_stream (carries_of k)) (q ∙ ap (λ (y : Channel). y.carries) entry_is) ∙ ap is_stream (carries_back c.carries)
 
   -- what may be handed out at once, from the entry or from the first length
-  pub once_stream : (e : Channel) (w : Way) → e ≡ x → e.carries ≡ 0 → due_in e w ≡ at_once c w
+  pub once_stream : (e : Channel) (w : Way) → e ≡ x → is_stream (carries_of e.carries) ≡ true → due_in e w ≡ at_once c w
   unfolding at_once
   once_stream e w q z =
-      ap (λ (y : Channel). due_in y w) (q ∙ entry_is) ∙ due_entry c w ∙ sym (stop _ _ _ (stream_is (sym (ap (λ (y : Channel). y.carries) q) ∙ z)))
+      ap (λ (y : Channel). due_in y w) (q ∙ entry_is) ∙ due_entry c w ∙ sym (stop _ _ _ (sym (kind_is e (ap (λ (y : Channel). y.carries) q)) ∙ z))
 
-  pub once_datagram : (e : Channel) (w : Way) → e ≡ x → (e.carries ≡ 0 → ⊥) → get_or t (lengths_at n w) 0 ≡ at_once c w
+  pub once_datagram : (e : Channel) (w : Way) → e ≡ x → is_stream (carries_of e.carries) ≡ false → get_or t (lengths_at n w) 0 ≡ at_once c w
   unfolding at_once
-  once_datagram e w q z = first_read w ∙ sym (skip _ _ _ (datagrams_is (λ y. z (ap (λ (v : Channel). v.carries) q ∙ y))))
+  once_datagram e w q z = first_read w ∙ sym (skip _ _ _ (sym (kind_is e (ap (λ (y : Channel). y.carries) q)) ∙ z))
 
   grant_is : x.grant ≡ c.grant
   unfolding entry
@@ -392,7 +366,6 @@ module _ (t p : List ℕ) (n : ChannelNumber) (h : Numbered t p n) where
       }
 
   marked_held : (e : Channel) (w : Way) → Marks e x → held_in e w ≡ held_in x w
-  unfolding held_in
   marked_held e Receive m = m.rx
   marked_held e Send m = m.tx
 
@@ -403,7 +376,6 @@ module _ (t p : List ℕ) (n : ChannelNumber) (h : Numbered t p n) where
   way_fits Send k f = let b = bounds in omega (arith, b.region_fits, b.used_fits, b.grant_space)
 
   held_fits : (w : Way) → held_in x w ≤ x.grant
-  unfolding held_in
   held_fits Receive = bounds.rx_fits
   held_fits Send = bounds.tx_fits
 
@@ -459,18 +431,18 @@ module _ (t p : List ℕ) (n : ChannelNumber) (h : Numbered t p n) where
     joins_carries = appended_carries c (link_of e.link) e.ready s w
 
     -- of a stream the entry alone is written
-    pub append_stream : e.carries ≡ 0 → u ≡ with_entry t n f → Changed t p n (whole d w k) u q
+    pub append_stream : is_stream (carries_of e.carries) ≡ true → u ≡ with_entry t n f → Changed t p n (whole d w k) u q
     unfolding whole
     append_stream z eᵗ =
-        subst (λ (y : Chan). Changed t p n y u q) (sym (stop _ _ _ (ap is_stream joins_carries ∙ stream_is (sym m.carries ∙ z)))) (changed d f u q eᵗ joins_entry joins_lengths joins_grant joins_pool)
+        subst (λ (y : Chan). Changed t p n y u q) (sym (stop _ _ _ (ap is_stream joins_carries ∙ sym (kind_is e m.carries) ∙ z))) (changed d f u q eᵗ joins_entry joins_lengths joins_grant joins_pool)
 
     -- of datagrams a length more, too
     pub append_datagram :
-        (e.carries ≡ 0 → ⊥) → length (queue c w).lengths + min 1 k ≤ place_count → (v : List ℕ) → v ≡ with_entry t n f → u ≡ with_length v n w k →
+        is_stream (carries_of e.carries) ≡ false → length (queue c w).lengths + min 1 k ≤ place_count → (v : List ℕ) → v ≡ with_entry t n f → u ≡ with_length v n w k →
         Changed t p n (whole d w k) u q
     unfolding whole
     append_datagram z fit v eᵛ eᵗ =
-        let kind = ap is_stream joins_carries ∙ datagrams_is (λ y. z (m.carries ∙ y)) in
+        let kind = ap is_stream joins_carries ∙ sym (kind_is e m.carries) ∙ z in
         let size = ap (λ (l : List ℕ). length l) (joins_lengths w) in
         subst (λ (y : Chan). Changed t p n y u q) (sym (skip _ _ _ kind))
         (record {
@@ -506,9 +478,9 @@ module _ (t p : List ℕ) (n : ChannelNumber) (h : Numbered t p n) where
     kept_same : (v : Way) → (queue kept_lengths v).lengths ≡ (queue c v).lengths
     kept_same v = removed_lengths c w k v
 
-    pub remove_stream : e.carries ≡ 0 → u ≡ with_entry t n f → Changed t p n (removed c w k) u q
+    pub remove_stream : is_stream (carries_of e.carries) ≡ true → u ≡ with_entry t n f → Changed t p n (removed c w k) u q
     remove_stream z eᵗ =
-        let none = ((chan_sound a n sound).lengths w).none (stream_is (sym (ap (λ (y : Channel). y.carries) eᵉ) ∙ z)) in
+        let none = ((chan_sound a n sound).lengths w).none (sym (kind_is e (ap (λ (y : Channel). y.carries) eᵉ)) ∙ z) in
         record { ledger = eᵗ ∙ entry_written kept_lengths f kept_entry kept_same ∙ ap with_numbers (none_lessened c w k none) ∙ same_cells (removed c w k) (removed_grant c k w); pool = less_pool }
 
     pub remove_datagram : (v : List ℕ) → v ≡ with_entry t n f → u ≡ less_length v n w k → Changed t p n (removed c w k) u q
@@ -548,8 +520,8 @@ module _ (t p : List ℕ) (n : ChannelNumber) (h : Numbered t p n) where
       ∙ ap (λ (l : List ℕ). pasted l (lengths_at n Receive) (replicate 32 0))
       (eᵛ
       ∙ (λ i. pasted ((table_is ∙ ledger_parts a sound.thirteen sound.eight n place ∙ ap (λ (l : List ℕ). front_of ++ l) (append_assoc (numbers_of (entry c)) y rest_of)) i) (entry_at (n.0 - 1)) six)
-      ∙ paste_parts front_of (numbers_of (entry c)) (y ++ rest_of) six (entry_at (n.0 - 1)) b refl ∙ sym (append_assoc front_of six (y ++ rest_of)))
-      ∙ paste_parts (front_of ++ six) y rest_of (replicate 32 0) (lengths_at n Receive) (omega arith) (omega (arith, size, places_size c.receive.lengths, places_size c.send.lengths))
+      ∙ paste_parts front_of (numbers_of (entry c)) six (y ++ rest_of) (entry_at (n.0 - 1)) b refl ∙ sym (append_assoc front_of six (y ++ rest_of)))
+      ∙ paste_parts (front_of ++ six) y (replicate 32 0) rest_of (lengths_at n Receive) (omega arith) (omega (arith, size, places_size c.receive.lengths, places_size c.send.lengths))
       ∙ append_assoc front_of six (replicate 32 0 ++ rest_of) ∙ sym (ap (λ (l : List ℕ). front_of ++ (l ++ rest_of)) closed_numbers)
       in
       let free : f + 2 * k ≡ unpromised (with_chan a n closed) = (λ i. eᶠ i + 2 * (eᵏ ∙ ap cells (eᵍ ∙ grant_is)) i) ∙ sym freed in

@@ -5,9 +5,10 @@ use mathlib.Core.Path.{◌≡◌, refl, sym, ap, ◌∙◌}
 use mathlib.Core.Bool.{Bool, true, false}
 use mathlib.Core.List.{List, [], ◌∷◌, ◌++◌, append_assoc}
 use native.Mathlib.Omega.{arith}
-use native.Mathlib.Nat.{le_of_suc-le-suc, not-suc-le-zero, zero-add}
+use native.Mathlib.Nat.{le_of_suc-le-suc, not-suc-le-zero}
 use lib.ListN.{length, take, drop, get_or, set, replicate, length-append, take-append-drop}
 use lib.Seq.{take_at, drop_at, get_or-append-add, length-take-le, sets-eq}
+use Rattle.std.proofs.lemmas.List.{set-append_right}
 use Rattle.rules.specs.declared.Events.{Events}
 use Rattle.rules.specs.declared.ChannelNumber.{ChannelNumber}
 use Rattle.rules.specs.Profile.{profile_size}
@@ -36,7 +37,8 @@ entry_put t at e h =
     (λ i. set (set (set (set (set (set t at e.grant) (e1 i) e.link) (e2 i) e.rx) (e3 i) e.tx) (e4 i) e.ready) (e5 i) e.carries)
     ∙ sets-eq (numbers_of e) t at h ∙ append_assoc (take at t) (numbers_of e) (drop (at + 6) t)
 
-zeros_get : (n j : ℕ) → get_or (replicate {A = ℕ} n 0) j 0 ≡ 0
+-- every number of zeros, and behind them
+pub zeros_get : (n j : ℕ) → get_or (replicate {A = ℕ} n 0) j 0 ≡ 0
 zeros_get zero j = refl
 zeros_get (suc n) zero = refl
 zeros_get (suc n) (suc j) = zeros_get n j
@@ -77,13 +79,6 @@ cells_more (c ∷ cs) (suc k) h = let ih = cells_more cs k (le_of_suc-le-suc h) 
 listed_back : (b : Bool) → listed (listed_number b) ≡ b
 listed_back true = refl
 listed_back false = refl
-
--- a number behind the front of a list
-pub set_behind : (p q : List ℕ) (i v : ℕ) → set (p ++ q) (length p + i) v ≡ p ++ set q i v
-set_behind [] q i v = ap (λ (k : ℕ). set q k v) (zero-add i)
-set_behind (x ∷ p) q i v =
-    ap (λ (k : ℕ). set (x ∷ (p ++ q)) k v) (let e : suc (length p) + i ≡ suc (length p + i) = omega arith in e)
-    ∙ ap (λ (l : List ℕ). x ∷ l) (set_behind p q i v)
 
 module _ (a : State) (thirteen : length a.profile ≡ profile_size) (eight : length a.timers ≡ timer_count) where
   -- what stands behind the profile
@@ -142,7 +137,7 @@ module _ (a : State) (thirteen : length a.profile ≡ profile_size) (eight : len
 
   head_written : (q : List ℕ) (i at v : ℕ) → at ≡ profile_size + i → set (a.profile ++ q) at v ≡ a.profile ++ set q i v
   head_written q i at v e =
-      ap (λ (k : ℕ). set (a.profile ++ q) k v) (let r : at ≡ length a.profile + i = omega arith in r) ∙ set_behind a.profile q i v
+      set-append_right a.profile q profile_size at v thirteen (omega arith) ∙ ap (λ (k : ℕ). a.profile ++ set q k v) (let r : at - profile_size ≡ i = omega arith in r)
 
   -- another event list
   pub list_written : (e : Events) → with_list (ledger_of a) e ≡ ledger_of (with_events a e)

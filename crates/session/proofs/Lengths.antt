@@ -1,169 +1,140 @@
 -- The lengths of datagrams in the ledger: where they stand, how they are counted, and how one comes and goes.
 -- Assumes nothing.
-use Prim.Native.Nat.{ℕ, zero, suc, ◌+◌, ◌-◌, ◌*◌, ◌≤◌, ◌<◌, min}
-use mathlib.Core.Path.{◌≡◌, refl, sym, ap, subst, ◌∙◌}
-use mathlib.Core.List.{List, [], ◌∷◌, ◌++◌}
+use Prim.Native.Nat.{ℕ, zero, suc, ◌+◌, ◌-◌, ◌≤◌, ◌<◌}
+use mathlib.Core.Path.{◌≡◌, refl, sym, ap, ◌∙◌}
+use mathlib.Core.List.{List, [], ◌∷◌, ◌++◌, append_assoc}
 use native.Mathlib.Omega.{arith}
-use native.Mathlib.Nat.{add-zero, le_of_suc-le-suc, not-suc-le-zero}
-use native.Mathlib.Numerals.{add-one}
-use lib.Dec.{ltb}
-use lib.ListN.{length, take, drop, get_or, set, replicate, get_or-replicate}
-use lib.Seq.{drop-cons, set_split}
-use borrow.Author.Tests.{lt-ltb, le-ltb, eq-eqb, ne_eqb}
+use lib.Dec.{ltb, eqb}
+use borrow.Rule.Slice.PartMut.{put_mid, mid_of}
+use Rattle.std.specs.Prelude.{Bool, true, false}
+use lib.ListN.{length, take, drop, get_or, set, replicate, length-take, length-drop, length-append}
+use lib.Seq.{paste, paste-suc, drop-paste, get_or-drop, drop-cons, set_at, drop-drop, length-take-le}
+use borrow.Author.Tests.{lt-ltb, le-ltb, ltb-true, ltb-false, eqb-true, eqb-false}
 use Rattle.rules.specs.Checks.{◌⇒◌else◌}
 use Rattle.rules.specs.Datagrams.{place_count}
 use Rattle.rules.specs.declared.Way.{Way}
 use Rattle.rules.specs.declared.Way.TheVariants.{Receive, Send}
 use Rattle.rules.specs.declared.ChannelNumber.{ChannelNumber}
 use Rattle.rules.proofs.Laws.{stop, skip}
-use Rattle.octets.specs.Parts.{part, pasted, moved}
-use Rattle.octets.proofs.Copies.{Copied, copied_none, copied_more, copied_all, length_part, down_none, down_more, down_all}
-use Rattle.octets.proofs.Pastes.{paste_after}
-use Rattle.session.specs.Book.{channels_at, entry_size, ledger_size, lengths_at, lengths_from, lengths_in, with_length, less_length}
-
--- where those for receive stand
-pub at_receive : (n : ChannelNumber) (w : Way) → w ≡ Receive → entry_size * (n.0 - 1) + channels_at + 6 ≡ lengths_at n w
-at_receive n w e = sym (ap (lengths_at n) e)
-
--- and those for send
-pub at_send : (n : ChannelNumber) (w : Way) → w ≡ Send → entry_size * (n.0 - 1) + channels_at + 6 + place_count ≡ lengths_at n w
-at_send n w e = let p : entry_size * (n.0 - 1) + channels_at + 6 + place_count ≡ lengths_at n Send = omega arith in p ∙ sym (ap (lengths_at n) e)
+use Rattle.octets.specs.Parts.{part, pasted}
+use Rattle.session.specs.Book.{ledger_size, lengths_at, lengths_from, lengths_in, with_length, less_length}
 
 -- they stand within the ledger
 pub lengths_fit : (n : ChannelNumber) (w : Way) → n.0 ≤ 7 → lengths_at n w + place_count ≤ ledger_size
 lengths_fit n Receive h = omega arith
 lengths_fit n Send h = omega arith
 
--- a 0 ends them
-lengths_end : (k : ℕ) (x : ℕ) (t : List ℕ) → x < 1 → lengths_from (suc k) (x ∷ t) ≡ []
-unfolding lengths_from
-lengths_end k x t h = stop _ _ _ (eq-eqb x 0 (omega arith))
+-- a number before their end is not 0
+lengths_some : (k : ℕ) (t : List ℕ) (i : ℕ) → i < length (lengths_from k t) → get_or t i 0 ≡ 0 → ⊥
+unfolding lengths_from ◌⇒◌else◌
+lengths_some zero t i h e = omega arith
+lengths_some (suc k) [] i h e = omega arith
+lengths_some (suc k) (x ∷ t) i h e = by (eqb x 0) refl (lengths_from k t) (lengths_some k t) i h e
+  where
+    by :
+        (b : Bool) → eqb x 0 ≡ b → (ls : List ℕ) → ((j : ℕ) → j < length ls → get_or t j 0 ≡ 0 → ⊥) →
+        (j : ℕ) → j < length (b ⇒ [] else x ∷ ls) → get_or (x ∷ t) j 0 ≡ 0 → ⊥
+    by true q ls f j h e = omega arith
+    by false q ls f zero h e = eqb-false x 0 q e
+    by false q ls f (suc j) h e = f j (omega arith) e
 
--- another number is one of them
-lengths_more : (k : ℕ) (x : ℕ) (t : List ℕ) → 1 ≤ x → lengths_from (suc k) (x ∷ t) ≡ x ∷ lengths_from k t
-unfolding lengths_from
-lengths_more k x t h = skip _ _ _ (ne_eqb x 0 (omega arith))
+-- and that at it is, where there is a place for one more
+lengths_end : (k : ℕ) (t : List ℕ) → length (lengths_from k t) < k → get_or t (length (lengths_from k t)) 0 ≡ 0
+unfolding lengths_from ◌⇒◌else◌
+lengths_end zero t h = absurd (omega arith)
+lengths_end (suc k) [] h = refl
+lengths_end (suc k) (x ∷ t) h = by (eqb x 0) refl (lengths_from k t) (lengths_end k t) h
+  where
+    by :
+        (b : Bool) → eqb x 0 ≡ b → (ls : List ℕ) → (length ls < k → get_or t (length ls) 0 ≡ 0) →
+        length (b ⇒ [] else x ∷ ls) < suc k → get_or (x ∷ t) (length (b ⇒ [] else x ∷ ls)) 0 ≡ 0
+    by true q ls f h = eqb-true x 0 q
+    by false q ls f h = f (omega arith)
 
--- the first i of the numbers from at on are lengths: the others are among those behind them
-pub record Counted (t : List ℕ) (at i : ℕ) : Type 0 where
-  pub upto : i ≤ place_count
-  pub fits : at + place_count ≤ length t
-  pub all : length (lengths_from place_count (drop at t)) ≡ i + length (lengths_from (place_count - i) (drop (at + i) t))
+-- so the search for it stops there and nowhere else
+module _ (t : List ℕ) (n : ChannelNumber) (w : Way) (at i : ℕ) (a : at ≡ lengths_at n w) (le : i ≤ length (lengths_in t n w)) where
+  here : get_or t (at + i) 0 ≡ get_or (drop (lengths_at n w) t) i 0
+  here = (λ j. get_or t (a j + i) 0) ∙ sym (get_or-drop (lengths_at n w) t i 0)
 
--- none is counted yet
-pub count_none : (t : List ℕ) (at : ℕ) → at + place_count ≤ length t → Counted t at 0
-count_none t at h =
-    let p : length (lengths_from place_count (drop at t)) ≡ 0 + length (lengths_from place_count (drop at t)) = omega arith in
-    record { upto = omega arith; fits = h; all = p ∙ ap (λ (k : ℕ). 0 + length (lengths_from place_count (drop k t))) (sym (add-zero at)) }
+  pub search_more : length (lengths_in t n w) + 1 ≤ place_count → (get_or t (at + i) 0 ≡ 0 → ⊥) → i + 1 ≤ length (lengths_in t n w)
+  search_more m f = by (ltb i (length (lengths_in t n w))) refl
+    where
+      by : (b : Bool) → ltb i (length (lengths_in t n w)) ≡ b → i + 1 ≤ length (lengths_in t n w)
+      by true q = omega (arith, ltb-true i (length (lengths_in t n w)) q)
+      by false q =
+          let e : i ≡ length (lengths_in t n w) = omega (arith, ltb-false i (length (lengths_in t n w)) q) in
+          absurd (f (here ∙ ap (λ (j : ℕ). get_or (drop (lengths_at n w) t) j 0) e ∙ lengths_end place_count (drop (lengths_at n w) t) (omega arith)))
 
-module _ (t : List ℕ) (at i : ℕ) (c : Counted t at i) where
-  -- what stands from the next number on
-  next : i < place_count → lengths_from (place_count - i) (drop (at + i) t) ≡ lengths_from (suc (place_count - (i + 1))) (get_or t (at + i) 0 ∷ drop (at + (i + 1)) t)
-  next h =
-      let e : place_count - i ≡ suc (place_count - (i + 1)) = omega arith in
-      let f : suc (at + i) ≡ at + (i + 1) = omega arith in
-      (λ j. lengths_from (e j) (drop-cons t (at + i) 0 (omega (arith, c.fits)) j))
-      ∙ ap (λ (k : ℕ). lengths_from (suc (place_count - (i + 1))) (get_or t (at + i) 0 ∷ drop k t)) f
-
-  -- one is counted more
-  pub count_more : i < place_count → 1 ≤ get_or t (at + i) 0 → Counted t at (i + 1)
-  count_more h p =
-      let l = ap length (next h ∙ lengths_more (place_count - (i + 1)) (get_or t (at + i) 0) (drop (at + (i + 1)) t) p) in
-      record { upto = omega arith; fits = c.fits; all = omega (arith, c.all, l) }
-
-  -- a 0 ends the count
-  pub count_end : (n : ChannelNumber) (w : Way) → at ≡ lengths_at n w → i < place_count → get_or t (at + i) 0 < 1 → i ≡ length (lengths_in t n w)
-  count_end n w e h p =
-      let l = ap length (next h ∙ lengths_end (place_count - (i + 1)) (get_or t (at + i) 0) (drop (at + (i + 1)) t) p) in
-      let r : i ≡ length (lengths_from place_count (drop at t)) = omega (arith, c.all, l) in
-      r ∙ ap (λ (k : ℕ). length (lengths_from place_count (drop k t))) e
-
-  -- where one more has a place, the count has not come to the last
-  pub count_below : (n : ChannelNumber) (w : Way) → at ≡ lengths_at n w → length (lengths_in t n w) + 1 ≤ place_count → i < place_count
-  count_below n w e h =
-      let r : length (lengths_from place_count (drop at t)) ≡ length (lengths_in t n w) = ap (λ (k : ℕ). length (lengths_from place_count (drop k t))) e in
-      omega (arith, c.all, r, h)
+  pub search_end : get_or t (at + i) 0 ≡ 0 → i ≡ length (lengths_in t n w)
+  search_end f = by (ltb i (length (lengths_in t n w))) refl
+    where
+      by : (b : Bool) → ltb i (length (lengths_in t n w)) ≡ b → i ≡ length (lengths_in t n w)
+      by true q = absurd (lengths_some place_count (drop (lengths_at n w) t) i (ltb-true i (length (lengths_in t n w)) q) (sym here ∙ f))
+      by false q = omega (arith, ltb-false i (length (lengths_in t n w)) q)
 
 -- no bytes make no datagram
-pub length_none : (t : List ℕ) (n : ChannelNumber) (w : Way) (k : ℕ) → k < 1 → t ≡ with_length t n w k
+pub length_none : (t : List ℕ) (n : ChannelNumber) (w : Way) (k : ℕ) → k ≡ 0 → t ≡ with_length t n w k
 unfolding with_length
 length_none t n w zero h = refl
-length_none t n w (suc k) h = absurd (not-suc-le-zero (le_of_suc-le-suc h))
+length_none t n w (suc k) h = absurd (omega arith)
 
 -- some make one, at the first place that is free
-length_one : (t : List ℕ) (n : ChannelNumber) (w : Way) (k : ℕ) → 1 ≤ k → set t (lengths_at n w + length (lengths_in t n w)) k ≡ with_length t n w k
+length_one : (t : List ℕ) (n : ChannelNumber) (w : Way) (k : ℕ) → (k ≡ 0 → ⊥) → set t (lengths_at n w + length (lengths_in t n w)) k ≡ with_length t n w k
 unfolding with_length
-length_one t n w zero h = absurd (not-suc-le-zero h)
+length_one t n w zero h = absurd (h refl)
 length_one t n w (suc k) h = refl
 
-module _ (t : List ℕ) (n : ChannelNumber) (w : Way) (at i k : ℕ) (a : at ≡ lengths_at n w) (e : i ≡ length (lengths_in t n w)) (h : 1 ≤ k) where
-  -- the place of one more stands within the ledger
-  pub place_fits : n.0 ≤ 7 → length (lengths_in t n w) + min 1 k ≤ place_count → at + i < ledger_size
-  place_fits u v = omega (arith, lengths_fit n w u)
-
+module _ (t : List ℕ) (n : ChannelNumber) (w : Way) (at i k : ℕ) (a : at ≡ lengths_at n w) (e : i ≡ length (lengths_in t n w)) (h : k ≡ 0 → ⊥) where
   -- one more is put there
   pub length_put : set t (at + i) k ≡ with_length t n w k
   length_put = (λ j. set t (a j + e j) k) ∙ length_one t n w k h
 
-module _ (t : List ℕ) (at : ℕ) where
-  -- zeros over the lengths of a channel, from their front: none yet
-  pub zeros_none : (n : ChannelNumber) → at ≡ lengths_at n Receive → n.0 ≤ 7 → length t ≡ ledger_size → Copied t at (replicate 32 0) 0 t
-  zeros_none n a u l = copied_none t at (replicate 32 0) (omega (arith, lengths_fit n Send u))
+-- zeros over the lengths of both ways
+pub zeros_put :
+    (t d : List ℕ) (n : ChannelNumber) (at : ℕ) → at ≡ lengths_at n Receive → n.0 ≤ 7 → length t ≡ ledger_size →
+    d ≡ replicate (length (mid_of at (at + 32 - at) t)) 0 → put_mid at (at + 32 - at) t d ≡ pasted t (lengths_at n Receive) (replicate 32 0)
+unfolding pasted
+zeros_put t d n at a h l e =
+    let k : at + 32 - at ≡ 32 = omega arith in
+    let m : length (mid_of at (at + 32 - at) t) ≡ 32 = simp (length-take, length-drop) (omega (arith, lengths_fit n Send h)) in
+    (λ i. take at t ++ (e i ++ drop (k i) (drop at t))) ∙ (λ i. take (a i) t ++ (replicate (m i) 0 ++ drop-drop 32 (a i) t i))
 
-  -- one more
-  pub zeros_more : (i : ℕ) (d : List ℕ) → Copied t at (replicate 32 0) i d → i < 32 → Copied t at (replicate 32 0) (i + 1) (set d (at + i) 0)
-  zeros_more i d c h = copied_more t at (replicate 32 0) i d 0 c h (sym (get_or-replicate 32 i 0 0 h))
+-- the lengths behind the first move to the front, one by one
+pub shift_more :
+    (t d : List ℕ) (at i : ℕ) → d ≡ paste t at (drop (at + 1) t) (i - at) → at ≤ i → i + 1 < length t →
+    set d i (get_or d (i + 1) 0) ≡ paste t at (drop (at + 1) t) (i + 1 - at)
+shift_more t d at i e l h =
+    let s = drop (at + 1) t in
+    let m = i - at in
+    let place : i ≡ at + m = omega arith in
+    let next : i + 1 ≡ at + m + 1 = omega arith in
+    let same : at + m + 1 ≡ at + 1 + m = omega arith in
+    let more : suc m ≡ i + 1 - at = omega arith in
+    let size = length-drop (at + 1) t in
+    let value : get_or (paste t at s m) (at + m + 1) 0 ≡ get_or s m 0 =
+    sym (get_or-drop (at + m) (paste t at s m) 1 0) ∙ ap (λ (u : List ℕ). get_or u 1 0) (drop-paste t at s m (omega arith) (omega arith))
+    ∙ get_or-drop (at + m) t 1 0 ∙ ap (λ (k : ℕ). get_or t k 0) same ∙ sym (get_or-drop (at + 1) t m 0)
+    in
+    (λ j. set (e j) (place j) (get_or (e j) (next j) 0)) ∙ ap (λ (x : ℕ). set (paste t at s m) (at + m) x) value
+    ∙ paste-suc t at s m 0 (omega arith) (omega arith) ∙ ap (λ (k : ℕ). paste t at s k) more
 
-  -- all
-  pub zeros_all :
-      (n : ChannelNumber) → at ≡ lengths_at n Receive → (i : ℕ) (d : List ℕ) → Copied t at (replicate 32 0) i d → 32 ≤ i →
-      d ≡ pasted t (lengths_at n Receive) (replicate 32 0)
-  zeros_all n a i d c h = copied_all t at (replicate 32 0) i d c h ∙ ap (λ (k : ℕ). pasted t k (replicate 32 0)) a
-
--- d is t with the lengths behind the first, up to i, each at the place before its own
-pub record Shifted (t : List ℕ) (at i : ℕ) (d : List ℕ) : Type 0 where
-  pub from : 1 ≤ i
-  pub fits : at + place_count ≤ length t
-  pub copied : Copied t at (part (at + 1) (at + place_count) t) (i - 1) d
-
--- none is moved yet
-pub shift_none : (t : List ℕ) (at : ℕ) → at + place_count ≤ length t → Shifted t at 1 t
-shift_none t at h =
-    record { from = omega arith; fits = h; copied = down_none t at (at + 1) (at + place_count) (omega arith, omega arith, h) }
-
-module _ (t : List ℕ) (at i : ℕ) (d : List ℕ) (c : Shifted t at i d) where
-  -- the part that is moved lies within the list, behind the place that it is moved to
-  bounds : (at ≤ at + 1) × (at + 1 ≤ at + place_count) × (at + place_count ≤ length t)
-  bounds = (omega arith, omega arith, c.fits)
-
-  -- one is moved more
-  pub shift_more : i < place_count → Shifted t at (i + 1) (set d (at + i - 1) (get_or d (at + i) 0))
-  shift_more h =
-      let y = part (at + 1) (at + place_count) t in
-      let to : at + (i - 1) ≡ at + i - 1 = omega (arith, c.from) in
-      let from : at + 1 + (i - 1) ≡ at + i = omega (arith, c.from) in
-      let count : i - 1 + 1 ≡ i + 1 - 1 = omega (arith, c.from) in
-      let m = down_more t at (at + 1) (at + place_count) bounds (i - 1) d c.copied (omega (arith, c.from)) in
-      record {
-        from = omega arith;
-        fits = c.fits;
-        copied = subst (λ (l : List ℕ). Copied t at y (i + 1 - 1) l) (λ j. set d (to j) (get_or d (from j) 0))
-            (subst (λ (k : ℕ). Copied t at y k (set d (at + (i - 1)) (get_or d (at + 1 + (i - 1)) 0))) count m);
-      }
-
-  -- all are, and a 0 is behind them
-  pub shift_all : place_count ≤ i → set d (at + 15) 0 ≡ pasted t at (part (at + 1) (at + place_count) t ++ 0 ∷ [])
-  unfolding moved pasted
-  shift_all h =
-      let y = part (at + 1) (at + place_count) t in
-      let ly = length_part (at + 1) (at + place_count) t c.fits in
-      let all : d ≡ pasted t at y = down_all t at (at + 1) (at + place_count) bounds (i - 1) d c.copied (omega arith) in
-      let last : at + 15 ≡ at + length y = omega arith in
-      let same = c.copied.same in
-      set_split d (at + 15) 0 (omega (arith, c.fits))
-      ∙ ap (λ (k : ℕ). take (at + 15) d ++ 0 ∷ drop k d) (sym (add-one (at + 15)))
-      ∙ (λ j. pasted (all j) (last j) (0 ∷ []))
-      ∙ paste_after t at y (omega (arith, c.fits)) (0 ∷ [])
+-- and a 0 stands behind them
+pub shifted :
+    (t d : List ℕ) (at n : ℕ) → at + place_count ≤ length t → n ≡ 15 → d ≡ paste t at (drop (at + 1) t) n →
+    set d (at + place_count - 1) 0 ≡ pasted t at (part (at + 1) (at + place_count) t ++ 0 ∷ [])
+unfolding pasted
+shifted t d at n h q e =
+    let y = part (at + 1) (at + place_count) t in
+    let count : n ≡ at + place_count - (at + 1) = omega arith in
+    let ly : length y ≡ 15 = simp (length-take, length-drop) (omega arith) in
+    let front : length (take at t ++ y) ≡ at + place_count - 1 = simp (length-append, length-take-le at t (omega arith), ly) (omega arith) in
+    let behind : at + (at + place_count - (at + 1)) ≡ at + 15 = omega arith in
+    let past : suc (at + 15) ≡ at + length (y ++ 0 ∷ []) = simp (length-append, ly) (omega arith) in
+    ap (λ (l : List ℕ). set l (at + place_count - 1) 0) (e ∙ ap (paste t at (drop (at + 1) t)) count)
+    ∙ (λ i. set (take at t ++ y ++ drop (behind i) t) (at + place_count - 1) 0)
+    ∙ ap (λ (l : List ℕ). set (take at t ++ y ++ l) (at + place_count - 1) 0) (drop-cons t (at + 15) 0 (omega arith))
+    ∙ set_at (take at t ++ y) (get_or t (at + 15) 0) (drop (suc (at + 15)) t) 0 (at + place_count - 1) front
+    ∙ (λ i. take at t ++ y ++ 0 ∷ drop (past i) t) ∙ append_assoc (take at t) y _ ∙ ap (λ (l : List ℕ). take at t ++ l) (sym (append_assoc y (0 ∷ []) _))
 
 module _ (t : List ℕ) (n : ChannelNumber) (w : Way) (k at : ℕ) (a : at ≡ lengths_at n w) where
   -- the first length is fewer

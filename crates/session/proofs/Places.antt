@@ -9,6 +9,7 @@ use lib.ListN.{length, take, drop, get_or, set, replicate, length-append, length
 use lib.Seq.{take-append-add, set-append_seam, get_or-append-add}
 use lib.Dec.{ltb, leb}
 use borrow.Author.Tests.{ne_eqb, le-ltb, lt-ltb, leb-true, leb-false}
+use Rattle.std.proofs.lemmas.List.{take-replicate}
 use Rattle.rules.specs.Checks.{◌⇒◌else◌}
 use Rattle.rules.specs.Datagrams.{place_count, another, lessened}
 use Rattle.rules.proofs.Laws.{stop, skip}
@@ -23,18 +24,13 @@ places_size ls =
     let g = length-replicate {A = ℕ} place_count 0 in
     omega arith
 
-zeros_front : (k n : ℕ) → k ≤ n → take k (replicate {A = ℕ} n 0) ≡ replicate k 0
-zeros_front zero n h = refl
-zeros_front (suc k) zero h = absurd (omega arith)
-zeros_front (suc k) (suc n) h = ap (λ (l : List ℕ). 0 ∷ l) (zeros_front k n (omega arith))
-
 -- lengths that fit have zeros behind them
 places_are : (ls : List ℕ) → length ls ≤ place_count → places ls ≡ ls ++ replicate (place_count - length ls) 0
 unfolding places
 places_are ls h =
     let e : place_count ≡ length ls + (place_count - length ls) = omega arith in
     ap (λ (k : ℕ). take k (ls ++ replicate place_count 0)) e ∙ take-append-add ls (replicate place_count 0) (place_count - length ls)
-    ∙ ap (λ (l : List ℕ). ls ++ l) (zeros_front (place_count - length ls) place_count (omega arith))
+    ∙ ap (λ (l : List ℕ). ls ++ l) (take-replicate (place_count - length ls) place_count 0 (omega arith))
 
 -- lengths that have bytes are read back
 lengths_read : (n : ℕ) (ls : List ℕ) (m : ℕ) (y : List ℕ) → n ≡ length ls + m → Some ls → lengths_from n (ls ++ (replicate m 0 ++ y)) ≡ ls

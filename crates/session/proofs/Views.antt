@@ -50,12 +50,6 @@ unfolding places_used queue
 few_lengths c h Receive = (h.lengths Receive).few
 few_lengths c h Send = omega (arith, (h.lengths Send).few)
 
--- from two on a number is that of a dropped link
-pub link_dropped : (n : ℕ) → 2 ≤ n → Dropped ≡ link_of n
-link_dropped zero h = absurd (omega arith)
-link_dropped (suc zero) h = absurd (omega arith)
-link_dropped (suc (suc n)) h = refl
-
 -- what is held is read back from the front of its space
 take_pad : (n : ℕ) (l w : List ℕ) → take (length l) (pad n l ++ w) ≡ l
 unfolding pad

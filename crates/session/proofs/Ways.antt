@@ -1,6 +1,6 @@
 -- The places of one way among the numbers of a ledger: read, one length more, and fewer bytes from the first.
 -- Assumes nothing.
-use Prim.Native.Nat.{ℕ, zero, suc, ◌+◌, ◌-◌, ◌≤◌, ◌<◌}
+use Prim.Native.Nat.{ℕ, suc, ◌+◌, ◌-◌, ◌≤◌, ◌<◌}
 use mathlib.Core.Path.{◌≡◌, refl, sym, ap, ◌∙◌}
 use mathlib.Core.Bool.{Bool, true, false}
 use mathlib.Core.List.{List, [], ◌∷◌, ◌++◌, append_assoc}
@@ -15,29 +15,12 @@ use Rattle.rules.specs.Checks.{◌⇒◌else◌}
 use Rattle.rules.specs.Datagrams.{place_count, another, lessened}
 use Rattle.rules.specs.State.{Chan, queue, with_queue, held}
 use Rattle.rules.proofs.Datagrams.{Some, first}
+use Rattle.std.proofs.lemmas.List.{set-append_left, set-append_right}
 use Rattle.octets.specs.Parts.{part, pasted}
+use Rattle.octets.proofs.Pastes.{paste_parts}
 use Rattle.session.specs.Book.{numbers_of, lengths_in_entry, lengths_from, places}
 use Rattle.session.specs.Picture.{entry, chan_numbers}
 use Rattle.session.proofs.Places.{places_size, places_read, places_more, places_less, places_first}
-
--- a number in the front of a list
-set_front : (p q : List ℕ) (i v : ℕ) → i < length p → set (p ++ q) i v ≡ set p i v ++ q
-set_front [] q i v h = absurd (omega arith)
-set_front (x ∷ p) q zero v h = refl
-set_front (x ∷ p) q (suc i) v h = ap (λ (l : List ℕ). x ∷ l) (set_front p q i v (omega arith))
-
-set_behind : (p q : List ℕ) (i v at : ℕ) → at ≡ length p + i → set (p ++ q) at v ≡ p ++ set q i v
-set_behind [] q i v at e = ap (λ (k : ℕ). set q k v) (let f : at ≡ i = omega arith in f)
-set_behind (x ∷ p) q i v zero e = absurd (omega arith)
-set_behind (x ∷ p) q i v (suc at) e = ap (λ (l : List ℕ). x ∷ l) (set_behind p q i v at (omega arith))
-
--- as many numbers in the place of others
-pub paste_parts : (f x g s : List ℕ) (at : ℕ) → length f ≡ at → length s ≡ length x → pasted (f ++ (x ++ g)) at s ≡ f ++ (s ++ g)
-unfolding pasted
-paste_parts f x g s at e l =
-    let q : at + length s ≡ length f + length x = omega arith in
-    (λ i. take_at f (x ++ g) at e i ++ (s ++ drop (q i) (f ++ (x ++ g))))
-    ∙ ap (λ (t : List ℕ). f ++ (s ++ t)) (drop-append-add f (x ++ g) (length x) ∙ drop_at x g (length x) refl)
 
 either_parts : (b : Bool) (f g x y : List ℕ) → (b ⇒ f ++ (x ++ g) else f ++ (y ++ g)) ≡ f ++ ((b ⇒ x else y) ++ g)
 unfolding ◌⇒◌else◌
@@ -58,7 +41,8 @@ module _ (f g ls : List ℕ) (at : ℕ) (e : length f ≡ at) where
 
   way_set : (i v : ℕ) → i < place_count → set t (at + i) v ≡ f ++ (set (places ls) i v ++ g)
   way_set i v h =
-      set_behind f (places ls ++ g) i v (at + i) (omega arith) ∙ ap (λ (l : List ℕ). f ++ l) (set_front (places ls) g i v (omega (arith, places_size ls)))
+      set-append_right f (places ls ++ g) at (at + i) v e (omega arith) ∙ ap (λ (k : ℕ). f ++ set (places ls ++ g) k v) (let q : at + i - at ≡ i = omega arith in q)
+      ∙ ap (λ (l : List ℕ). f ++ l) (set-append_left (places ls) g i v (omega (arith, places_size ls)))
 
   pub way_more : (k : ℕ) → length ls < place_count → set t (at + length ls) (suc k) ≡ f ++ (places (another ls (suc k)) ++ g)
   way_more k h = way_set (length ls) (suc k) h ∙ ap (λ (l : List ℕ). f ++ (l ++ g)) (places_more ls k h)
@@ -82,7 +66,7 @@ module _ (f g ls : List ℕ) (at : ℕ) (e : length f ≡ at) where
       let x : get_or t at 0 ≡ get_or (places ls) 0 0 = ap (λ (j : ℕ). get_or t j 0) (sym (add-zero at)) ∙ way_get 0 (omega arith) in
       let shorter = ap (λ (j : ℕ). set t j (get_or t at 0 - k)) (sym (add-zero at)) ∙ way_set 0 (get_or t at 0 - k) (omega arith) in
       let moved = ap (λ (l : List ℕ). pasted t at (l ++ 0 ∷ [])) way_part
-      ∙ paste_parts f (places ls) g (drop 1 (places ls) ++ 0 ∷ []) at e
+      ∙ paste_parts f (places ls) (drop 1 (places ls) ++ 0 ∷ []) g at e
       (let a = length-append (drop 1 (places ls)) (0 ∷ []) in let d = length-drop 1 (places ls) in omega arith) in
       (λ i. ltb k (x i) ⇒ shorter i else moved i)
       ∙ (λ i. ltb k (get_or (places ls) 0 0) ⇒ f ++ (set (places ls) 0 (x i - k) ++ g) else f ++ ((drop 1 (places ls) ++ 0 ∷ []) ++ g))

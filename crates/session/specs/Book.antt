@@ -1,5 +1,5 @@
 -- The ledger's numbers: where they stand, and the entry of a channel among them.
-use Rattle.std.specs.Prelude.{ℕ, zero, suc, ◌+◌, ◌-◌, ◌*◌, Bool, true, false, List, [], ◌∷◌, ◌++◌, length, get_or, set, take, drop, replicate, ltb, eqb}
+use Rattle.std.specs.Prelude.{ℕ, zero, suc, ◌+◌, ◌-◌, ◌*◌, ◌≤◌, Bool, true, false, List, [], ◌∷◌, ◌++◌, length, get_or, set, take, drop, replicate, ltb, eqb}
 use Rattle.rules.specs.Checks.{◌⇒◌else◌}
 use Rattle.rules.specs.Datagrams.{place_count}
 use Rattle.rules.specs.declared.Way.{Way}
@@ -37,6 +37,10 @@ ledger_size = 330
 -- where the numbers of a timer begin; k counts the timers before it
 abbrev pub timer_at : ℕ → ℕ
 timer_at k = timer_size * k + timers_at
+
+-- the number of one of the seven channels
+abbrev pub IsChannel : ChannelNumber → Type 0
+IsChannel n = (1 ≤ n.0) × (n.0 ≤ 7)
 
 -- where the entry of a channel begins; k counts the channels before it
 abbrev pub entry_at : ℕ → ℕ

@@ -1,7 +1,7 @@
 -- What a call hands back: the session, how it ended, and the lent buffer.
 use Rattle.std.specs.Prelude.{ℕ, ◌≡◌, List}
 use Rattle.rules.specs.Command.{Answer, ended_of, written_by}
-use Rattle.rules.specs.declared.Ended.{Ended}
+use Rattle.rules.specs.Words.{Ended}
 use Rattle.octets.specs.Parts.{overlaid}
 use Rattle.session.specs.Picture.{Shows, GoodIn}
 

@@ -23,22 +23,22 @@ abbrev pub Changed : List ℕ → List ℕ → ChannelNumber → Chan → List �
 Changed t p n c t' p' = Shows (with_chan (shown t p) n c) t' p'
 
 -- how many bytes an entry counts for a way, and how many of them are due to be handed out
-unfoldable pub held_in : Channel → Way → ℕ
+abbrev pub held_in : Channel → Way → ℕ
 held_in e Receive = e.rx
 held_in e Send = e.tx
 
-unfoldable pub due_in : Channel → Way → ℕ
+abbrev pub due_in : Channel → Way → ℕ
 due_in e Receive = e.rx
 due_in e Send = e.ready
 
 -- an entry that counts bytes more for a way, and one without its first bytes
-unfoldable pub more_in : Channel → Way → ℕ → Channel
-more_in e Receive k = record { grant = e.grant; link = e.link; rx = e.rx + k; tx = e.tx; ready = e.ready; carries = e.carries }
-more_in e Send k = record { grant = e.grant; link = e.link; rx = e.rx; tx = e.tx + k; ready = e.ready; carries = e.carries }
+abbrev pub more_in : Channel → Way → ℕ → Channel
+more_in e Receive k = record e { rx = e.rx + k }
+more_in e Send k = record e { tx = e.tx + k }
 
-unfoldable pub less_in : Channel → Way → ℕ → Channel
-less_in e Receive k = record { grant = e.grant; link = e.link; rx = e.rx - k; tx = e.tx; ready = e.ready; carries = e.carries }
-less_in e Send k = record { grant = e.grant; link = e.link; rx = e.rx; tx = e.tx - k; ready = e.ready - k; carries = e.carries }
+abbrev pub less_in : Channel → Way → ℕ → Channel
+less_in e Receive k = record e { rx = e.rx - k }
+less_in e Send k = record e { tx = e.tx - k; ready = e.ready - k }
 
 -- an entry with the grant and the counts of another; its link and its ready bytes may be others
 pub record Marks (e x : Channel) : Type 0 where
@@ -50,4 +50,4 @@ pub record Marks (e x : Channel) : Type 0 where
 
 -- the state with another event list
 abbrev pub with_events : State → Events → State
-with_events a e = record { profile = a.profile; events = e; chans = a.chans; timers = a.timers }
+with_events a e = record a { events = e }

@@ -6,28 +6,16 @@ ghost use Rattle.rules.specs.Pool.{cells, unpromised};
 ghost use Rattle.rules.specs.Profile.{profile_size, kept};
 ghost use Rattle.rules.specs.declared.Way.TheVariants.{Receive};
 ghost use Rattle.rules.specs.Datagrams.{place_count};
-ghost use Rattle.rules.specs.State.{start, room, at_once, queue, closed, fresh, marked, appended, whole, removed};
+ghost use Rattle.rules.specs.State.{start, is_stream, room, at_once, chan, queue, closed, fresh, marked, appended, whole, removed};
 ghost use Rattle.octets.specs.Parts.{pasted};
 ghost use Rattle.rules.specs.Own.{capped};
-ghost use Rattle.session.specs.Book.{free_at, free_in, ledger_size, entry_in, with_entry, lengths_at, lengths_in, with_length, less_length, with_list};
-ghost use Rattle.session.specs.Picture.{Good, Shows, link_number, link_of, carries_number, ledger_of, shown, base_in, start_in};
-ghost use Rattle.session.specs.Changed.{Numbered, chan_in, Changed, held_in, due_in, more_in, less_in, Marks};
+ghost use Rattle.session.specs.Book.{IsChannel, entry_at, free_at, free_in, ledger_size, entry_in, with_entry, lengths_at, lengths_in, with_length, less_length, with_list};
+ghost use Rattle.session.specs.Picture.{Good, Shows, link_of, carries_of, ledger_of, view, base_in, start_in};
+ghost use Rattle.session.specs.Changed.{Numbered, Changed, held_in, due_in, more_in, less_in, Marks};
 
 use octets;
 use pool::Pool;
-use rules::{Carries, ChannelNumber, Ended, Events, Link, Way};
-
-// The numbers by which the ledger has a link.
-pub const NOT_YET: u16 = 0;
-
-pub const ESTABLISHED: u16 = 1;
-
-pub const DROPPED: u16 = 2;
-
-// The numbers by which the ledger has what a channel carries.
-pub const STREAM: u16 = 0;
-
-pub const DATAGRAMS: u16 = 1;
+use rules::{Carries, ChannelNumber, Events, Link, Refusal, Way};
 
 // The ledger, which is numbers: where they stand, and how many there are.
 #[derive(Drop)]
@@ -82,7 +70,7 @@ pub struct Session {
 #[derive(Drop)]
 pub struct Answered {
     pub session: Session,
-    pub ended: Ended,
+    pub ended: Result<usize, Refusal>,
 }
 
 // The link of a number.
@@ -96,18 +84,24 @@ pub fn link_of(number: u16) -> Link
     }
 }
 
-// The number of a link.
-fn link_number(link: Link) -> u16
-    ensures { result ≡ link_number link }
-{
-    match link {
-        Link::NotYet => NOT_YET,
-        Link::Established => ESTABLISHED,
-        Link::Dropped => DROPPED,
-    }
-}
-
 impl Channel {
+    // The entry of a channel that is not open.
+    const CLOSED: Channel = Channel {
+        grant: 0,
+        link: Link::NotYet as u16,
+        rx: 0,
+        tx: 0,
+        ready: 0,
+        carries: Carries::Stream as u16,
+    };
+
+    // Whether the channel carries a stream.
+    pub fn is_stream(self) -> bool
+        ensures { result ≡ is_stream (carries_of self.carries) }
+    {
+        self.carries == Carries::Stream as u16
+    }
+
     // How many bytes are held for a way.
     fn held(self, way: Way) -> usize
         ensures { result ≡ held_in self way }
@@ -133,12 +127,16 @@ impl Channel {
         requires { held_in self way + count ≤ 65535 }
         ensures { result ≡ more_in self way count }
     {
-        let mut c = self;
         match way {
-            Way::Receive => c.rx = (c.rx as usize + count) as u16,
-            Way::Send => c.tx = (c.tx as usize + count) as u16,
+            Way::Receive => Channel {
+                rx: self.rx + count as u16,
+                ..self
+            },
+            Way::Send => Channel {
+                tx: self.tx + count as u16,
+                ..self
+            },
         }
-        c
     }
 
     // The entry without the first bytes of a way, which were ready if they were to be sent.
@@ -146,24 +144,35 @@ impl Channel {
         requires { (count ≤ held_in self way) × (count ≤ due_in self way) }
         ensures { result ≡ less_in self way count }
     {
-        let mut c = self;
         match way {
-            Way::Receive => c.rx = (c.rx as usize - count) as u16,
-            Way::Send => {
-                c.tx = (c.tx as usize - count) as u16;
-                c.ready = (c.ready as usize - count) as u16;
-            }
+            Way::Receive => Channel {
+                rx: self.rx - count as u16,
+                ..self
+            },
+            Way::Send => Channel {
+                tx: self.tx - count as u16,
+                ready: self.ready - count as u16,
+                ..self
+            },
         }
-        c
     }
 }
 
+// Where the entry of a channel begins; k counts the channels before it.
+fn entry_at(k: usize) -> usize
+    requires { k ≤ 6 }
+    ensures { result ≡ entry_at k }
+{
+    Ledger::ENTRY * k + Ledger::CHANNELS_AT
+}
+
 // The entry of a channel.
+// Kept: that the number is one of the seven is asked for, as `IsChannel`. A type of its own would be made anew from a ChannelNumber at each call of the crates above, whose contracts and laws speak of that, by a test that they have made or by the same `requires`.
 pub fn entry(ledger: &[u16; Ledger::SIZE], n: ChannelNumber) -> Channel
-    requires { (1 ≤ n.0) × (n.0 ≤ 7) × (length ledger.now ≡ ledger_size) }
+    requires { IsChannel n }
     ensures { result ≡ entry_in ledger.now n }
 {
-    let at = Ledger::ENTRY * (n.0 as usize - 1) + Ledger::CHANNELS_AT;
+    let at = entry_at(n.0 as usize - 1);
     Channel {
         grant: ledger[at],
         link: ledger[at + 1],
@@ -176,10 +185,10 @@ pub fn entry(ledger: &[u16; Ledger::SIZE], n: ChannelNumber) -> Channel
 
 // Writes the entry of a channel.
 pub fn put_entry(ledger: &mut [u16; Ledger::SIZE], n: ChannelNumber, c: Channel)
-    requires { (1 ≤ n.0) × (n.0 ≤ 7) × (length ledger.old ≡ ledger_size) }
+    requires { IsChannel n }
     ensures { ledger.new ≡ with_entry ledger.old n c }
 {
-    let at = Ledger::ENTRY * (n.0 as usize - 1) + Ledger::CHANNELS_AT;
+    let at = entry_at(n.0 as usize - 1);
     ledger[at] = c.grant;
     ledger[at + 1] = c.link;
     ledger[at + 2] = c.rx;
@@ -188,28 +197,25 @@ pub fn put_entry(ledger: &mut [u16; Ledger::SIZE], n: ChannelNumber, c: Channel)
     ledger[at + 5] = c.carries;
 }
 
-// Where the region of channel k begins: the regions of the channels before it stand one after the other.
-fn base(ledger: &[u16; Ledger::SIZE], k: usize) -> usize
-    requires { (k ≤ 7) × (length ledger.now ≡ ledger_size) }
-    ensures value { result ≡ base_in ledger.now k }
-    ensures upper_bound { result ≤ 131072 * k }
+// Where the region of a channel begins: the regions of the channels before it stand one after the other.
+fn base(ledger: &[u16; Ledger::SIZE], n: ChannelNumber) -> usize
+    requires { IsChannel n }
+    ensures value { result ≡ base_in ledger.now (n.0 - 1) }
+    ensures upper_bound { result ≤ 6 * 131072 }
 {
-    let mut at: usize = 0;
-    let mut i: usize = 0;
-    while i < k {
-        let grant = ledger[Ledger::ENTRY * i + Ledger::CHANNELS_AT];
-        at += 2 * Pool::space(grant);
-        i += 1;
+    let mut at = 0;
+    for i in 0..n.0 as usize - 1 {
+        at += 2 * Pool::space(ledger[entry_at(i)]);
     }
     at
 }
 
 // Where the bytes of a channel with that grant begin for a way: its cells for receive stand before those for send.
 pub fn start_of(ledger: &[u16; Ledger::SIZE], n: ChannelNumber, grant: u16, way: Way) -> usize
-    requires { (1 ≤ n.0) × (n.0 ≤ 7) × (length ledger.now ≡ ledger_size) }
+    requires { IsChannel n }
     ensures { result ≡ start_in ledger.now n grant way }
 {
-    let at = base(ledger, (n.0 - 1) as usize);
+    let at = base(ledger, n);
     match way {
         Way::Receive => at,
         Way::Send => at + Pool::space(grant),
@@ -218,16 +224,14 @@ pub fn start_of(ledger: &[u16; Ledger::SIZE], n: ChannelNumber, grant: u16, way:
 
 // The cells that are not promised to any channel.
 pub fn free_cells(ledger: &[u16; Ledger::SIZE]) -> usize
-    requires { length ledger.now ≡ ledger_size }
     ensures { result ≡ free_in ledger.now }
 {
-    let free = &ledger[Ledger::FREE_AT];
-    *free as usize
+    ledger[Ledger::FREE_AT] as usize
 }
 
 // Writes how many cells are not promised.
 fn put_free(ledger: &mut [u16; Ledger::SIZE], free: usize)
-    requires { (length ledger.old ≡ ledger_size) × (free ≤ 65535) }
+    requires { free ≤ 65535 }
     ensures { ledger.new ≡ set ledger.old free_at free }
 {
     ledger[Ledger::FREE_AT] = free as u16;
@@ -235,58 +239,26 @@ fn put_free(ledger: &mut [u16; Ledger::SIZE], free: usize)
 
 // Where the lengths of a channel and a way stand.
 fn lengths_at(n: ChannelNumber, way: Way) -> usize
-    requires { (1 ≤ n.0) × (n.0 ≤ 7) }
+    requires { IsChannel n }
     ensures { result ≡ lengths_at n way }
 {
-    let at = Ledger::ENTRY * (n.0 as usize - 1) + Ledger::CHANNELS_AT + Ledger::LENGTHS;
+    let at = entry_at(n.0 as usize - 1) + Ledger::LENGTHS;
     match way {
         Way::Receive => at,
         Way::Send => at + Ledger::PLACES,
     }
 }
 
-// Whether every place of a way has a datagram.
-pub fn is_crowded(
-    ledger: &[u16; Ledger::SIZE],
-    pool: &[u8; Pool::SIZE],
-    n: ChannelNumber,
-    way: Way,
-) -> bool
-    requires { Numbered ledger.now pool.now n }
-    ensures { result ≡ leb place_count (length (queue (chan_in ledger.now pool.now n) way).lengths) }
-{
-    let at = lengths_at(n, way);
-    0 < ledger[at + (Ledger::PLACES - 1)]
-}
-
-// How many bytes of a way may be handed out at once: of a stream all that are due, of datagrams those of the first.
-pub fn at_once(
-    ledger: &[u16; Ledger::SIZE],
-    pool: &[u8; Pool::SIZE],
-    n: ChannelNumber,
-    c: Channel,
-    way: Way,
-) -> usize
-    requires { Numbered ledger.now pool.now n × (c ≡ entry_in ledger.now n) }
-    ensures { result ≡ at_once (chan_in ledger.now pool.now n) way }
-{
-    if c.carries == STREAM {
-        return c.due(way);
-    }
-    let at = lengths_at(n, way);
-    let first = &ledger[at];
-    *first as usize
-}
-
 // How many datagrams of a way are whole, where one more has a place.
 fn whole_count(ledger: &[u16; Ledger::SIZE], n: ChannelNumber, way: Way) -> usize
-    requires le_n { (1 ≤ n.0) × (n.0 ≤ 7) × (length ledger.now ≡ ledger_size) }
-    requires way_len_bound { length (lengths_in ledger.now n way) + 1 ≤ place_count }
+    requires channel { IsChannel n }
+    requires place { length (lengths_in ledger.now n way) + 1 ≤ place_count }
     ensures { result ≡ length (lengths_in ledger.now n way) }
 {
+    // Kept: `position` over the lengths is slower. Where it ends at the last place the compiler writes it out 16 times, so that `append` is no part of its callers, and an arrival costs 54 instructions more; where it ends with the ledger an arrival behind 15 datagrams costs 33 more.
     let at = lengths_at(n, way);
-    let mut i: usize = 0;
-    while 0 < ledger[at + i] {
+    let mut i = 0;
+    while ledger[at + i] != 0 {
         i += 1;
     }
     i
@@ -294,11 +266,11 @@ fn whole_count(ledger: &[u16; Ledger::SIZE], n: ChannelNumber, way: Way) -> usiz
 
 // One datagram more of so many bytes, at the first place that is free; no bytes make none.
 fn count_whole(ledger: &mut [u16; Ledger::SIZE], n: ChannelNumber, way: Way, len: usize)
-    requires le_n { (1 ≤ n.0) × (n.0 ≤ 7) × (length ledger.old ≡ ledger_size) × (len ≤ 65535) }
-    requires len_len_bound { length (lengths_in ledger.old n way) + min 1 len ≤ place_count }
+    requires channel { IsChannel n × (len ≤ 65535) }
+    requires place { length (lengths_in ledger.old n way) + min 1 len ≤ place_count }
     ensures { ledger.new ≡ with_length ledger.old n way len }
 {
-    if len < 1 {
+    if len == 0 {
         return;
     }
     let at = lengths_at(n, way);
@@ -308,153 +280,119 @@ fn count_whole(ledger: &mut [u16; Ledger::SIZE], n: ChannelNumber, way: Way, len
 
 // The first bytes of a way's first datagram go: what is left of it is the first, or the others move to the front.
 fn count_less(ledger: &mut [u16; Ledger::SIZE], n: ChannelNumber, way: Way, count: usize)
-    requires { (1 ≤ n.0) × (n.0 ≤ 7) × (length ledger.old ≡ ledger_size) }
+    requires { IsChannel n }
     ensures { ledger.new ≡ less_length ledger.old n way count }
 {
     let at = lengths_at(n, way);
-    let p = &ledger[at];
-    let first = *p as usize;
+    let first = ledger[at] as usize;
     if count < first {
         ledger[at] = (first - count) as u16;
         return;
     }
-    let mut i: usize = 1;
-    while i < Ledger::PLACES {
-        let next = ledger[at + i];
-        ledger[at + i - 1] = next;
-        i += 1;
+    let last = at + Ledger::PLACES - 1;
+    for i in at..last {
+        ledger[i] = ledger[i + 1];
     }
-    ledger[at + (Ledger::PLACES - 1)] = 0;
-}
-
-// Bytes come to a way: they stand behind those held, and of datagrams the last `len` that are then due are a whole one. The entry is the channel's, but that its link and its ready bytes may be new.
-pub fn append(
-    ledger: &mut [u16; Ledger::SIZE],
-    pool: &mut [u8; Pool::SIZE],
-    n: ChannelNumber,
-    c: Channel,
-    way: Way,
-    bytes: &[u8],
-    len: usize,
-)
-    requires numbered { Numbered ledger.old pool.old n × Marks c (entry_in ledger.old n) }
-    requires bytes_len_bound { length bytes.now ≤ room (chan_in ledger.old pool.old n) way }
-    requires len_bound { (len ≤ 65535) × (length (queue (chan_in ledger.old pool.old n) way).lengths + min 1 len ≤ place_count) }
-    ensures { Changed ledger.old pool.old n (whole (appended (marked (chan_in ledger.old pool.old n) (link_of c.link) c.ready) way bytes.now) way len) ledger.new pool.new }
-{
-    let at = start_of(ledger, n, c.grant, way) + c.held(way);
-    octets::put(pool, at, bytes);
-    put_entry(ledger, n, c.more(way, bytes.len()));
-    if c.carries == STREAM {
-        return;
-    }
-    count_whole(ledger, n, way, len);
-}
-
-// The first `count` bytes of a way, which begins at `at`, go: the rest move to the front.
-pub fn remove(
-    ledger: &mut [u16; Ledger::SIZE],
-    pool: &mut [u8; Pool::SIZE],
-    n: ChannelNumber,
-    c: Channel,
-    way: Way,
-    at: usize,
-    count: usize,
-)
-    requires numbered { Numbered ledger.old pool.old n × (c ≡ entry_in ledger.old n) × (at ≡ start_in ledger.old n c.grant way) }
-    requires count_bound { count ≤ at_once (chan_in ledger.old pool.old n) way }
-    ensures { Changed ledger.old pool.old n (removed (chan_in ledger.old pool.old n) way count) ledger.new pool.new }
-{
-    octets::cut(pool, at, count, at + c.held(way));
-    put_entry(ledger, n, c.less(way, count));
-    if c.carries == STREAM {
-        return;
-    }
-    count_less(ledger, n, way, count);
+    ledger[last] = 0;
 }
 
 // Clears the lengths of a channel.
 fn clear_lengths(ledger: &mut [u16; Ledger::SIZE], n: ChannelNumber)
-    requires { (1 ≤ n.0) × (n.0 ≤ 7) × (length ledger.old ≡ ledger_size) }
+    requires { IsChannel n }
     ensures { ledger.new ≡ pasted ledger.old (lengths_at n Receive) (replicate 32 0) }
 {
     let at = lengths_at(n, Way::Receive);
-    let mut i: usize = 0;
-    while i < 2 * Ledger::PLACES {
-        ledger[at + i] = 0;
-        i += 1;
+    ledger[at..at + 2 * Ledger::PLACES].fill(0);
+}
+
+impl Session {
+    // Whether every place of a way has a datagram.
+    pub fn is_crowded(&self, n: ChannelNumber, way: Way) -> bool
+        requires { Numbered self.now.ledger self.now.pool n }
+        ensures { result ≡ leb place_count (length (queue (chan (view self.now) n) way).lengths) }
+    {
+        let at = lengths_at(n, way);
+        0 < self.ledger[at + (Ledger::PLACES - 1)]
     }
-}
 
-// The channel ends: its region goes, and the later ones move down into its cells.
-pub fn close_channel(
-    ledger: &mut [u16; Ledger::SIZE],
-    pool: &mut [u8; Pool::SIZE],
-    n: ChannelNumber,
-    grant: u16,
-)
-    requires { Numbered ledger.old pool.old n × (grant ≡ (entry_in ledger.old n).grant) }
-    ensures { Changed ledger.old pool.old n closed ledger.new pool.new }
-{
-    let at = base(ledger, (n.0 - 1) as usize);
-    let free = free_cells(ledger);
-    let used = Pool::SIZE - Pool::CELL_SIZE * free;
-    octets::cut(pool, at, 2 * Pool::space(grant), used);
-    let none = Channel {
-        grant: 0,
-        link: NOT_YET,
-        rx: 0,
-        tx: 0,
-        ready: 0,
-        carries: STREAM,
-    };
-    put_entry(ledger, n, none);
-    clear_lengths(ledger, n);
-    put_free(ledger, free + 2 * Pool::cells(grant));
-}
-
-// The number of what a channel carries.
-fn carries_number(carries: Carries) -> u16
-    ensures { result ≡ carries_number carries }
-{
-    match carries {
-        Carries::Stream => STREAM,
-        Carries::Datagrams => DATAGRAMS,
+    // How many bytes of a way may be handed out at once: of a stream all that are due, of datagrams those of the first.
+    pub fn at_once(&self, n: ChannelNumber, c: Channel, way: Way) -> usize
+        requires { Numbered self.now.ledger self.now.pool n × (c ≡ entry_in self.now.ledger n) }
+        ensures { result ≡ at_once (chan (view self.now) n) way }
+    {
+        if c.is_stream() {
+            return c.due(way);
+        }
+        self.ledger[lengths_at(n, way)] as usize
     }
-}
 
-// The channel is opened with a grant: an empty region comes, and the later ones move up.
-pub fn open_channel(
-    ledger: &mut [u16; Ledger::SIZE],
-    pool: &mut [u8; Pool::SIZE],
-    n: ChannelNumber,
-    grant: u16,
-    link: Link,
-    carries: Carries,
-)
-    requires numbered { Numbered ledger.old pool.old n }
-    requires n_value { ((chan_in ledger.old pool.old n).grant ≡ 0) × (2 * cells grant ≤ unpromised (shown ledger.old pool.old)) }
-    ensures { Changed ledger.old pool.old n (fresh grant link carries) ledger.new pool.new }
-{
-    let at = base(ledger, (n.0 - 1) as usize);
-    let free = free_cells(ledger);
-    let used = Pool::SIZE - Pool::CELL_SIZE * free;
-    octets::spread_at(pool, at, 2 * Pool::space(grant), used);
-    let empty = Channel {
-        grant,
-        link: link_number(link),
-        rx: 0,
-        tx: 0,
-        ready: 0,
-        carries: carries_number(carries),
-    };
-    put_entry(ledger, n, empty);
-    put_free(ledger, free - 2 * Pool::cells(grant));
+    // Bytes come to a way: they stand behind those held, and of datagrams the last `len` that are then due are a whole one. The entry is the channel's, but that its link and its ready bytes may be new.
+    pub fn append(&mut self, n: ChannelNumber, c: Channel, way: Way, bytes: &[u8], len: usize)
+        requires numbered { Numbered self.old.ledger self.old.pool n × Marks c (entry_in self.old.ledger n) }
+        requires bytes_len_bound { length bytes.now ≤ room (chan (view self.old) n) way }
+        requires len_bound { (len ≤ 65535) × (length (queue (chan (view self.old) n) way).lengths + min 1 len ≤ place_count) }
+        ensures { Changed self.old.ledger self.old.pool n (whole (appended (marked (chan (view self.old) n) (link_of c.link) c.ready) way bytes.now) way len) self.new.ledger self.new.pool }
+    {
+        let at = start_of(&self.ledger, n, c.grant, way) + c.held(way);
+        octets::put(&mut self.pool, at, bytes);
+        put_entry(&mut self.ledger, n, c.more(way, bytes.len()));
+        if c.is_stream() {
+            return;
+        }
+        count_whole(&mut self.ledger, n, way, len);
+    }
+
+    // The first `count` bytes of a way, which begins at `at`, go: the rest move to the front.
+    pub fn remove(&mut self, n: ChannelNumber, c: Channel, way: Way, at: usize, count: usize)
+        requires numbered { Numbered self.old.ledger self.old.pool n × (c ≡ entry_in self.old.ledger n) × (at ≡ start_in self.old.ledger n c.grant way) }
+        requires count_bound { count ≤ at_once (chan (view self.old) n) way }
+        ensures { Changed self.old.ledger self.old.pool n (removed (chan (view self.old) n) way count) self.new.ledger self.new.pool }
+    {
+        octets::cut(&mut self.pool, at, count, at + c.held(way));
+        put_entry(&mut self.ledger, n, c.less(way, count));
+        if c.is_stream() {
+            return;
+        }
+        count_less(&mut self.ledger, n, way, count);
+    }
+
+    // The channel ends: its region goes, and the later ones move down into its cells.
+    pub fn close_channel(&mut self, n: ChannelNumber, grant: u16)
+        requires { Numbered self.old.ledger self.old.pool n × (grant ≡ (entry_in self.old.ledger n).grant) }
+        ensures { Changed self.old.ledger self.old.pool n closed self.new.ledger self.new.pool }
+    {
+        let at = base(&self.ledger, n);
+        let free = free_cells(&self.ledger);
+        let used = Pool::SIZE - Pool::CELL_SIZE * free;
+        octets::cut(&mut self.pool, at, 2 * Pool::space(grant), used);
+        put_entry(&mut self.ledger, n, Channel::CLOSED);
+        clear_lengths(&mut self.ledger, n);
+        put_free(&mut self.ledger, free + 2 * Pool::cells(grant));
+    }
+
+    // The channel is opened with a grant: an empty region comes, and the later ones move up.
+    pub fn open_channel(&mut self, n: ChannelNumber, grant: u16, link: Link, carries: Carries)
+        requires numbered { Numbered self.old.ledger self.old.pool n }
+        requires n_value { ((chan (view self.old) n).grant ≡ 0) × (2 * cells grant ≤ unpromised (view self.old)) }
+        ensures { Changed self.old.ledger self.old.pool n (fresh grant link carries) self.new.ledger self.new.pool }
+    {
+        let at = base(&self.ledger, n);
+        let free = free_cells(&self.ledger);
+        let used = Pool::SIZE - Pool::CELL_SIZE * free;
+        octets::spread_at(&mut self.pool, at, 2 * Pool::space(grant), used);
+        let empty = Channel {
+            grant,
+            link: link as u16,
+            carries: carries as u16,
+            ..Channel::CLOSED
+        };
+        put_entry(&mut self.ledger, n, empty);
+        put_free(&mut self.ledger, free - 2 * Pool::cells(grant));
+    }
 }
 
 // Writes the event list.
 pub fn set_events(ledger: &mut [u16; Ledger::SIZE], events: Events)
-    requires { length ledger.old ≡ ledger_size }
     ensures { ledger.new ≡ with_list ledger.old events }
 {
     ledger[Ledger::AVAILABLE_AT] = events.available as u16;
@@ -465,49 +403,37 @@ pub fn set_events(ledger: &mut [u16; Ledger::SIZE], events: Events)
 pub fn capped(count: usize) -> u8
     ensures { result ≡ capped count }
 {
-    if count < 255 {
-        return count as u8;
-    }
-    255
-}
-
-// The lesser of two counts.
-pub fn least(a: usize, b: usize) -> usize
-    ensures { result ≡ min a b }
-{
-    if a < b {
-        return a;
-    }
-    b
+    count.min(255) as u8
 }
 
 // Clears every number, and writes the bytes of the profile in which every place lies.
 fn clear_but_profile(ledger: &mut [u16; Ledger::SIZE], profile: &[u8])
-    requires { length ledger.old ≡ ledger_size }
     ensures { ledger.new ≡ kept profile.now ++ replicate (ledger_size - profile_size) 0 }
 {
-    let mut i: usize = 0;
-    while i < Ledger::SIZE {
-        ledger[i] = 0;
-        i += 1;
-    }
-    let count = least(profile.len(), Ledger::PROFILE);
-    let mut k: usize = 0;
-    while k < count {
-        let b = profile[k];
-        ledger[k] = b as u16;
-        k += 1;
+    ledger.fill(0);
+    let kept = &profile[..profile.len().min(Ledger::PROFILE)];
+    for (i, byte) in kept.iter().enumerate() {
+        ledger[i] = *byte as u16;
     }
 }
 
 // Writes the ledger of a fresh session: what is kept of the profile, no event, no channel, and every cell unpromised.
 pub fn start_ledger(ledger: &mut [u16; Ledger::SIZE], profile: &[u8])
-    requires { length ledger.old ≡ ledger_size }
     ensures { ledger.new ≡ ledger_of (start profile.now) }
 {
-    let all = Pool::CELLS as u16;
     clear_but_profile(ledger, profile);
-    ledger[Ledger::FREE_AT] = all;
+    put_free(ledger, Pool::CELLS);
+}
+
+impl Session {
+    // A fresh session from profile bytes of any length, in this record, whatever it held.
+    pub fn restart(&mut self, profile: &[u8])
+        ensures shows { Shows (start profile.now) self.new.ledger self.new.pool }
+        ensures good { Good self.new }
+    {
+        self.pool.fill(0);
+        start_ledger(&mut self.ledger, profile);
+    }
 }
 
 // A fresh session from profile bytes of any length. Starting anew is a card reset.

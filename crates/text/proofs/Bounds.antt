@@ -10,11 +10,9 @@ use lib.Seq.{take-append_seam, length-take-le}
 use Rattle.rules.specs.Command.{Outcome, wrote, refused, ended_of, written_by}
 use Rattle.rules.specs.Lines.{printed}
 use Rattle.octets.specs.Parts.{overlaid}
-use Rattle.rules.specs.declared.Ended.{Ended}
-use Rattle.rules.specs.declared.Ended.TheVariants.{Wrote, Refused}
+use Rattle.rules.specs.Words.{Ended}
+use Rattle.std.specs.Prelude.{Ok, Err, Option as CodeOption, Some, None}
 use Rattle.text.specs.Sizes.{short_line}
-use Rattle.text.specs.declared.Frame.{Frame}
-use Rattle.text.specs.declared.Frame.TheVariants.{Bytes, Unreadable}
 use Rattle.text.specs.Frames.{frame_told, frame_bytes}
 use Rattle.text.specs.Prints.{count_of, outcome_of, line_of}
 use Rattle.text.proofs.Printing.{value_few, refused_few}
@@ -26,7 +24,7 @@ pub record Read (o : Option (List ℕ)) (n : ℕ) (buffer : List ℕ) : Type 0 w
   pub bytes : o ≡ some (take n buffer)
 
 pub frame_read :
-    (o : Option (List ℕ)) (f : Frame) (n : ℕ) (before after : List ℕ) → (f ≡ frame_told o) × (after ≡ overlaid (frame_bytes o) before) → f ≡ Bytes n → Read o n after
+    (o : Option (List ℕ)) (f : CodeOption ℕ) (n : ℕ) (before after : List ℕ) → (f ≡ frame_told o) × (after ≡ overlaid (frame_bytes o) before) → f ≡ Some n → Read o n after
 unfolding frame_told frame_bytes overlaid
 frame_read none f n before after t e = absurd (let z : ◌≡◌ {A = ℕ} 0 1 = cc in omega arith)
 frame_read (some s) f n before after t e =
@@ -36,7 +34,7 @@ frame_read (some s) f n before after t e =
     record { fits = fits; size = sym (length-take-le n after fits); bytes = sym (ap some ((λ i. take (size i) (t.1 i)) ∙ take-append_seam s (drop (length s) before))) }
 
 -- a line that was not read has no frame
-pub frame_unread : (o : Option (List ℕ)) (f : Frame) → f ≡ frame_told o → f ≡ Unreadable → o ≡ none
+pub frame_unread : (o : Option (List ℕ)) (f : CodeOption ℕ) → f ≡ frame_told o → f ≡ None → o ≡ none
 unfolding frame_told
 frame_unread none f t e = refl
 frame_unread (some s) f t e = absurd (let z : ◌≡◌ {A = ℕ} 0 1 = cc in omega arith)
@@ -59,8 +57,8 @@ count_within o x before after t =
 -- a printed line has its line feed, and at most two digits for each byte of the buffer, or three characters
 printed_few : (x : Ended) (s : List ℕ) → length (printed (outcome_of x s)) ≤ 2 * length s + 3
 unfolding outcome_of
-printed_few (Wrote k) s = let e = length-take k s in let v = value_few (take k s) in omega arith
-printed_few (Refused r) s = let few = refused_few r in omega arith
+printed_few (Ok k) s = let e = length-take k s in let v = value_few (take k s) in omega arith
+printed_few (Err r) s = let few = refused_few r in omega arith
 
 pub line_within :
     (x : Ended) (s : List ℕ) (r at : ℕ) → r ≡ at + length (line_of (outcome_of x s)) → (at < r) × (r ≤ at + 2 * length s + short_line)

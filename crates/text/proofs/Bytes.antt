@@ -1,25 +1,19 @@
 -- The bytes of a line: what a pair of digits gives, and the scan that tells whether a line is readable.
 -- Assumes nothing.
-use Prim.Native.Nat.{ℕ, zero, suc, ◌+◌, ◌-◌, ◌*◌, ◌≤◌, ◌<◌}
+use Prim.Native.Nat.{ℕ, zero, suc, ◌+◌, ◌*◌, ◌%◌, ◌<◌}
 use mathlib.Core.Path.{◌≡◌, refl, sym, ap, ◌∙◌}
-use mathlib.Core.Bool.{Bool, true, false, not, ◌&&◌, false≢true}
+use mathlib.Core.Bool.{Bool, true, false, ◌&&◌, false≢true}
 use mathlib.Core.List.{List, [], ◌∷◌}
 use mathlib.Core.Option.{Option, none, some}
 use native.Mathlib.Omega.{arith}
-use native.Mathlib.Numerals.{add-one}
-use lib.ListN.{length, drop, get_or, drop_of_length-le}
-use lib.Seq.{drop-cons}
-use borrow.Author.Tests.{not-true, not-false}
+use lib.ListN.{length, get_or}
+use Rattle.std.specs.List.{list_all}
+use Rattle.std.specs.Char.{is_ascii_hexdigit}
+use Rattle.std.proofs.lemmas.Bool.Decides.{nat_tests}
+use Rattle.std.proofs.Math.Bool.{and_assoc}
 use Rattle.rules.specs.Lines.{is_digit, digit_value, with_byte, bytes_of}
 use Rattle.text.specs.Frames.{readable, frame_bytes}
 use Rattle.rules.proofs.Laws.{both_left, both_right}
-
--- two characters stand at a place
-two_at : (l : List ℕ) (i : ℕ) → i + 1 < length l → drop i l ≡ get_or l i 0 ∷ get_or l (i + 1) 0 ∷ drop (i + 2) l
-two_at l i h =
-    let two : suc (i + 1) ≡ i + 2 = omega arith in
-    drop-cons l i 0 (omega arith) ∙ ap (λ (k : ℕ). get_or l i 0 ∷ drop k l) (sym (add-one i))
-    ∙ ap (λ (r : List ℕ). get_or l i 0 ∷ r) (drop-cons l (i + 1) 0 h ∙ ap (λ (k : ℕ). get_or l (i + 1) 0 ∷ drop k l) two)
 
 readable_pair : (t : Bool) (b : ℕ) (o : Option (List ℕ)) → readable (with_byte t b o) ≡ t && readable o
 unfolding readable with_byte
@@ -27,41 +21,24 @@ readable_pair false b o = refl
 readable_pair true b none = refl
 readable_pair true b (some s) = refl
 
--- the characters before a place are digits in pairs
-pub record Pairs (l : List ℕ) (i : ℕ) : Type 0 where
-  pub within : i ≤ length l
-  pub same : readable (bytes_of l) ≡ readable (bytes_of (drop i l))
+-- a line is readable where its length is even and every character is a digit
+pub readable_even : (l : List ℕ) → length l % 2 ≡ 0 → list_all is_ascii_hexdigit l ≡ readable (bytes_of l)
+unfolding readable bytes_of is_digit
+readable_even [] e = refl
+readable_even (c ∷ []) e = absurd (omega (arith, e))
+readable_even (c ∷ d ∷ l) e =
+    let rest = readable_even l (let k : suc (suc (length l)) % 2 ≡ 0 = e in omega arith) in
+    let pair = readable_pair (is_digit c && is_digit d) (16 * digit_value c + digit_value d) (bytes_of l) in
+    grind (arith, nat_tests, and_assoc)
 
-pub pairs_none : (l : List ℕ) → Pairs l 0
-pairs_none l = record { within = omega arith; same = refl }
-
-module _ (l : List ℕ) (i : ℕ) (p : Pairs l i) where
-  pub pairs_end : length l ≤ i → true ≡ readable (bytes_of l)
-  unfolding bytes_of readable
-  pairs_end h = sym (p.same ∙ ap (λ (r : List ℕ). readable (bytes_of r)) (drop_of_length-le l h))
-
-  pub pairs_odd : i < length l → length l - i < 2 → false ≡ readable (bytes_of l)
-  unfolding bytes_of readable
-  pairs_odd h k =
-      let last : length l ≤ suc i = omega arith in
-      sym (p.same ∙ ap (λ (r : List ℕ). readable (bytes_of r)) (drop-cons l i 0 h ∙ ap (λ (r : List ℕ). get_or l i 0 ∷ r) (drop_of_length-le l last)))
-
-  module _ (h : 2 ≤ length l - i) where
-    by_pair : readable (bytes_of l) ≡ (is_digit (get_or l i 0) && is_digit (get_or l (i + 1) 0)) && readable (bytes_of (drop (i + 2) l))
-    unfolding bytes_of
-    by_pair = p.same ∙ ap (λ (r : List ℕ). readable (bytes_of r)) (two_at l i (omega arith)) ∙ readable_pair _ _ (bytes_of (drop (i + 2) l))
-
-    -- by what the code found of the two
-    module _ (a : Bool) (u : a ≡ is_digit (get_or l i 0)) where
-      pub no_first : not a ≡ true → false ≡ readable (bytes_of l)
-      no_first f = sym (by_pair ∙ rw (sym u ∙ not-true a f))
-
-      module _ (f : not a ≡ false) (b : Bool) (v : b ≡ is_digit (get_or l (i + 1) 0)) where
-        pub no_second : not b ≡ true → false ≡ readable (bytes_of l)
-        no_second g = sym (by_pair ∙ rw (sym u ∙ not-false a f, sym v ∙ not-true b g))
-
-        pub pairs_more : not b ≡ false → Pairs l (i + 2)
-        pairs_more g = record { within = omega arith; same = by_pair ∙ rw (sym u ∙ not-false a f, sym v ∙ not-false b g) }
+pub readable_odd : (l : List ℕ) → (length l % 2 ≡ 0 → ⊥) → false ≡ readable (bytes_of l)
+unfolding readable bytes_of
+readable_odd [] e = absurd (e refl)
+readable_odd (c ∷ []) e = refl
+readable_odd (c ∷ d ∷ l) e =
+    let rest = readable_odd l (λ k. e (let m : length l % 2 ≡ 0 = k in omega arith)) in
+    let pair = readable_pair (is_digit c && is_digit d) (16 * digit_value c + digit_value d) (bytes_of l) in
+    grind (arith, nat_tests)
 
 -- the parts of a byte that was read
 read_pair :

@@ -9,34 +9,33 @@ use native.Mathlib.Omega.{arith}
 use native.Mathlib.Nat.{zero-add}
 use lib.ListN.{length, get_or, set}
 use borrow.Author.Tests.{lt-ltb, le-ltb, not-true, not-false}
+use Rattle.std.specs.Prelude.{Option as CodeOption, Some, None}
 use Rattle.rules.specs.Lines.{is_digit, digit_value, bytes_of, frame_of}
 use Rattle.rules.proofs.Laws.{stop, skip}
 use Rattle.octets.proofs.Copies.{Copied, copied_none, copied_more, copied_all}
 use Rattle.octets.specs.Parts.{overlaid}
 use Rattle.octets.proofs.Pastes.{front_over}
 use Rattle.text.specs.Sizes.{frame_cap, digit_cap}
-use Rattle.text.specs.declared.Frame.{Frame}
-use Rattle.text.specs.declared.Frame.TheVariants.{Bytes, Unreadable}
 use Rattle.text.specs.Frames.{readable, frame_told, frame_bytes}
 use Rattle.text.proofs.Digits.{digit_small}
 use Rattle.text.proofs.Bytes.{bytes_size, digit_at, byte_at}
 
 -- what is told of a frame, and what stands in the buffer
-abbrev pub Told : Frame → Option (List ℕ) → List ℕ → List ℕ → Type 0
+abbrev pub Told : CodeOption ℕ → Option (List ℕ) → List ℕ → List ℕ → Type 0
 Told f o before after = (f ≡ frame_told o) × (after ≡ overlaid (frame_bytes o) before)
 
-unread : (o : Option (List ℕ)) → readable o ≡ false → (out : List ℕ) → Told Unreadable o out out
+unread : (o : Option (List ℕ)) → readable o ≡ false → (out : List ℕ) → Told None o out out
 unfolding readable frame_told frame_bytes overlaid
 unread none e out = (refl, refl)
 unread (some s) e out = absurd (true≢false e)
 
-counted : (o : Option (List ℕ)) → readable o ≡ true → Bytes (length (frame_bytes o)) ≡ frame_told o
+counted : (o : Option (List ℕ)) → readable o ≡ true → Some (length (frame_bytes o)) ≡ frame_told o
 unfolding readable frame_told frame_bytes
 counted none e = absurd (true≢false (sym e))
 counted (some s) e = refl
 
 -- a line that is too long, and one that is not digits in pairs, leave the buffer
-pub told_long : (l out : List ℕ) → digit_cap < length l → Told Unreadable (frame_of l) out out
+pub told_long : (l out : List ℕ) → digit_cap < length l → Told None (frame_of l) out out
 unfolding frame_of readable
 told_long l out h = unread (frame_of l) (ap readable (stop _ none (bytes_of l) (lt-ltb digit_cap (length l) h))) out
 
@@ -44,7 +43,7 @@ short : (l : List ℕ) → length l ≤ digit_cap → frame_of l ≡ bytes_of l
 unfolding frame_of
 short l h = skip _ none (bytes_of l) (le-ltb digit_cap (length l) h)
 
-pub told_unread : (l out : List ℕ) (b : Bool) → length l ≤ digit_cap → b ≡ readable (bytes_of l) → not b ≡ true → Told Unreadable (frame_of l) out out
+pub told_unread : (l out : List ℕ) (b : Bool) → length l ≤ digit_cap → b ≡ readable (bytes_of l) → not b ≡ true → Told None (frame_of l) out out
 told_unread l out b h e f = unread (frame_of l) (ap readable (short l h) ∙ sym e ∙ not-true b f) out
 
 -- the first i bytes of a line that is readable stand in the buffer
@@ -78,9 +77,9 @@ module _ (l before : List ℕ) (i : ℕ) (after : List ℕ) (f : Fills l before 
             (copied_more before 0 _ i after _ f.copied b ((λ j. 16 * d j + e j) ∙ sym (byte_at l i f.read b)));
       }
 
-  pub fills_all : length l / 2 ≤ i → Told (Bytes (length l / 2)) (frame_of l) before after
+  pub fills_all : length l / 2 ≤ i → Told (Some (length l / 2)) (frame_of l) before after
   fills_all h =
       let n = bytes_size l f.read in
       let half : length l / 2 ≡ length (frame_bytes (bytes_of l)) = omega arith in
-      subst (λ (o : Option (List ℕ)). Told (Bytes (length l / 2)) o before after) (sym (short l f.few))
-      (ap Bytes half ∙ counted (bytes_of l) f.read, copied_all before 0 _ i after f.copied (omega arith) ∙ front_over before _)
+      subst (λ (o : Option (List ℕ)). Told (Some (length l / 2)) o before after) (sym (short l f.few))
+      (ap Some half ∙ counted (bytes_of l) f.read, copied_all before 0 _ i after f.copied (omega arith) ∙ front_over before _)

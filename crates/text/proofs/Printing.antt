@@ -1,11 +1,12 @@
 -- The printed line: two digits for each byte, "--", or R and the number, and the line feed.
 -- Assumes nothing.
-use Prim.Native.Nat.{ℕ, zero, suc, ◌+◌, ◌-◌, ◌*◌, ◌/◌, ◌%◌, ◌≤◌, ◌<◌}
+use Prim.Native.Nat.{ℕ, ◌+◌, ◌-◌, ◌*◌, ◌/◌, ◌%◌, ◌≤◌, ◌<◌}
 use mathlib.Core.Path.{◌≡◌, refl, sym, ap, subst, ◌∙◌}
-use mathlib.Core.List.{List, [], ◌∷◌, ◌++◌}
+use mathlib.Core.List.{List, [], ◌∷◌, ◌++◌, append_assoc}
 use native.Mathlib.Omega.{arith}
 use lib.ListN.{length, get_or, set, take, drop, length-append, length-drop}
 use lib.Seq.{length-take-le}
+use Rattle.std.proofs.lemmas.List.{take_more}
 use borrow.Author.Rules.{part_to_end}
 use borrow.Author.Tests.{lt-ltb}
 use Rattle.rules.specs.declared.Refusal.{Refusal}
@@ -14,56 +15,18 @@ use Rattle.rules.specs.Command.{wrote, refused}
 use Rattle.rules.specs.Lines.{digit_of, hex, last_digit, zeros_before, decimal, printed}
 use Rattle.rules.proofs.Laws.{branch, stop}
 use Rattle.rules.proofs.Told.{number_small}
-use Rattle.rules.specs.declared.Ended.{Ended}
-use Rattle.rules.specs.declared.Ended.TheVariants.{Wrote, Refused}
+use Rattle.rules.specs.Words.{Ended}
+use Rattle.std.specs.Prelude.{Ok, Err}
 use Rattle.text.specs.Sizes.{least_value, short_line}
 use Rattle.text.specs.Prints.{line_of, count_of, outcome_of, Prints}
 use Rattle.octets.proofs.Stores.{store_one}
 use Rattle.octets.specs.Parts.{part, pasted}
 use Rattle.octets.proofs.Pastes.{paste_after}
-use Rattle.octets.proofs.Copies.{Copied, copied_none, copied_more, copied_all}
 
 pub hex_size : (s : List ℕ) → length (hex s) ≡ 2 * length s
 unfolding hex
 hex_size [] = refl
 hex_size (b ∷ s) = let e = hex_size s in omega arith
-
--- the digits of a byte
-hex_at :
-    (s : List ℕ) (i : ℕ) → i < length s →
-    (get_or (hex s) (2 * i) 0 ≡ digit_of (get_or s i 0 / 16)) × (get_or (hex s) (2 * i + 1) 0 ≡ digit_of (get_or s i 0 % 16))
-unfolding hex
-hex_at [] i h = absurd (let z : i < 0 = h in omega arith)
-hex_at (b ∷ s) zero h = (refl, refl)
-hex_at (b ∷ s) (suc i) h =
-    let k : 2 * suc i ≡ suc (suc (2 * i)) = omega arith in
-    let m : 2 * suc i + 1 ≡ suc (suc (2 * i + 1)) = omega arith in
-    let r = hex_at s i (omega arith) in
-    (ap (λ (j : ℕ). get_or (hex (b ∷ s)) j 0) k ∙ r.0, ap (λ (j : ℕ). get_or (hex (b ∷ s)) j 0) m ∙ r.1)
-
--- the digits of i bytes stand in the buffer
-abbrev pub Hexed : List ℕ → ℕ → List ℕ → ℕ → List ℕ → Type 0
-Hexed before at s i after = Copied before at (hex s) (2 * i) after
-
-pub hexed_none : (before : List ℕ) (at : ℕ) (s : List ℕ) → at + 2 * length s ≤ length before → Hexed before at s 0 before
-hexed_none before at s h = copied_none before at (hex s) (let e = hex_size s in omega arith)
-
-pub hexed_more :
-    (before : List ℕ) (at : ℕ) (s : List ℕ) (i : ℕ) (after : List ℕ) (v u : ℕ) → Hexed before at s i after → i < length s →
-    v ≡ digit_of (get_or s i 0 / 16) → u ≡ digit_of (get_or s i 0 % 16) → Hexed before at s (i + 1) (set (set after (at + 2 * i) v) (at + (2 * i + 1)) u)
-hexed_more before at s i after v u c h d e =
-    let z = hex_size s in
-    let r = hex_at s i h in
-    let k : 2 * i + 1 + 1 ≡ 2 * (i + 1) = omega arith in
-    subst (λ (j : ℕ). Copied before at (hex s) j (set (set after (at + 2 * i) v) (at + (2 * i + 1)) u)) k
-    (copied_more before at (hex s) (2 * i + 1) _ u (copied_more before at (hex s) (2 * i) after v c (omega arith) (d ∙ sym r.0)) (omega arith) (e ∙ sym r.1))
-
-pub hexed_all :
-    (before : List ℕ) (at : ℕ) (s : List ℕ) (i : ℕ) (after : List ℕ) → Hexed before at s i after → length s ≤ i →
-    Prints (hex s) (at + 2 * length s) before at after
-hexed_all before at s i after c h =
-    let z = hex_size s in
-    record { stands = copied_all before at (hex s) (2 * i) after c (omega arith); place = omega arith }
 
 -- two prints in a row are one
 pub prints_after :
@@ -76,6 +39,25 @@ prints_after {s} {t} {before} {at = at} p q h =
 -- what is printed, under another name
 pub prints_as : {s t before after : List ℕ} {at e : ℕ} → s ≡ t → Prints s e before at after → Prints t e before at after
 prints_as {before = before} {after} {at} {e} q p = subst (λ (l : List ℕ). Prints l e before at after) q p
+
+-- two digits more
+hex_after : (s t : List ℕ) → hex (s ++ t) ≡ hex s ++ hex t
+unfolding hex
+hex_after [] t = refl
+hex_after (b ∷ s) t = ap (λ (l : List ℕ). digit_of (b / 16) ∷ digit_of (b % 16) ∷ l) (hex_after s t)
+
+pub hexed_size : (s : List ℕ) (i : ℕ) → i ≤ length s → length (hex (take i s)) ≡ 2 * i
+hexed_size s i h = hex_size (take i s) ∙ ap (λ (k : ℕ). 2 * k) (length-take-le i s h)
+
+pub hexed_more :
+    (s : List ℕ) (i : ℕ) {before x y z : List ℕ} {at k m e v u : ℕ} → Prints (hex (take i s)) k before at x → Prints (v ∷ []) m x k y → Prints (u ∷ []) e y m z →
+    i < length s → at + 2 * length s ≤ length before → v ≡ digit_of (get_or s i 0 / 16) → u ≡ digit_of (get_or s i 0 % 16) → Prints (hex (take (i + 1) s)) e before at z
+unfolding hex
+hexed_more s i {v = v} {u} p q w h room d f =
+    let n = hexed_size s i (omega arith) in
+    let l = length-append (hex (take i s)) (v ∷ []) in
+    let whole = ap hex (take_more s i 0 h) ∙ hex_after (take i s) (get_or s i 0 ∷ []) in
+    prints_as (append_assoc (hex (take i s)) (v ∷ []) (u ∷ []) ∙ (λ j. hex (take i s) ++ d j ∷ f j ∷ []) ∙ sym whole) (prints_after (prints_after p q (omega arith)) w (omega arith))
 
 -- a character alone
 pub char_printed : (before : List ℕ) (at c : ℕ) → at < length before → Prints (c ∷ []) (at + 1) before at (set before at c)
@@ -130,9 +112,9 @@ none_printed [] before at after e w = record { stands = w; place = refl }
 none_printed (b ∷ s) before at after e w = absurd (let z : length (b ∷ s) ≡ 0 = e in omega arith)
 
 pub bytes_printed :
-    (s before : List ℕ) (at r : ℕ) (after : List ℕ) → (length s ≡ 0 → ⊥) → Prints (hex s) r before at after → Prints (printed (wrote s)) r before at after
+    (s before : List ℕ) (at r : ℕ) (after : List ℕ) → 0 < length s → Prints (hex s) r before at after → Prints (printed (wrote s)) r before at after
 unfolding printed
-bytes_printed [] before at r after n w = absurd (n refl)
+bytes_printed [] before at r after n w = absurd (let z : 0 < 0 = n in omega arith)
 bytes_printed (b ∷ s) before at r after n w = w
 
 -- two digits for each byte, or two dashes
@@ -158,15 +140,15 @@ refused_line r n is h p q w =
 
 -- by how the call ended
 module _ (s : List ℕ) {x : Ended} {before after : List ℕ} {at r : ℕ} where
-  pub written_printed : (k : ℕ) → x ≡ Wrote k → Prints (line_of (wrote (take k s))) r before at after → Prints (line_of (outcome_of x s)) r before at after
+  pub written_printed : (k : ℕ) → x ≡ Ok k → Prints (line_of (wrote (take k s))) r before at after → Prints (line_of (outcome_of x s)) r before at after
   unfolding outcome_of
   written_printed k e w = prints_as (ap (λ (y : Ended). line_of (outcome_of y s)) (sym e)) w
 
-  pub refusal_printed : (f : Refusal) → x ≡ Refused f → Prints (line_of (refused f)) r before at after → Prints (line_of (outcome_of x s)) r before at after
+  pub refusal_printed : (f : Refusal) → x ≡ Err f → Prints (line_of (refused f)) r before at after → Prints (line_of (outcome_of x s)) r before at after
   unfolding outcome_of
   refusal_printed f e w = prints_as (ap (λ (y : Ended). line_of (outcome_of y s)) (sym e)) w
 
 -- the bytes that a call wrote are there
-pub front_size : (x : Ended) (k : ℕ) (s : List ℕ) → x ≡ Wrote k → count_of x ≤ length s → k ≡ length (take k s)
+pub front_size : (x : Ended) (k : ℕ) (s : List ℕ) → x ≡ Ok k → count_of x ≤ length s → k ≡ length (take k s)
 unfolding count_of
 front_size x k s e h = let c = ap count_of e in sym (length-take-le k s (omega arith))

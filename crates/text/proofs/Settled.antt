@@ -4,10 +4,11 @@ use Prim.Native.Nat.{ℕ}
 use mathlib.Core.Path.{◌≡◌, refl, sym, ap, ◌∙◌}
 use mathlib.Core.List.{List}
 use mathlib.Core.Option.{Option, none, some}
+use Rattle.std.specs.Prelude.{Option as CodeOption, Some, None}
 use Rattle.rules.specs.Radio.{arrives, takes, drops}
 use Rattle.rules.specs.Run.{Call, starting, commanding, radio, timing}
 use Rattle.text.specs.declared.Spoken.{Spoken}
-use Rattle.text.specs.declared.Spoken.TheVariants.{Command, Arrival, Take, Drop, Nothing}
+use Rattle.text.specs.declared.Spoken.TheVariants.{Command, Arrival, Take, Drop}
 use Rattle.text.specs.Calls.{call_spoken}
 use Rattle.outcomes.specs.Determined.{Determined}
 use Rattle.text.proofs.is_digit.Kinds as is-digit-kinds
@@ -32,22 +33,22 @@ use Rattle.text.proofs.print.Kinds as print-kinds
 use Rattle.text.proofs.print.Reads as print-reads
 
 -- a call as the code tells it, read back from the call
-spoken_in : Option Call → Spoken
-spoken_in (some (commanding k s)) = Command
-spoken_in (some (radio k n (arrives s))) = Arrival n
-spoken_in (some (radio k n takes)) = Take n k
-spoken_in (some (radio k n drops)) = Drop n
-spoken_in (some (starting p)) = Nothing
-spoken_in (some (timing act)) = Nothing
-spoken_in none = Nothing
+spoken_in : Option Call → CodeOption Spoken
+spoken_in (some (commanding k s)) = Some Command
+spoken_in (some (radio k n (arrives s))) = Some (Arrival n)
+spoken_in (some (radio k n takes)) = Some (Take n k)
+spoken_in (some (radio k n drops)) = Some (Drop n)
+spoken_in (some (starting p)) = None
+spoken_in (some (timing act)) = None
+spoken_in none = None
 
-spoken_back : (r : Spoken) (s : List ℕ) → spoken_in (call_spoken r s) ≡ r
+spoken_back : (r : CodeOption Spoken) (s : List ℕ) → spoken_in (call_spoken r s) ≡ r
 unfolding spoken_in call_spoken
-spoken_back Command s = refl
-spoken_back (Arrival n) s = refl
-spoken_back (Take n k) s = refl
-spoken_back (Drop n) s = refl
-spoken_back Nothing s = refl
+spoken_back (Some Command) s = refl
+spoken_back (Some (Arrival n)) s = refl
+spoken_back (Some (Take n k)) s = refl
+spoken_back (Some (Drop n)) s = refl
+spoken_back None s = refl
 
 pub is_digit_settled : Determined 0 is-digit-kinds.ps is-digit-kinds.r is-digit-reads.Pre is-digit-reads.Post
 is_digit_settled κs a _ x y v w p q = (p ∙ sym q, refl)

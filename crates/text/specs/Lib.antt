@@ -2,3 +2,4 @@ pub mod Sizes
 pub mod Frames
 pub mod Calls
 pub mod Prints
+pub mod Telling

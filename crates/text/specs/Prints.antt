@@ -3,18 +3,18 @@ use Rattle.std.specs.Prelude.{ℕ, ◌+◌, ◌≡◌, List, [], ◌∷◌, ◌+
 use Rattle.rules.specs.Command.{Outcome, wrote, refused}
 use Rattle.rules.specs.Lines.{printed}
 use Rattle.octets.specs.Parts.{pasted}
-use Rattle.rules.specs.declared.Ended.{Ended}
-use Rattle.rules.specs.declared.Ended.TheVariants.{Wrote, Refused}
+use Rattle.rules.specs.Words.{Ended}
+use Rattle.std.specs.Prelude.{Ok, Err}
 
 -- the count of bytes that were written
 unfoldable pub count_of : Ended → ℕ
-count_of (Wrote k) = k
-count_of (Refused r) = 0
+count_of (Ok k) = k
+count_of (Err r) = 0
 
 -- the bytes written stand at the front of the buffer
 unfoldable pub outcome_of : Ended → List ℕ → Outcome
-outcome_of (Wrote k) s = wrote (take k s)
-outcome_of (Refused r) s = refused r
+outcome_of (Ok k) s = wrote (take k s)
+outcome_of (Err r) s = refused r
 
 -- the printed line, and its line feed
 abbrev pub line_of : Outcome → List ℕ

@@ -1,7 +1,9 @@
 // Lines of text: read as frames and calls, and printed.
 #![tactic(auto)]
 
-ghost use Rattle.std.specs.Prelude.{◌≡◌, true, [], ◌∷◌, ◌+◌, ◌*◌, ◌≤◌, ◌<◌, length, get_or};
+ghost use Rattle.std.specs.Prelude.{ℕ, ◌≡◌, true, List, [], ◌∷◌, ◌+◌, ◌*◌, ◌≤◌, ◌<◌, length};
+ghost use Rattle.std.proofs.Math.Option.{Option, none};
+ghost use Rattle.rules.specs.declared.Refusal.TheVariants.{Unreadable};
 ghost use Rattle.rules.specs.Command.{wrote, refused};
 ghost use Rattle.rules.specs.Lines.{is_digit, digit_value, digit_of, bytes_of, frame_of, call_of, hex, last_digit, zeros_before, decimal, printed};
 ghost use Rattle.octets.specs.Parts.{overlaid};
@@ -9,9 +11,10 @@ ghost use Rattle.text.specs.Sizes.{frame_cap, least_value, short_line, decimal_c
 ghost use Rattle.text.specs.Frames.{readable, frame_told, frame_bytes};
 ghost use Rattle.text.specs.Calls.{call_spoken};
 ghost use Rattle.text.specs.Prints.{count_of, outcome_of, line_of, Prints};
+ghost use Rattle.text.specs.Telling.{TakesFrames, PrintsFrames};
 
 use octets;
-use rules::{ChannelNumber, Ended, Refusal};
+use rules::{ChannelNumber, Refusal};
 
 // The numbers of lines.
 #[derive(Drop)]
@@ -27,13 +30,6 @@ impl Line {
     pub const TAKEN: usize = 1500;
 }
 
-// A line as a frame: so many bytes, or unreadable.
-#[derive(Clone, Copy)]
-pub enum Frame {
-    Bytes(usize),
-    Unreadable,
-}
-
 // The call that a frame asks for.
 #[derive(Clone, Copy)]
 pub enum Spoken {
@@ -41,131 +37,82 @@ pub enum Spoken {
     Arrival(ChannelNumber),
     Take(ChannelNumber, usize),
     Drop(ChannelNumber),
-    Nothing,
 }
 
 // Whether a character is a hexadecimal digit, in either case.
+#[tactic(auto, unfolding(rules::specs::Lines::is_digit))]
 pub fn is_digit(c: u8) -> bool
     ensures { result ≡ is_digit c }
 {
-    match c {
-        48..=57 => true,
-        65..=70 => true,
-        97..=102 => true,
-        _ => false,
-    }
+    c.is_ascii_hexdigit()
 }
 
 // What a digit stands for.
+#[tactic(auto, using(rules::proofs::Laws::checks, crate::proofs::Digits::digit_ranges), unfolding(rules::specs::Lines::digit_value))]
 pub fn digit_value(c: u8) -> u8
     requires { is_digit c ≡ true }
     ensures { result ≡ digit_value c }
 {
-    if c <= 57 {
-        return c - 48;
+    match c {
+        b'0'..=b'9' => c - b'0',
+        b'A'..=b'F' => c - b'A' + 10,
+        _ => c - b'a' + 10,
     }
-    if c <= 70 {
-        return c - 55;
-    }
-    c - 87
 }
 
 // Whether a line is digits in pairs.
 fn readable(line: &[u8]) -> bool
     ensures { result ≡ readable (bytes_of line.now) }
 {
-    let mut i: usize = 0;
-    while i < line.len() {
-        if line.len() - i < 2 {
-            return false;
-        }
-        if !is_digit(line[i]) {
-            return false;
-        }
-        if !is_digit(line[i + 1]) {
-            return false;
-        }
-        i += 2;
-    }
-    true
+    line.len() % 2 == 0 && line.iter().all(u8::is_ascii_hexdigit)
 }
 
-// Reads a line as a frame, whose bytes go to the front of `out`; an unreadable line writes nothing.
-pub fn read_frame(line: &[u8], out: &mut [u8]) -> Frame
+// Reads a line as a frame, whose bytes go to the front of `out`, and tells how many they are; an unreadable line writes nothing.
+pub fn read_frame(line: &[u8], out: &mut [u8]) -> Option<usize>
     requires { frame_cap ≤ length out.old }
     ensures value { result ≡ frame_told (frame_of line.now) }
     ensures out_after { out.new ≡ overlaid (frame_bytes (frame_of line.now)) out.old }
 {
     if Line::DIGITS < line.len() {
-        return Frame::Unreadable;
+        return None;
     }
     if !readable(line) {
-        return Frame::Unreadable;
+        return None;
     }
     let n = line.len() / 2;
-    let mut i: usize = 0;
-    while i < n {
-        let k = 2 * i;
-        out[i] = 16 * digit_value(line[k]) + digit_value(line[k + 1]);
-        i += 1;
+    for i in 0..n {
+        out[i] = 16 * digit_value(line[2 * i]) + digit_value(line[2 * i + 1]);
     }
-    Frame::Bytes(n)
-}
-
-// The take that a frame A1 asks for: four bytes, of which two are a count.
-fn read_take(frame: &[u8], n: ChannelNumber) -> Spoken
-    requires { (get_or frame.now 0 0 ≡ 0xA1) × (get_or frame.now 1 0 ≡ n.0) }
-    ensures { call_of frame.now ≡ call_spoken result frame.now }
-{
-    if frame.len() != 4 {
-        return Spoken::Nothing;
-    }
-    let count = 256 * frame[2] as usize + frame[3] as usize;
-    if Line::TAKEN < count {
-        return Spoken::Nothing;
-    }
-    Spoken::Take(n, count)
+    Some(n)
 }
 
 // The call that a frame asks for: D0 a command, A0 an arrival, A1 a take, A2 a drop.
-pub fn read_call(frame: &[u8]) -> Spoken
+#[tactic(auto, using(crate::proofs::Calls::call_laws), unfolding(rules::specs::Reading::pair_in, rules::specs::Lines::call_of, crate::specs::Calls::call_spoken))]
+pub fn read_call(frame: &[u8]) -> Option<Spoken>
     ensures { call_of frame.now ≡ call_spoken result frame.now }
 {
-    if frame.len() == 0 {
-        return Spoken::Nothing;
+    match frame {
+        [0xD0, ..] => Some(Spoken::Command),
+        [0xA0, n, ..] => Some(Spoken::Arrival(ChannelNumber(*n))),
+        [0xA1, n, high, low] => {
+            let count = usize::from(u16::from_be_bytes([*high, *low]));
+            (count <= Line::TAKEN).then_some(Spoken::Take(ChannelNumber(*n), count))
+        }
+        [0xA2, n] => Some(Spoken::Drop(ChannelNumber(*n))),
+        _ => None,
     }
-    let first = frame[0];
-    if first == 0xD0 {
-        return Spoken::Command;
-    }
-    if frame.len() < 2 {
-        return Spoken::Nothing;
-    }
-    let n = ChannelNumber(frame[1]);
-    if first == 0xA0 {
-        return Spoken::Arrival(n);
-    }
-    if first == 0xA1 {
-        return read_take(frame, n);
-    }
-    if first != 0xA2 {
-        return Spoken::Nothing;
-    }
-    if frame.len() != 2 {
-        return Spoken::Nothing;
-    }
-    Spoken::Drop(n)
 }
 
 // A digit in capitals.
+#[tactic(auto, using(rules::proofs::Laws::checks), unfolding(rules::specs::Lines::digit_of))]
 fn digit(n: u8) -> u8
     requires { n < 16 }
     ensures { result ≡ digit_of n }
 {
-    if n < 10 {
-        return n + 48;
+    match n {
+        0..=9 => b'0' + n,
+        _ => b'A' + (n - 10),
     }
-    n + 55
 }
 
 // Prints a character, and tells the place behind it.
@@ -182,40 +129,36 @@ pub fn print_bytes(out: &mut [u8], at: usize, bytes: &[u8]) -> usize
     requires { at + 2 * length bytes.now ≤ length out.old }
     ensures { Prints (hex bytes.now) result out.old at out.new }
 {
-    let mut i: usize = 0;
-    while i < bytes.len() {
-        let k = 2 * i;
-        out[at + k] = digit(bytes[i] / 16);
-        out[at + (k + 1)] = digit(bytes[i] % 16);
-        i += 1;
+    let mut end = at;
+    for b in bytes {
+        end = print_char(out, end, digit(b / 16));
+        end = print_char(out, end, digit(b % 16));
     }
-    at + 2 * bytes.len()
+    end
 }
 
 // The last decimal digit of a number.
 fn last_digit(n: usize) -> u8
     ensures { result ≡ last_digit n }
 {
-    (n % 10) as u8 + 48
+    b'0' + (n % 10) as u8
 }
 
 // How many of the four digits of a number are zeros in front.
+#[tactic(auto, using(rules::proofs::Laws::checks), unfolding(rules::specs::Lines::zeros_before))]
 fn zeros_before(n: usize) -> usize
     ensures { result ≡ zeros_before n }
 {
-    if n < 10 {
-        return 3;
+    match n {
+        0..=9 => 3,
+        10..=99 => 2,
+        100..=999 => 1,
+        _ => 0,
     }
-    if n < 100 {
-        return 2;
-    }
-    if n < 1000 {
-        return 1;
-    }
-    0
 }
 
 // Prints a number in decimal, without zeros in front, and tells the place behind it.
+// Kept: at most four digits, at a place of lent memory. The library prints a number through a formatter or into memory that it asks for, which is no plainer.
 pub fn print_decimal(out: &mut [u8], at: usize, n: usize) -> usize
     requires { (n < decimal_cap) × (at + length (decimal n) ≤ length out.old) }
     ensures { Prints (decimal n) result out.old at out.new }
@@ -236,7 +179,7 @@ pub fn print_value(out: &mut [u8], at: usize, bytes: &[u8]) -> usize
     requires { at + 2 * length bytes.now + least_value ≤ length out.old }
     ensures { Prints (printed (wrote bytes.now)) result out.old at out.new }
 {
-    if bytes.len() == 0 {
+    if bytes.is_empty() {
         octets::put(out, at, b"--");
         return at + 2;
     }
@@ -258,17 +201,35 @@ pub fn print_refusal(out: &mut [u8], at: usize, refusal: Refusal) -> usize
     ensures { Prints (line_of (refused refusal)) result out.old at out.new }
 {
     let start = print_char(out, at, b'R');
-    let end = print_decimal(out, start, refusal.number() as usize);
+    let end = print_decimal(out, start, usize::from(refusal.number()));
     print_char(out, end, b'\n')
 }
 
 // Prints a line into `out` from `at` on: the bytes written, in capitals, "--" if none, or R and the number; tells the place behind it.
-pub fn print(out: &mut [u8], at: usize, ended: Ended, bytes: &[u8]) -> usize
+pub fn print(out: &mut [u8], at: usize, ended: Result<usize, Refusal>, bytes: &[u8]) -> usize
     requires { (count_of ended ≤ length bytes.now) × (at + 2 * length bytes.now + short_line ≤ length out.old) }
     ensures { Prints (line_of (outcome_of ended bytes.now)) result out.old at out.new }
 {
     match ended {
-        Ended::Wrote(count) => print_written(out, at, &bytes[..count]),
-        Ended::Refused(refusal) => print_refusal(out, at, refusal),
+        Ok(count) => print_written(out, at, &bytes[..count]),
+        Err(refusal) => print_refusal(out, at, refusal),
     }
+}
+
+// Prints what `tell` prints of the frame of a line, R9 where the line is unreadable; tells the place behind it.
+pub fn answer<F: FnOnce(&[u8], &mut [u8], usize) -> usize>(
+    tell: F,
+    line: &[u8],
+    out: &mut [u8],
+    at: usize,
+) -> usize
+    requires takes { TakesFrames (F.pre tell) (length out.old) at }
+    requires room { at + short_line ≤ length out.old }
+    ensures { (told : Option (List ℕ) → List ℕ) → told none ≡ line_of (refused Unreadable) → PrintsFrames (F.post tell) told at → Prints (told (frame_of line.now)) result out.old at out.new }
+{
+    let mut frame = [0u8; Line::FRAME];
+    let Some(n) = read_frame(line, &mut frame) else {
+        return print_refusal(out, at, Refusal::Unreadable);
+    };
+    tell(&frame[..n], out, at)
 }

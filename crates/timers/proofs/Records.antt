@@ -10,8 +10,8 @@ use lib.Dec.{leb, eqb}
 use borrow.Author.Tests.{leb-true, le-leb, eq-eqb, ne_eqb, le-ltb, lt-ltb, lt-leb}
 use Rattle.rules.specs.declared.Details.{Details}
 use Rattle.rules.specs.declared.Time.{Time}
-use Rattle.rules.specs.declared.Ended.{Ended}
-use Rattle.rules.specs.declared.Ended.TheVariants.{Wrote, Refused}
+use Rattle.rules.specs.Words.{Ended}
+use Rattle.std.specs.Prelude.{Ok, Err}
 use Rattle.rules.specs.declared.Refusal.TheVariants.{ShortBuffer, NoneWaits}
 use Rattle.rules.specs.Checks.{◌⇒◌else◌, every}
 use Rattle.rules.specs.Timers.{timer_count, Timer, idle, running, action_of, is_timer, is_digits, time_in, of_day, is_zero, is_time, no_time, left_of, started_of, before_waiting}
@@ -97,7 +97,7 @@ module _ (t p : List ℕ) (g : GoodIn t p) (d : Details) (n : ℕ) (i : Bool) (k
   -- a start
   module _ (v : List ℕ) where
     abbrev starts : List ℕ → Type 0
-    starts u = Answers (told d (starting_timer b n v i)) u p (Wrote k) before after
+    starts u = Answers (told d (starting_timer b n v i)) u p (Ok k) before after
 
     pub start_number : is_timer n ≡ false → unread → starts t
     unfolding starting_timer
@@ -137,7 +137,7 @@ module _ (t p : List ℕ) (g : GoodIn t p) (d : Details) (n : ℕ) (i : Bool) (k
     q = d.qualifier
 
     abbrev manages : List ℕ → Type 0
-    manages u = Answers (told d (managing_timer b q n i)) u p (Wrote k) before after
+    manages u = Answers (told d (managing_timer b q n i)) u p (Ok k) before after
 
     pub manage_none : action_of q ≡ 3 → unread → manages t
     unfolding managing_timer
@@ -192,12 +192,12 @@ module _ (t p : List ℕ) (g : GoodIn t p) (out : List ℕ) where
   abbrev told_by : Ended → List ℕ → List ℕ → Type 0
   told_by r u after = Answers (enveloping e (length out)) u p r out after
 
-  pub envelope_short : length out < 14 → told_by (Refused ShortBuffer) t out
+  pub envelope_short : length out < 14 → told_by (Err ShortBuffer) t out
   unfolding enveloping
   envelope_short l = refuse_answers (enveloping e (length out)) t p out ShortBuffer g (stop _ _ _ (lt-ltb (length out) 14 l))
 
   module _ (l : 14 ≤ length out) (k : ℕ) (w : k ≡ before_waiting e.timers) where
-    pub envelope_none : k ≡ timer_count → told_by (Refused NoneWaits) t out
+    pub envelope_none : k ≡ timer_count → told_by (Err NoneWaits) t out
     unfolding enveloping
     envelope_none z = refuse_answers (enveloping e (length out)) t p out NoneWaits g (skip _ _ _ (le-ltb (length out) 14 l) ∙ stop _ _ _ (eq-eqb _ timer_count (sym w ∙ z)))
 
@@ -216,12 +216,12 @@ module _ (t p : List ℕ) (g : GoodIn t p) (out : List ℕ) where
 
       pub envelope_done :
           (u after : List ℕ) → u ≡ pasted t (timer_at k) (time_numbers no_time ++ time_numbers no_time) → after ≡ overlaid (envelope_bytes (k + 1) (time_at t (timer_at k + 3))) out →
-          told_by (Wrote 14) u after
+          told_by (Ok 14) u after
       unfolding enveloping timer_numbers left_of started_of step
       envelope_done u after s b =
           let n = k + 1 in
           let bytes = envelope_bytes n (started_of (timer e n)) in
-          subst (λ (m : ℕ). told_by (Wrote m) u after) (envelope_told n (started_of (timer e n)))
+          subst (λ (m : ℕ). told_by (Ok m) u after) (envelope_told n (started_of (timer e n)))
           (wrote_answers (enveloping e (length out)) (with_timer e n idle) bytes u p out after (step_sound e (timing (envelope (length out))) g.sound)
           (skip _ _ _ (le-ltb (length out) 14 l) ∙ skip _ _ _ (ne_eqb _ timer_count (λ z. some (w ∙ z)))
           ∙ ap (λ (j : ℕ). answered (with_timer e (j + 1) idle) (envelope_bytes (j + 1) (started_of (timer e (j + 1))))) (sym w))

@@ -9,7 +9,7 @@ use native.Mathlib.Numerals.{add-one}
 use lib.ListN.{length, get_or, set, drop}
 use lib.Seq.{drop-cons, drop-length}
 use borrow.Author.Tests.{not-true, not-false}
-use Rattle.rules.specs.declared.Ended.TheVariants.{Wrote}
+use Rattle.std.specs.Prelude.{Ok}
 use Rattle.rules.specs.Timers.{timer_count, Timer, idle, is_zero, ticked, is_waiting, before_waiting, less_second}
 use Rattle.rules.specs.State.{State, timer, with_timers, with_timer}
 use Rattle.rules.specs.TimerCalls.{passing}
@@ -114,14 +114,15 @@ partly_next a h k l t u e f =
     ∙ ap (λ (ts : List Timer). ledger_of (with_timers a ts)) (ticked_next k a.timers (omega (arith, h.eight)))
 
 -- all of them: a second has passed
-pub second_passed : (t p u : List ℕ) (k : ℕ) → GoodIn t p → k ≤ timer_count → timer_count ≤ k → u ≡ ledger_of (partly (shown t p) k) → Answers (passing (shown t p)) u p (Wrote 0) [] []
+pub second_passed :
+    (t p u q : List ℕ) (k : ℕ) → GoodIn t p → k ≤ timer_count → timer_count ≤ k → u ≡ ledger_of (partly (shown t p) k) → q ≡ p → Answers (passing (shown t p)) u q (Ok 0) [] []
 unfolding passing pool_of
-second_passed t p u k g l m e =
+second_passed t p u q k g l m e f =
     let a = shown t p in
     let all : ticked_to k a.timers ≡ map ticked a.timers = ap (λ (j : ℕ). ticked_to j a.timers) (let q : k ≡ length a.timers = omega (arith, g.sound.eight) in q) ∙ ticked_all a.timers in
-    quiet_answers (passing a) (with_timers a (map ticked a.timers)) [] u p []
+    quiet_answers (passing a) (with_timers a (map ticked a.timers)) [] u q []
     (subst (λ (ts : List Timer). Sound (with_timers a ts)) all (partly_sound a g.sound k)) refl refl
-    (record { ledger = e ∙ ap (λ (ts : List Timer). ledger_of (with_timers a ts)) all; pool = g.shows.pool })
+    (record { ledger = e ∙ ap (λ (ts : List Timer). ledger_of (with_timers a ts)) all; pool = f ∙ g.shows.pool })
 
 -- the first that waits, looked for one after the other
 module _ (ts : List Timer) (k : ℕ) where

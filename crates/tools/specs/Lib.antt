@@ -1,2 +1,4 @@
 pub mod Tools
+pub mod Props
 pub mod Names
+pub mod Machines

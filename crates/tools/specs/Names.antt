@@ -1,9 +1,8 @@
 -- The names of the tools.
-use Rattle.std.specs.Prelude.{ℕ, List, [], ◌∷◌}
+use Rattle.std.specs.Prelude.{ℕ, Option, Some, None, List, [], ◌∷◌}
 use Rattle.rules.specs.Checks.{◌⇒◌else◌, same}
+use Rattle.tools.specs.declared.Tool.{Tool}
 use Rattle.tools.specs.declared.Tool.TheVariants.{Lines, Calls, Bench, Details, Fetch, Mend, CsimImport, CsimExport, AlphaRead, AlphaWrite}
-use Rattle.tools.specs.declared.Named.{Named}
-use Rattle.tools.specs.declared.Named.TheVariants.{One, Unknown}
 
 -- "lines", "calls", "bench", "details", "fetch", "mend", "csim-import", "csim-export", "alpha-read", "alpha-write"
 abbrev pub lines_name : List ℕ
@@ -37,21 +36,21 @@ abbrev pub alpha_write_name : List ℕ
 alpha_write_name = 97 ∷ 108 ∷ 112 ∷ 104 ∷ 97 ∷ 45 ∷ 119 ∷ 114 ∷ 105 ∷ 116 ∷ 101 ∷ []
 
 -- the tool between our lines and those of others that a word names
-unfoldable pub exchange_named : List ℕ → Named
+unfoldable pub exchange_named : List ℕ → Option Tool
 exchange_named w =
-    same w import_name ⇒ One CsimImport else
-    same w export_name ⇒ One CsimExport else
-    same w alpha_read_name ⇒ One AlphaRead else
-    same w alpha_write_name ⇒ One AlphaWrite else
-    Unknown
+    same w import_name ⇒ Some CsimImport else
+    same w export_name ⇒ Some CsimExport else
+    same w alpha_read_name ⇒ Some AlphaRead else
+    same w alpha_write_name ⇒ Some AlphaWrite else
+    None
 
 -- the tool that a word names
-unfoldable pub tool_named : List ℕ → Named
+unfoldable pub tool_named : List ℕ → Option Tool
 tool_named w =
-    same w lines_name ⇒ One Lines else
-    same w calls_name ⇒ One Calls else
-    same w bench_name ⇒ One Bench else
-    same w details_name ⇒ One Details else
-    same w fetch_name ⇒ One Fetch else
-    same w mend_name ⇒ One Mend else
+    same w lines_name ⇒ Some Lines else
+    same w calls_name ⇒ Some Calls else
+    same w bench_name ⇒ Some Bench else
+    same w details_name ⇒ Some Details else
+    same w fetch_name ⇒ Some Fetch else
+    same w mend_name ⇒ Some Mend else
     exchange_named w

@@ -1,25 +1,18 @@
--- `alpha::are_digits` meets its contract: digit by digit.
+-- `alpha::are_digits` meets its contract: four characters, and each a digit.
 -- Assumes nothing.
-use mathlib.Core.Path.{sym, ◌∙◌}
-use Rattle.alpha.specs.Printed.{are_digits}
-use Rattle.alpha.specs.Passes.{digits_at}
+use mathlib.Core.Path.{◌∙◌}
+use borrow.Author.Tests.{ne_eqb}
+use Rattle.std.proofs.Common.{rules, tests}
+use Rattle.std.proofs.lemmas.Iterator.{YieldsList-from_slice}
+use Rattle.std.proofs.lemmas.Iterator.Search.{all_from_yields_List}
+use Rattle.rules.specs.Lines.{is_digit}
+use Rattle.alpha.proofs.Lines.{four_all, not_four}
 use Rattle.alpha.proofs.are_digits.Goals as goal
 
-pub returns-then-not-is_digit : goal.returns-then-not-is_digit
-unfolding digits_at are_digits
-returns-then-not-is_digit c = rw (sym c.is_digit.ensures ∙ c.if-not-is_digit.true)
+pub returns-then-word-eq-DIGITS : goal.returns-then-word-eq-DIGITS
+returns-then-word-eq-DIGITS c =
+    all_from_yields_List is_digit _ _ _ c.all.ensures.ran (YieldsList-from_slice c.args.word.now cc) (λ x b q k. search (rules, tests))
+    ∙ four_all c.args.word.now c.if-word-eq-DIGITS.true
 
-pub returns-then-not-is_digit-2 : goal.returns-then-not-is_digit-2
-unfolding digits_at are_digits
-returns-then-not-is_digit-2 c = rw (sym c.is_digit.ensures ∙ c.if-not-is_digit.false, sym c.is_digit-2.ensures ∙ c.if-not-is_digit-2.true)
-
-pub returns-then-not-is_digit-3 : goal.returns-then-not-is_digit-3
-unfolding digits_at are_digits
-returns-then-not-is_digit-3 c = rw
-    (sym c.is_digit.ensures ∙ c.if-not-is_digit.false, sym c.is_digit-2.ensures ∙ c.if-not-is_digit-2.false, sym c.is_digit-3.ensures ∙ c.if-not-is_digit-3.true)
-
-pub returns : goal.returns
-unfolding digits_at are_digits
-returns c = rw
-    (sym c.is_digit.ensures ∙ c.if-not-is_digit.false, sym c.is_digit-2.ensures ∙ c.if-not-is_digit-2.false, sym c.is_digit-3.ensures ∙ c.if-not-is_digit-3.false)
-    c.is_digit-4.ensures
+pub returns-else-word-eq-DIGITS : goal.returns-else-word-eq-DIGITS
+returns-else-word-eq-DIGITS c = ne_eqb _ _ c.if-word-eq-DIGITS.false ∙ not_four _ c.if-word-eq-DIGITS.false

@@ -1,20 +1,18 @@
--- `alpha::based_unit` meets its contract: a code by the table, another byte by the pointer.
+-- `alpha::based_unit` meets its contract: none for the escape, a code by the table, another byte by the pointer.
 -- Assumes nothing.
-use mathlib.Core.Path.{sym, ap, ◌∙◌}
-use mathlib.Core.Option.{some}
 use native.Mathlib.Omega.{arith}
+use mathlib.Core.Path.{ap}
 use lib.ListN.{get_or}
-use Rattle.alpha.specs.Alphabet.{unit_of}
-use Rattle.alpha.proofs.Bases.{based_low, based_over, there_small}
+use Rattle.alpha.specs.Alphabet.{table, unit_of}
+use Rattle.alpha.proofs.Bases.{told_escape, told_code, told_high}
 use Rattle.alpha.proofs.based_unit.Goals as goal
 
-pub returns-then-b-lt-LIMIT : goal.returns-then-b-lt-LIMIT
-unfolding unit_of
-returns-then-b-lt-LIMIT c = based_low _ _ c.requires.1 (omega arith)
-    ∙ ap some (λ i. get_or (sym c.requires.0 i) (sym c.wide.ensures.0 i) 0)
+pub returns-then-b-eq-ESCAPE : goal.returns-then-b-eq-ESCAPE
+returns-then-b-eq-ESCAPE c = search told_escape
 
-pub overflow_add-result : goal.overflow_add-result
-overflow_add-result c = omega (arith, there_small _ _ c.requires.1 (omega arith))
+pub returns-then-b-lt-LIMIT : goal.returns-then-b-lt-LIMIT
+unfolding unit_of table
+returns-then-b-lt-LIMIT c = told_code _ _ _ c.if-b-eq-ESCAPE.false (omega arith) (ap (λ i. get_or table i 0) c.from.ensures)
 
 pub returns : goal.returns
-returns c = based_over _ _ c.requires.1 (omega arith)
+returns c = told_high _ _ _ _ c.from-2.ensures (omega arith) c.checked_add.ensures

@@ -1,14 +1,9 @@
--- `alpha::fill_plain` meets its contract: the loop writes the unit of each code.
+-- `alpha::fill_plain` meets its contract: the first i units stand in the buffer.
 -- Assumes nothing.
-use Prim.Native.Nat.{◌-◌}
-use mathlib.Core.Path.{◌≡◌}
-use lib.ListN.{length}
-use Rattle.alpha.specs.Alphabet.{table}
-use Rattle.alpha.proofs.Defaults.{Plain}
+use mathlib.Core.List.{map}
+use Rattle.alpha.specs.Alphabet.{unit_of}
+use Rattle.alpha.proofs.Fronts.{Front}
 use Rattle.alpha.proofs.fill_plain.Given as goal
 
 abbrev pub invariant-loop-i : goal.invariant-loop-i
-invariant-loop-i l = (l.codes ≡ table) × Plain l.s l.initial.out l.i l.out
-
-abbrev pub decreases-loop-i : goal.decreases-loop-i
-decreases-loop-i l = length l.s - l.i
+invariant-loop-i l = Front (map unit_of l.s) l.initial.out l.i l.out

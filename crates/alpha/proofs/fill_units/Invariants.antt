@@ -1,11 +1,9 @@
--- `alpha::fill_units` meets its contract: the loop writes a unit for each four digits.
+-- `alpha::fill_units` meets its contract: the first i units stand in the buffer.
 -- Assumes nothing.
-use Prim.Native.Nat.{◌-◌}
-use Rattle.alpha.proofs.Lines.{United}
+use Rattle.text.specs.Frames.{frame_bytes}
+use Rattle.alpha.specs.Printed.{units_from}
+use Rattle.alpha.proofs.Fronts.{Front}
 use Rattle.alpha.proofs.fill_units.Given as goal
 
 abbrev pub invariant-loop-i : goal.invariant-loop-i
-invariant-loop-i l = United l.line l.initial.out l.i l.out
-
-abbrev pub decreases-loop-i : goal.decreases-loop-i
-decreases-loop-i l = l.n - l.i
+invariant-loop-i l = Front (frame_bytes (units_from l.line)) l.initial.out l.i l.out

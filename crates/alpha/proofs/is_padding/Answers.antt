@@ -1,28 +1,13 @@
--- `alpha::is_padding` meets its contract: at every turn the bytes before here are padding.
+-- `alpha::is_padding` meets its contract: the test passes at every byte.
 -- Assumes nothing.
-use mathlib.Core.Path.{sym}
-use native.Mathlib.Omega.{arith}
-use borrow.Author.Tests.{eq-eqb, ne_eqb}
-use Rattle.alpha.proofs.Scans.{scan_none, scan_good, scan_not, scan_end}
+use Rattle.std.proofs.Common.{rules, tests, eqb, ◌∙◌}
+use Rattle.std.proofs.lemmas.Iterator.{YieldsList-from_slice}
+use Rattle.std.proofs.lemmas.Iterator.Search.{all_from_yields_List}
+use Rattle.alpha.specs.Reads.{padding}
+use Rattle.alpha.proofs.Scans.{all_every}
 use Rattle.alpha.proofs.is_padding.Goals as goal
 
-pub loop-i-init : goal.loop-i-init
-loop-i-init c = scan_none _ _
-
-pub bounds-s-i : goal.bounds-s-i
-bounds-s-i c = omega arith
-
-pub returns-then-s-i : goal.returns-then-s-i
-returns-then-s-i c = scan_not _ _ _ _ c.loop-i.invariant (omega arith) (ne_eqb _ _ (λ e. c.if-s-i.true (sym e)))
-
-pub overflow_add-i : goal.overflow_add-i
-overflow_add-i c = omega arith
-
-pub loop-i-smaller : goal.loop-i-smaller
-loop-i-smaller c = omega arith
-
-pub loop-i-preserved : goal.loop-i-preserved
-loop-i-preserved c = scan_good _ _ _ _ c.loop-i.invariant (omega arith) (eq-eqb _ _ (sym c.if-s-i.false))
-
 pub returns : goal.returns
-returns c = search scan_end
+returns c =
+    all_from_yields_List (eqb padding) _ _ _ c.all.ensures.ran (YieldsList-from_slice c.args.s.now cc) (λ x b q k. search (rules, tests))
+    ∙ all_every (eqb padding) c.args.s.now

@@ -1,26 +1,15 @@
--- `alpha::is_plain` meets its contract: at every turn it is told of the bytes before here.
+-- `alpha::is_plain` meets its contract: the fold joins the tests.
 -- Assumes nothing.
-use native.Mathlib.Omega.{arith}
-use Rattle.alpha.proofs.Scans.{scan_none, scan_more, scan_end}
+use Rattle.std.proofs.Common.{rules, ◌≡◌, ◌&&◌, true, refl, ap, ◌∙◌}
+use Rattle.rules.specs.Checks.{every}
+use Rattle.std.proofs.lemmas.Iterator.{YieldsList-from_slice}
+use Rattle.std.proofs.lemmas.Fn.{fold_over, fronts}
+use Rattle.alpha.specs.Passes.{is_plain}
+use Rattle.alpha.proofs.Scans.{every_push}
 use Rattle.alpha.proofs.is_plain.Goals as goal
 
-pub loop-i-init : goal.loop-i-init
-loop-i-init c = scan_none _ _
-
-pub bounds-s-i : goal.bounds-s-i
-bounds-s-i c = omega arith
-
-pub is_plain_code-plain-requires : goal.is_plain_code-plain-requires
-is_plain_code-plain-requires c = tt
-
-pub overflow_add-i : goal.overflow_add-i
-overflow_add-i c = omega arith
-
-pub loop-i-smaller : goal.loop-i-smaller
-loop-i-smaller c = omega arith
-
-pub loop-i-preserved : goal.loop-i-preserved
-loop-i-preserved c = scan_more _ _ _ _ c.loop-i.invariant _ (omega arith) c.is_plain_code-plain.ensures
-
 pub returns : goal.returns
-returns c = search scan_end
+unfolding every
+returns c =
+    fold_over fronts (λ y. y.now) _ (λ ys r. r ≡ every is_plain ys) _ (λ ys a x b f e k. let q : b ≡ (a && is_plain x.now) = search rules in (q ∙ ap (λ t. t && is_plain x.now) e ∙ every_push is_plain ys x.now, search rules)) _ c.args.s.now true _
+    (YieldsList-from_slice c.args.s.now cc).runs refl c.fold.ensures.ran

@@ -1,32 +1,16 @@
--- `alpha::look_up` meets its contract: at every turn the codes before here are of other units.
+-- `alpha::look_up` meets its contract: the place of the first unit that is it.
 -- Assumes nothing.
-use native.Mathlib.Omega.{arith}
-use Rattle.alpha.proofs.Tables.{looks_none, looks_end, looks_found, looks_more}
+use Rattle.std.proofs.Common.{rules, tests, ◌≡◌, eqb}
+use Rattle.std.specs.List.{position}
+use Rattle.std.proofs.lemmas.Iterator.{YieldsList-from_slice}
+use Rattle.std.proofs.lemmas.Iterator.Search.{position_from_yields_List}
+use Rattle.alpha.specs.Alphabet.{table}
+use Rattle.alpha.proofs.Tables.{position_code}
 use Rattle.alpha.proofs.look_up.Goals as goal
 
-pub loop-i-init : goal.loop-i-init
-loop-i-init c = (c.requires, looks_none _)
-
-pub offset_bounds-codes-i : goal.offset_bounds-codes-i
-offset_bounds-codes-i c = omega arith
-
-pub bounds-codes-i : goal.bounds-codes-i
-bounds-codes-i c = omega arith
-
-pub overflow_cast-result : goal.overflow_cast-result
-overflow_cast-result c = omega arith
-
-pub returns-then-codes-i : goal.returns-then-codes-i
-returns-then-codes-i c = looks_found _ _ c.loop-i.invariant.1 _ c.loop-i.invariant.0 (omega arith) c.if-codes-i.true
-
-pub overflow_add-i : goal.overflow_add-i
-overflow_add-i c = omega arith
-
-pub loop-i-smaller : goal.loop-i-smaller
-loop-i-smaller c = omega arith
-
-pub loop-i-preserved : goal.loop-i-preserved
-loop-i-preserved c = (c.loop-i.invariant.0, looks_more _ _ c.loop-i.invariant.1 _ c.loop-i.invariant.0 (omega arith) c.if-codes-i.false)
-
 pub returns : goal.returns
-returns c = looks_end _ _ c.loop-i.invariant.1 (omega arith)
+unfolding table
+returns c =
+    let e : c.position.result ≡ position (λ x. eqb x c.args.unit) table = position_from_yields_List (λ x. eqb x c.args.unit) _ _ _ c.position.ensures.ran (YieldsList-from_slice table cc) (λ x b q k. search (rules, tests)) in
+    let f = position_code c.args.unit in
+    search rules

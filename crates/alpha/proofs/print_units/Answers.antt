@@ -10,15 +10,15 @@ pub print-requires : goal.print-requires
 unfolding count_of
 print-requires c = (omega arith, omega arith)
 
-pub returns-then-text-eq0 : goal.returns-then-text-eq0
+pub returns-in_default : goal.returns-in_default
 unfolding outcome_of
-returns-then-text-eq0 c = prints_as (none_line _ c.if-text-eq0.true) c.print.ensures
+returns-in_default c = prints_as (none_line _ c.in_default.ensures.cases) c.print.ensures
 
 pub print_further-end-requires : goal.print_further-end-requires
-print_further-end-requires c = further_room c.args.text.now c.if-text-eq0.false c.args.out.now _ (omega arith) _ _ c.print_unit-first.ensures
+print_further-end-requires c = further_room _ _ _ c.in-Some.ensures.cases.0 c.args.out.now _ (omega arith) _ _ c.print_unit-start.ensures
 
 pub print_char-requires : goal.print_char-requires
-print_char-requires c = feed_room c.args.text.now c.if-text-eq0.false c.args.out.now _ (omega arith) _ _ c.print_unit-first.ensures _ _ c.print_further-end.ensures
+print_char-requires c = feed_room _ _ _ c.in-Some.ensures.cases.0 c.args.out.now _ (omega arith) _ _ c.print_unit-start.ensures _ _ c.print_further-end.ensures
 
 pub returns : goal.returns
-returns c = units_line _ c.if-text-eq0.false (omega arith) c.print_unit-first.ensures c.print_further-end.ensures c.print_char.ensures
+returns c = units_line _ _ _ c.in-Some.ensures.cases.0 _ _ (omega arith) _ _ c.print_unit-start.ensures _ _ c.print_further-end.ensures _ _ c.print_char.ensures

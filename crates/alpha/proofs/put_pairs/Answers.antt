@@ -8,9 +8,6 @@ use Rattle.alpha.proofs.put_pairs.Goals as goal
 pub returns-then-room-eq0 : goal.returns-then-room-eq0
 returns-then-room-eq0 c = short_pairs _ _ (omega arith)
 
-pub returns-then-room-units : goal.returns-then-room-units
-returns-then-room-units c = short_pairs _ _ (omega arith)
-
 pub write_pairs-requires : goal.write_pairs-requires
 write_pairs-requires c = simp length-set (omega arith)
 

@@ -1,28 +1,18 @@
--- `bench::read_opening` meets its contract: without a transport level, with one, or unfit.
+-- `bench::read_opening` meets its contract: without a transport level, or with one.
 -- Assumes nothing.
-use Prim.Native.Nat.{ℕ, ◌+◌}
-use mathlib.Core.Path.{ap}
+use mathlib.Core.Path.{refl}
 use native.Mathlib.Omega.{arith}
-use Rattle.bench.proofs.Records.{opening_short, opening_unfit, opening_without, opening_with}
+use Rattle.bench_writer.specs.Records.{body_of, level_of}
+use Rattle.bench.proofs.Records.{opening_without, opening_with}
 use Rattle.bench.proofs.read_opening.Goals as goal
-
-pub returns-then-frame-lt-PARAMETERS : goal.returns-then-frame-lt-PARAMETERS
-returns-then-frame-lt-PARAMETERS c = search opening_short
-
-pub overflow_add-end : goal.overflow_add-end
-overflow_add-end c = omega (arith, c.wide-end.ensures.1)
-
-pub overflow_add-end-2 : goal.overflow_add-end-2
-overflow_add-end-2 c = omega (arith, c.wide-end.ensures.1)
-
-pub returns-then-frame-end : goal.returns-then-frame-end
-returns-then-frame-end c = opening_without c.args.frame.now _ (ap (λ (k : ℕ). 8 + k) c.wide-end.ensures.0) _ c.pair-size.ensures c.if-frame-end.true
-
-pub overflow_add-end-3 : goal.overflow_add-end-3
-overflow_add-end-3 c = omega (arith, c.wide-end.ensures.1)
-
-pub returns-then-frame-end-2 : goal.returns-then-frame-end-2
-returns-then-frame-end-2 c = opening_unfit c.args.frame.now _ (ap (λ (k : ℕ). 8 + k) c.wide-end.ensures.0) c.if-frame-end.false c.if-frame-end-2.true
+use Rattle.bench.proofs.read_opening.Goals.{in-empty, in-len3}
 
 pub returns : goal.returns
-returns c = opening_with c.args.frame.now _ (ap (λ (k : ℕ). 8 + k) c.wide-end.ensures.0) _ c.pair-size-2.ensures _ c.pair-port.ensures c.if-frame-end-2.false
+unfolding body_of level_of
+returns c =
+    let s = c.in_ok-bytes.ensures.cases in
+    let size = c.from_be_bytes-2.ensures in
+    elim c.if-rest-lt1.branch [
+      | in-empty w ↦ rw w.level-is (opening_without _ c.from.ensures s.1 s.2 (omega arith) (omega arith))
+      | in-len3 w ↦ rw w.level-is (opening_with _ c.from.ensures s.1 s.2 (omega arith) refl (let port = w.from_be_bytes.ensures in omega arith) (omega arith))
+    ]

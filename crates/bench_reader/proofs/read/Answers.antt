@@ -1,61 +1,18 @@
 -- `bench_reader::read` meets its contract: the details, the devices, and what follows.
 -- Assumes nothing.
-use Prim.Native.Nat.{◌+◌, ◌≤◌}
 use native.Mathlib.Omega.{arith}
-use lib.ListN.{length}
-use Rattle.bench_reader.proofs.Standing.{value_inside}
-use Rattle.bench_reader.proofs.Ruling.{details_missed, details_other, devices_missed, source_other, destination_other, devices_fit}
+use Rattle.bench_reader.proofs.Standing.{pair_there}
+use Rattle.bench_reader.proofs.Ruling.{details_missed, devices_missed, devices_unfit, devices_fit}
 use Rattle.bench_reader.proofs.read.Goals as goal
 
-pub returns-in_default : goal.returns-in_default
-returns-in_default c = search details_missed
+pub returns-in_err-number : goal.returns-in_err-number
+returns-in_err-number c = rw c.from_residual.ensures (details_missed _ c.in_err-number.ensures)
 
-pub returns-then-len-ne3 : goal.returns-then-len-ne3
-returns-then-len-ne3 c = search details_other
-
-pub returns-in_default-pair_of : goal.returns-in_default-pair_of
-returns-in_default-pair_of c = search devices_missed
+pub returns-in_err-source : goal.returns-in_err-source
+returns-in_err-source c = rw c.from_residual-in_err-source.ensures (devices_missed _ c.in_ok-number.ensures c.in_err-source.ensures)
 
 pub returns-then-source : goal.returns-then-source
-returns-then-source c = search source_other
-
-pub returns-then-destination : goal.returns-then-destination
-returns-then-destination c = search destination_other
-
-pub bounds-s-at : goal.bounds-s-at
-bounds-s-at c = omega (
-  arith,
-  (let here : c.in-At.at + c.in-At.len ≤ length c.args.s.now =
-      value_inside _ _ _ _ c.object_of.ensures c.in-At.is in here),
-)
-
-pub overflow_add-d : goal.overflow_add-d
-overflow_add-d c = omega (
-  arith,
-  (let here : c.in-At.at + c.in-At.len ≤ length c.args.s.now =
-      value_inside _ _ _ _ c.object_of.ensures c.in-At.is in here),
-)
-
-pub bounds-s-at-2 : goal.bounds-s-at-2
-bounds-s-at-2 c = omega (
-  arith,
-  (let here : c.in-At.at + c.in-At.len ≤ length c.args.s.now =
-      value_inside _ _ _ _ c.object_of.ensures c.in-At.is in here),
-)
-
-pub overflow_add-d-2 : goal.overflow_add-d-2
-overflow_add-d-2 c = omega (
-  arith,
-  (let here : c.in-At.at + c.in-At.len ≤ length c.args.s.now =
-      value_inside _ _ _ _ c.object_of.ensures c.in-At.is in here),
-)
-
-pub bounds-s-at-3 : goal.bounds-s-at-3
-bounds-s-at-3 c = omega (
-  arith,
-  (let here : c.in-At.at + c.in-At.len ≤ length c.args.s.now =
-      value_inside _ _ _ _ c.object_of.ensures c.in-At.is in here),
-)
+returns-then-source c = devices_unfit _ c.in_ok-number.ensures (pair_there c.in_ok-source.ensures) (λ z. let e = c.then-source.either in omega arith)
 
 pub returns : goal.returns
-returns c = search devices_fit
+returns c = devices_fit _ c.in_ok-number.ensures (pair_there c.in_ok-source.ensures) c.if-source.false c.if-destination.false c.read_result.ensures

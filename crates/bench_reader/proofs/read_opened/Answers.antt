@@ -1,16 +1,15 @@
 -- `bench_reader::read_opened` meets its contract: a status that is not dropped, and what follows.
 -- Assumes nothing.
-use Rattle.bench_reader.proofs.Following.{opened_missed, opened_dropped, opened_fits, link_not_yet, link_established}
+use mathlib.Core.Path.{sym, ◌∙◌}
+use Rattle.bench_reader.proofs.Standing.{follows_as}
+use Rattle.bench_reader.proofs.Following.{same_dropped, opened_missed, opened_dropped, opened_fits}
 use Rattle.bench_reader.proofs.read_opened.Goals as goal
 
-pub returns-in_default : goal.returns-in_default
-returns-in_default c = search opened_missed
+pub returns-in_err-number : goal.returns-in_err-number
+returns-in_err-number c = λ d x. rw c.from_residual.ensures (opened_missed d x c.in_err-number.ensures)
 
-pub returns-in-NotYet : goal.returns-in-NotYet
-returns-in-NotYet c = search (opened_fits, link_not_yet)
+pub returns-then-eq : goal.returns-then-eq
+returns-then-eq c = λ d x. opened_dropped d x c.in_ok-number.ensures (sym (same_dropped _) ∙ sym c.eq.ensures ∙ c.if-eq.true)
 
-pub returns-in-Established : goal.returns-in-Established
-returns-in-Established c = search (opened_fits, link_established)
-
-pub returns-in-Dropped : goal.returns-in-Dropped
-returns-in-Dropped c = search opened_dropped
+pub returns : goal.returns
+returns c = λ d x. follows_as d x _ _ (opened_fits d x c.in_ok-number.ensures (sym (same_dropped _) ∙ sym c.eq.ensures ∙ c.if-eq.false)) (c.read_bearer.ensures d x)

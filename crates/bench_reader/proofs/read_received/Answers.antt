@@ -1,22 +1,16 @@
 -- `bench_reader::read_received` meets its contract: the data, and the count behind it.
 -- Assumes nothing.
-use Prim.Native.Nat.{◌≤◌}
-use native.Mathlib.Omega.{arith}
-use Rattle.bench_reader.proofs.Following.{data_missed, data_long, count_missed, count_place, count_fits}
+use Rattle.bench_reader.proofs.Following.{data_missed, data_long, count_missed, count_fits}
 use Rattle.bench_reader.proofs.read_received.Goals as goal
 
-pub returns-in_default : goal.returns-in_default
-returns-in_default c = search data_missed
+pub returns-in_err-data : goal.returns-in_err-data
+returns-in_err-data c = λ d x. rw c.from_residual.ensures (data_missed d x c.in_err-data.ensures)
 
-pub returns-then-len-gt-DATA : goal.returns-then-len-gt-DATA
-returns-then-len-gt-DATA c = search data_long
+pub returns-then-data-gt-DATA : goal.returns-then-data-gt-DATA
+returns-then-data-gt-DATA c = λ d x. data_long d x c.in_ok-data.ensures c.if-data-gt-DATA.true
 
-pub returns-in_default-byte_of : goal.returns-in_default-byte_of
-returns-in_default-byte_of c = search count_missed
-
-pub last-requires : goal.last-requires
-last-requires c = λ e. search count_place
+pub returns-in_err-left : goal.returns-in_err-left
+returns-in_err-left c = λ d x. rw c.from_residual-in_err-left.ensures (count_missed d x c.in_ok-data.ensures c.in_err-left.ensures)
 
 pub returns : goal.returns
-returns c = let few : c.in-Byte.left ≤ 255 = omega arith in
-    search count_fits
+returns c = λ d x. count_fits d x c.in_ok-data.ensures c.if-data-gt-DATA.false c.in_ok-left.ensures

@@ -1,19 +1,16 @@
 -- `bench_reader::read_statuses` meets its contract: none, or statuses that rise.
 -- Assumes nothing.
-use Rattle.bench_reader.proofs.Rising.{statuses_missed, statuses_inside, statuses_place, statuses_none, statuses_some}
+use native.Mathlib.Omega.{arith}
+use Rattle.bench_reader.proofs.Standing.{pair_there, follows_as}
+use Rattle.bench_reader.proofs.Rising.{statuses_missed, statuses_none, statuses_some}
 use Rattle.bench_reader.proofs.read_statuses.Goals as goal
 
-pub returns-in_default : goal.returns-in_default
-returns-in_default c = search statuses_missed
+pub returns-in_err-first : goal.returns-in_err-first
+returns-in_err-first c = λ d x. rw c.from_residual.ensures (statuses_missed d x c.in_err-first.ensures)
 
-pub read_rising-requires : goal.read_rising-requires
-read_rising-requires c = search statuses_inside
-
-pub returns-then-pair-ne0 : goal.returns-then-pair-ne0
-returns-then-pair-ne0 c = statuses_some _ _ _ _ c.pair_of.ensures c.in-Bytes.is c.pair.ensures c.if-pair-ne0.true c.read_rising.ensures
-
-pub last-requires : goal.last-requires
-last-requires c = search statuses_place
+pub returns-then-first-ne0 : goal.returns-then-first-ne0
+returns-then-first-ne0 c =
+    λ d x. follows_as d x _ _ (statuses_some d x (pair_there c.in_ok-first.ensures) (λ z. let e = c.then-first-ne0.either in omega arith)) (c.read_rising.ensures d x)
 
 pub returns : goal.returns
-returns c = search statuses_none
+returns c = λ d x. statuses_none d x (pair_there c.in_ok-first.ensures) c.if-first-ne0.false c.if-second-ne0.false

@@ -7,10 +7,10 @@ use Rattle.rules.specs.Checks.{◌⇒◌else◌}
 use Rattle.bench_writer.specs.Records.{level_of}
 use Rattle.bench_writer.proofs.level_size.Goals as goal
 
-pub returns-in-Without : goal.returns-in-Without
-unfolding written object_bytes length_bytes pair_bytes transport_objects level_of ◌⇒◌else◌
-returns-in-Without c = rw c.in-Without.is
+pub returns-in-None : goal.returns-in-None
+unfolding written transport_objects level_of
+returns-in-None c = rw c.in-None.is
 
-pub returns-in-With : goal.returns-in-With
+pub returns-in-Some : goal.returns-in-Some
 unfolding written object_bytes length_bytes pair_bytes transport_objects level_of ◌⇒◌else◌
-returns-in-With c = rw c.in-With.is
+returns-in-Some c = rw c.in-Some.is

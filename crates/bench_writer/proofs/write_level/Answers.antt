@@ -1,19 +1,20 @@
 -- `bench_writer::write_level` meets its contract: nothing, or one object.
 -- Assumes nothing.
-use mathlib.Core.List.{◌∷◌}
+use mathlib.Core.Path.{◌∙◌}
 use native.Mathlib.Omega.{arith}
-use Rattle.rules.specs.Written.{unflagged, pair_bytes}
+use Rattle.rules.specs.Frames.{length_bytes}
+use Rattle.rules.specs.Written.{pair_bytes}
 use Rattle.rules.specs.Bench.{transport_objects}
-use Rattle.rules.specs.Frames.{written, object_bytes}
-use Rattle.rules.specs.Checks.{◌⇒◌else◌}
 use Rattle.bench_writer.specs.Records.{level_of}
-use Rattle.bench_writer.proofs.Writes.{unwritten, alone}
+use Rattle.bench_writer.proofs.Writes.{unwritten, unflagged_alone, pair_is}
 use Rattle.bench_writer.proofs.write_level.Goals as goal
 
-pub returns-in-Without : goal.returns-in-Without
-unfolding written transport_objects level_of
-returns-in-Without c = rw c.in-Without.is (unwritten _ _ (omega (arith, c.requires)))
+pub returns-in_default : goal.returns-in_default
+unfolding transport_objects level_of
+returns-in_default c = rw c.in_default.is (unwritten _ _ (omega arith))
 
-pub returns-in-With : goal.returns-in-With
-unfolding object_bytes pair_bytes transport_objects level_of ◌⇒◌else◌
-returns-in-With c = rw c.in-With.is (alone (unflagged 0x3C (c.in-With.protocol ∷ pair_bytes c.in-With.port)) _ _ _ _ c.write_object.ensures)
+pub returns : goal.returns
+unfolding length_bytes pair_bytes transport_objects level_of
+returns c =
+    let w = rw (c.to_be_bytes.ensures ∙ pair_is c.in-Some.level.port (omega arith)) at c.write_object.ensures in
+    rw c.in-Some.is (unflagged_alone _ _ _ _ _ _ w)

@@ -3,8 +3,8 @@
 use Rattle.command.proofs.Lengths.{bearer_none, bearer_two, bearer_three, bearer_any}
 use Rattle.command.proofs.bearer_fits.Goals as goal
 
-pub returns-then-len-eq0 : goal.returns-then-len-eq0
-returns-then-len-eq0 c = search bearer_none
+pub returns-in-empty : goal.returns-in-empty
+returns-in-empty c = search bearer_none
 
 pub returns-in-2 : goal.returns-in-2
 returns-in-2 c = search bearer_two

@@ -1,23 +1,20 @@
 -- `command::frame_start` meets its contract: each answer is that of the law for its case.
 -- Assumes nothing.
-use Rattle.objects.proofs.Reading.{length_told, length_within, length_missed}
+use Rattle.objects.proofs.Reading.{byte_there}
 use Rattle.command.proofs.Framing.{frame_empty, frame_other, frame_unsized, frame_count, frame_right}
 use Rattle.command.proofs.frame_start.Goals as goal
 
-pub returns-then-s-eq0 : goal.returns-then-s-eq0
-returns-then-s-eq0 c = search frame_empty
+pub returns-in_err-first : goal.returns-in_err-first
+returns-in_err-first c = rw c.from_residual.ensures (frame_empty _ c.in_err-first.ensures.item.3)
 
-pub returns-then-first : goal.returns-then-first
-returns-then-first c = search frame_other
+pub returns-then-branch : goal.returns-then-branch
+returns-then-branch c = frame_other (byte_there c.in_ok-first.ensures.item.3) c.if-branch.true
 
-pub returns-in_default : goal.returns-in_default
-returns-in_default c = search (frame_unsized, length_missed)
+pub returns-in_err-length : goal.returns-in_err-length
+returns-in_err-length c = rw c.from_residual-in_err-length.ensures (frame_unsized _ c.in_err-length.ensures)
 
-pub overflow_sub-s : goal.overflow_sub-s
-overflow_sub-s c = search length_within
-
-pub returns-then-s-start : goal.returns-then-s-start
-returns-then-s-start c = frame_right _ _ _ (length_told c.in-By.is c.length_at.ensures) c.if-first.false c.if-s-start.true
+pub returns-then-s-length : goal.returns-then-s-length
+returns-then-s-length c = frame_count c.in_ok-length.ensures c.if-s-length.true
 
 pub returns : goal.returns
-returns c = frame_count _ _ _ (length_told c.in-By.is c.length_at.ensures) c.if-s-start.false
+returns c = frame_right (byte_there c.in_ok-first.ensures.item.3) c.if-branch.false c.in_ok-length.ensures c.if-s-length.false

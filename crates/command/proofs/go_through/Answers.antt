@@ -1,45 +1,30 @@
 -- `command::go_through` meets its contract: at every turn the objects before here are sorted.
 -- Assumes nothing.
-use native.Mathlib.Omega.{arith}
-use Rattle.objects.proofs.Reading.{object_told, object_missed}
-use Rattle.objects.proofs.Walking.{nearer}
-use Rattle.command.proofs.Needed.{needed_low}
-use Rattle.command.proofs.Sorting.{sorting_start, sorting_on, sorted_end, sorted_fault}
+use Rattle.std.proofs.Common.{refl}
+use Rattle.std.proofs.lemmas.Result.{err_from_is_err_and}
+use Rattle.command.proofs.Sorting.{none_few, few_seen, sorting_start, sorting_on, sorted_end, sorted_fault}
 use Rattle.command.proofs.go_through.Goals as goal
-use Rattle.command.proofs.go_through.Goals.{then-s-at, else-s-at+in-Fault}
 
-pub overflow_cast-starts : goal.overflow_cast-starts
-overflow_cast-starts c = omega (arith, c.requires.0, c.requires.1.stands.within)
+pub loop-c-init : goal.loop-c-init
+loop-c-init c = sorting_start c.requires.1 c.requires.2 c.meet.ensures.after
 
-pub loop-counts-init : goal.loop-counts-init
-loop-counts-init c = sorting_start c.requires.1 c.requires.2
+pub meet-requires : goal.meet-requires
+meet-requires c = (refl, refl, none_few _)
 
-pub overflow_add-counts : goal.overflow_add-counts
-overflow_add-counts c = omega (arith, c.requires.0, c.loop-counts.invariant.few c.slot-k.result c.slot-k.ensures.1, c.loop-counts.invariant.ends.within)
+pub meet-requires-in-loop-c : goal.meet-requires-in-loop-c
+meet-requires-in-loop-c c =
+    let w = c.loop-c.invariant in
+    (w.counts_long, w.starts_long, few_seen w c.in_ok-object.ensures c.requires.2 c.requires.0)
 
-pub overflow_cast-start : goal.overflow_cast-start
-overflow_cast-start c = let st = object_told c.in-Object.is c.object.ensures in
-    omega (arith, c.requires.0, st.ends, st.within)
+pub returns-in_err-object : goal.returns-in_err-object
+returns-in_err-object c =
+    let p = err_from_is_err_and c.from_residual.result c.from_residual.ensures.1 in
+    rw p.1 (sorted_fault c.loop-c.invariant _ c.loop-c-test.true c.in_err-object.ensures)
 
-pub fits-requires : goal.fits-requires
-fits-requires c = let st = object_told c.in-Object.is c.object.ensures in
-    omega (arith, st.ends, st.within)
-
-pub loop-counts-smaller : goal.loop-counts-smaller
-loop-counts-smaller c = nearer (object_told c.in-Object.is c.object.ensures)
-
-pub loop-counts-preserved : goal.loop-counts-preserved
-loop-counts-preserved c = sorting_on c.loop-counts.invariant (object_told c.in-Object.is c.object.ensures) c.requires.2 _ _ _ _ _ c.slot-k.ensures.0 c.first_of.ensures c.times.ensures c.fits.ensures c.note-survey.ensures
-
-pub sum_up-requires : goal.sum_up-requires
-sum_up-requires c = let low = needed_low _ c.requires.2 in
-    (c.loop-counts.invariant.starts_long, low.0, low.1)
+pub loop-c-preserved : goal.loop-c-preserved
+loop-c-preserved c =
+    sorting_on c.loop-c.invariant c.in_ok-object.ensures c.requires.2 c.meet-in-loop-c.ensures.before c.meet-in-loop-c.ensures.after c.times.ensures
+    c.fits-fit.ensures c.note.ensures
 
 pub returns : goal.returns
-returns c =
-    elim c.if-s-at.branch [
-      | then-s-at w ↦ sorted_end c.loop-counts.invariant c.requires.1 c.requires.2 c.sum_up.ensures w.whole-is w.if-s-at.true
-      | else-s-at+in-Fault w ↦
-          sorted_fault c.loop-counts.invariant c.requires.1 c.requires.2 c.sum_up.ensures w.whole-is _ w.if-s-at.false
-          (object_missed _ _ w.in-Fault.is w.object.ensures)
-    ]
+returns c = sorted_end c.loop-c.invariant c.requires.1 c.requires.2 c.loop-c-test.false c.place-v.ensures c.place-v-2.ensures c.place-v-3.ensures c.place-v-4.ensures

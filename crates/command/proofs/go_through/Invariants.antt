@@ -5,8 +5,8 @@ use lib.ListN.{length}
 use Rattle.command.proofs.Sorting.{Sorting}
 use Rattle.command.proofs.go_through.Given as goal
 
-abbrev pub invariant-loop-counts : goal.invariant-loop-counts
-invariant-loop-counts l = Sorting l.s l.counts l.starts l.survey l.c.at
+abbrev pub invariant-loop-c : goal.invariant-loop-c
+invariant-loop-c l = Sorting l.s l.met l.v.survey l.c.at
 
-abbrev pub decreases-loop-counts : goal.decreases-loop-counts
-decreases-loop-counts l = length l.s - l.c.at
+abbrev pub decreases-loop-c : goal.decreases-loop-c
+decreases-loop-c l = length l.s - l.c.at

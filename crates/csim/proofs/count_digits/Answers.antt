@@ -1,32 +1,16 @@
--- `csim::count_digits` meets its contract: at every turn the characters before here are digits.
+-- `csim::count_digits` meets its contract: the digits that the library takes are those at the front.
 -- Assumes nothing.
-use native.Mathlib.Omega.{arith}
-use Rattle.csim.proofs.Scans.{digits_none, digits_low, digits_high, digits_more, digits_end}
+use Rattle.std.proofs.Common.{◌∙◌, rules}
+use Rattle.std.specs.Char.{is_ascii_digit}
+use Rattle.std.proofs.lemmas.Iterator.{YieldsList-from_slice}
+use Rattle.std.proofs.lemmas.Iterator.Search.{YieldsList-from_take_while}
+use Rattle.std.proofs.lemmas.Iterator.Consumers.{count_from_yields_List, YieldsList-at}
+use Rattle.csim.proofs.Scans.{digits_taken}
 use Rattle.csim.proofs.count_digits.Goals as goal
 
-pub loop-i-init : goal.loop-i-init
-loop-i-init c = digits_none _
-
-pub bounds-s-i : goal.bounds-s-i
-bounds-s-i c = omega arith
-
-pub returns-then-s-i-lt48 : goal.returns-then-s-i-lt48
-returns-then-s-i-lt48 c = search digits_low
-
-pub bounds-s-i-in-loop-i : goal.bounds-s-i-in-loop-i
-bounds-s-i-in-loop-i c = omega arith
-
-pub returns-then-s-i-gt57 : goal.returns-then-s-i-gt57
-returns-then-s-i-gt57 c = search digits_high
-
-pub overflow_add-i : goal.overflow_add-i
-overflow_add-i c = omega arith
-
-pub loop-i-smaller : goal.loop-i-smaller
-loop-i-smaller c = omega arith
-
-pub loop-i-preserved : goal.loop-i-preserved
-loop-i-preserved c = search digits_more
-
-pub returns : goal.returns
-returns c = search digits_end
+pub returns-clause-count : goal.returns-clause-count
+returns-clause-count c =
+    count_from_yields_List _ _ c.count.ensures.ran
+    (YieldsList-from_take_while _ is_ascii_digit (YieldsList-at c.take_while.ensures.source (YieldsList-from_slice c.args.s.now cc))
+    c.take_while.ensures.closure c.take_while.ensures.done (λ x b q k. search rules))
+    ∙ digits_taken c.args.s.now

@@ -23,20 +23,20 @@ pub stage_of-requires : goal.stage_of-requires
 stage_of-requires c = bring_short _ _ _ c.requires.0 _ _ c.loop-taken.invariant
 
 pub overflow_add-end : goal.overflow_add-end
-overflow_add-end c = let k = c.least.ensures in omega (arith, k)
+overflow_add-end c = let k = c.min.ensures in omega (arith, k)
 
 pub put_part-requires : goal.put_part-requires
-put_part-requires c = let k = c.least.ensures in
+put_part-requires c = let k = c.min.ensures in
     let w = c.loop-taken.invariant.within in
     let z = c.loop-taken.invariant.size in
     let f = (bring_fits _ _ _ c.requires.0 _ _ c.loop-taken.invariant _ (sym c.stage_of.ensures ∙ c.in-Lacks.is)).0 in (omega arith, omega (arith, k, w), omega (arith, k, z, f))
 
 pub loop-taken-smaller : goal.loop-taken-smaller
-loop-taken-smaller c = let k = c.least.ensures in
+loop-taken-smaller c = let k = c.min.ensures in
     let f = (bring_fits _ _ _ c.requires.0 _ _ c.loop-taken.invariant _ (sym c.stage_of.ensures ∙ c.in-Lacks.is)).1 in omega (arith, k, f)
 
 pub loop-taken-preserved : goal.loop-taken-preserved
-loop-taken-preserved c = let k = c.least.ensures in
+loop-taken-preserved c = let k = c.min.ensures in
     bring_more _ _ _ c.requires.0 _ _ c.loop-taken.invariant _ _ _ (sym c.stage_of.ensures ∙ c.in-Lacks.is) (omega (arith, k)) c.put_part.ensures
 
 pub returns-in-Overlong : goal.returns-in-Overlong

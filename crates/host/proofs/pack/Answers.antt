@@ -7,12 +7,12 @@ use Rattle.host.proofs.pack.Goals as goal
 
 pub overflow_cast-result : goal.overflow_cast-result
 unfolding Fits
-overflow_cast-result c = let h = subst Fits c.in-Wrote.is c.requires in record { fits = omega (arith, h) }
+overflow_cast-result c = let h = subst Fits c.in-Ok.is c.requires in record { fits = omega (arith, h) }
 
-pub returns-in-Wrote : goal.returns-in-Wrote
+pub returns-in-Ok : goal.returns-in-Ok
 unfolding packed
-returns-in-Wrote c = rw c.in-Wrote.is
+returns-in-Ok c = rw c.in-Ok.is
 
-pub returns-in-Refused : goal.returns-in-Refused
+pub returns-in-Err : goal.returns-in-Err
 unfolding packed
-returns-in-Refused c = rw (c.in-Refused.is, c.number.ensures)
+returns-in-Err c = rw (c.in-Err.is, c.number.ensures)

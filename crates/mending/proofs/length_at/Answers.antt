@@ -1,22 +1,31 @@
--- `mending::length_at` meets its contract: each answer is that of the law for its case.
+-- `mending::length_at` meets its contract: as the rules read it, or 81 and a byte below 80.
 -- Assumes nothing.
-use Rattle.mending.proofs.Reading.{length_none, length_short, length_other, second_none, long_short, long_length_lem}
+use Rattle.std.proofs.Common.{◌<◌, ◌∙◌, ap, length, drop, length-drop, arith, rules}
+use borrow.Author.Rules.{part_to_end}
+use Rattle.mending.proofs.Reading.{no_second, no_other, length_strict, length_overlong}
 use Rattle.mending.proofs.length_at.Goals as goal
+use Rattle.mending.proofs.length_at.Goals.{then-rest-lt2-via-then-rest-lt2, then-rest-lt2-via-else-rest-lt2+then-rest}
 
-pub returns-then-s-at : goal.returns-then-s-at
-returns-then-s-at c = search length_none
+pub returns-in-Some : goal.returns-in-Some
+returns-in-Some c = length_strict _ _ c.in-Some.ensures
 
-pub returns-then-b-lt128 : goal.returns-then-b-lt128
-returns-then-b-lt128 c = search length_short
+pub returns-in_err-rest : goal.returns-in_err-rest
+returns-in_err-rest c =
+    let size = length-drop c.args.at c.args.s.now in
+    let past = c.in_err-rest.ensures.lookup.0 in
+    let short : length (drop c.args.at c.args.s.now) < 2 = grind arith in
+    let e = no_second _ c.in_default.ensures short in
+    search rules
 
-pub returns-then-b : goal.returns-then-b
-returns-then-b c = search length_other
-
-pub returns-then-s-next : goal.returns-then-s-next
-returns-then-s-next c = search second_none
-
-pub returns-then-c-lt128 : goal.returns-then-c-lt128
-returns-then-c-lt128 c = search long_short
+pub returns-then-rest-lt2 : goal.returns-then-rest-lt2
+returns-then-rest-lt2 c =
+    let is = c.in_ok-rest.ensures.lookup.0.2 ∙ part_to_end c.args.s.now c.args.at in
+    elim c.then-rest-lt2.branch [
+      | then-rest-lt2-via-then-rest-lt2 w ↦ no_second _ c.in_default.ensures (let size = ap length is in omega (arith, w.if-rest-lt2.true))
+      | then-rest-lt2-via-else-rest-lt2+then-rest w ↦ no_other _ c.in_default.ensures (rw is at w.if-rest.true)
+    ]
 
 pub returns : goal.returns
-returns c = search long_length_lem
+returns c =
+    rw c.from.ensures
+    (length_overlong _ _ c.in_ok-rest.rest.now (c.in_ok-rest.ensures.lookup.0.2 ∙ part_to_end c.args.s.now c.args.at) c.in_default.ensures c.if-rest-lt2.false c.if-rest.false)

@@ -7,8 +7,8 @@ use Rattle.mending.specs.Printed.{changes_text}
 use Rattle.mending.proofs.Left.{Left}
 use Rattle.mending.proofs.print_changes.Given as goal
 
-abbrev pub invariant-loop-at : goal.invariant-loop-at
-invariant-loop-at l = Left (changes_text (mend_from l.from (drop l.from l.s)).changes) (changes_text (mend_from l.at (drop l.at l.s)).changes) l.initial.out l.start l.out l.to
+abbrev pub invariant-loop-object : goal.invariant-loop-object
+invariant-loop-object l = Left (changes_text (mend_from l.from (drop l.from l.s)).changes) (changes_text (mend_from l.at (drop l.at l.s)).changes) l.initial.out l.start l.out l.to
 
-abbrev pub decreases-loop-at : goal.decreases-loop-at
-decreases-loop-at l = length l.s - l.at
+abbrev pub decreases-loop-object : goal.decreases-loop-object
+decreases-loop-object l = length l.s - l.at

@@ -16,10 +16,6 @@ slice_bounds-head-end c = omega (arith, c.write_length-size.ensures.value, head_
 pub slice_bounds-print_bytes-end : goal.slice_bounds-print_bytes-end
 slice_bounds-print_bytes-end c = front_size _ _ _ _ c.write_length-size.ensures.out_after c.write_length-size.ensures.value
 
-pub print_bytes-headed-requires : goal.print_bytes-headed-requires
-print_bytes-headed-requires c = let f = ap length (front_is _ _ _ _ c.write_length-size.ensures.out_after c.write_length-size.ensures.value) in
-    omega (arith, f, head_few (length c.args.objects.now), c.requires.1)
-
 pub print_bytes-requires : goal.print_bytes-requires
 print_bytes-requires c = let f = front_is _ _ _ _ c.write_length-size.ensures.out_after c.write_length-size.ensures.value in
     let n = ap (λ (x : List ℕ). length (hex x)) f ∙ hex_size _ in

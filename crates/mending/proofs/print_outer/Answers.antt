@@ -1,6 +1,6 @@
 -- `mending::print_outer` meets its contract: L for another number and for the longer form, or nothing.
 -- Assumes nothing.
-use native.Mathlib.Omega.{arith}
+use Rattle.std.proofs.Common.{arith, ⊎_elim}
 use Rattle.text.proofs.Printing.{prints_as, decimal_few}
 use Rattle.mending.proofs.Left.{prints_none, other_text, longer_text, right_text}
 use Rattle.mending.proofs.print_outer.Goals as goal
@@ -8,14 +8,10 @@ use Rattle.mending.proofs.print_outer.Goals as goal
 pub print_change-requires : goal.print_change-requires
 print_change-requires c = (omega arith, omega (arith, c.requires, decimal_few 1))
 
-pub returns-then-said-count : goal.returns-then-said-count
-returns-then-said-count c = prints_as (other_text c.args.said c.args.kept c.args.count c.if-said-count.true) c.print_change.ensures
-
-pub print_change-requires-then-kept-ne-OUTER : goal.print_change-requires-then-kept-ne-OUTER
-print_change-requires-then-kept-ne-OUTER c = (omega arith, omega (arith, c.requires, decimal_few 1))
-
-pub returns-then-kept-ne-OUTER : goal.returns-then-kept-ne-OUTER
-returns-then-kept-ne-OUTER c = prints_as (longer_text c.args.said c.args.kept c.args.count c.if-said-count.false c.if-kept-ne-OUTER.true) c.print_change-then-kept-ne-OUTER.ensures
+pub returns-then-outer-count : goal.returns-then-outer-count
+returns-then-outer-count c =
+    let o = c.args.outer in
+    prints_as (⊎_elim (other_text o.said o.kept c.args.count) (λ h. longer_text o.said o.kept c.args.count h.0 h.1) c.then-outer-count.either) c.print_change.ensures
 
 pub returns : goal.returns
-returns c = prints_as (right_text c.args.said c.args.kept c.args.count c.if-said-count.false c.if-kept-ne-OUTER.false) (prints_none _ _)
+returns c = prints_as (right_text c.args.outer.said c.args.outer.kept c.args.count c.if-outer-count.false c.if-outer-ne-OUTER.false) (prints_none _ _)

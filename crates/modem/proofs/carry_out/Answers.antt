@@ -21,7 +21,7 @@ open-requires c = (c.requires.0, c.requires.2, (opens _ _ _ c.args.q c.requires.
 
 pub close-requires : goal.close-requires
 unfolding to_modem member some_of
-close-requires c = (numbered _ _ _ c.args.q c.requires.0 c.requires.1 _ Close c.channel-n.ensures c.in-Close.is 0x41 (eqb-true _ 0x41) refl, c.requires.2)
+close-requires c = (numbered _ _ _ c.args.q c.requires.0 c.requires.1 _ Close c.from-n.ensures c.in-Close.is 0x41 (eqb-true _ 0x41) refl, c.requires.2)
 
 pub bounds-s-start : goal.bounds-s-start
 bounds-s-start c = let l = one_byte _ _ _ c.args.q c.requires.0 c.requires.1 c.in-Receive.is in
@@ -29,11 +29,11 @@ bounds-s-start c = let l = one_byte _ _ _ c.args.q c.requires.0 c.requires.1 c.i
 
 pub receive-requires : goal.receive-requires
 unfolding to_modem member some_of
-receive-requires c = (numbered _ _ _ c.args.q c.requires.0 c.requires.1 _ Receive c.channel-n.ensures c.in-Receive.is 0x42 (eqb-true _ 0x42) refl, c.requires.2)
+receive-requires c = (numbered _ _ _ c.args.q c.requires.0 c.requires.1 _ Receive c.from-n.ensures c.in-Receive.is 0x42 (eqb-true _ 0x42) refl, c.requires.2)
 
 pub send-requires : goal.send-requires
 unfolding to_modem member some_of
-send-requires c = (numbered _ _ _ c.args.q c.requires.0 c.requires.1 _ Send c.channel-n.ensures c.in-Send.is 0x43 (eqb-true _ 0x43) refl, c.requires.2)
+send-requires c = (numbered _ _ _ c.args.q c.requires.0 c.requires.1 _ Send c.from-n.ensures c.in-Send.is 0x43 (eqb-true _ 0x43) refl, c.requires.2)
 
 pub bounds-s-start-in-StartTimer : goal.bounds-s-start-in-StartTimer
 bounds-s-start-in-StartTimer c = let l = start_byte _ _ _ c.args.q c.requires.0 c.requires.1 c.in-StartTimer.is in
@@ -66,13 +66,13 @@ pub returns-in-Open : goal.returns-in-Open
 returns-in-Open c = open_answers _ _ _ c.args.q c.requires.0 c.requires.1 _ _ _ _ _ c.in-Open.is c.size_at.ensures c.protocol_at.ensures c.open.ensures
 
 pub returns-in-Close : goal.returns-in-Close
-returns-in-Close c = close_answers _ _ _ c.args.q c.requires.0 c.requires.1 _ _ _ _ _ _ c.channel-n.ensures c.in-Close.is c.close.ensures
+returns-in-Close c = close_answers _ _ _ c.args.q c.requires.0 c.requires.1 _ _ _ _ _ _ c.from-n.ensures c.in-Close.is c.close.ensures
 
 pub returns-in-Receive : goal.returns-in-Receive
-returns-in-Receive c = receive_answers _ _ _ c.args.q c.requires.0 c.requires.1 _ _ _ _ _ _ c.channel-n.ensures c.in-Receive.is c.receive.ensures
+returns-in-Receive c = receive_answers _ _ _ c.args.q c.requires.0 c.requires.1 _ _ _ _ _ _ c.from-n.ensures c.in-Receive.is c.receive.ensures
 
 pub returns-in-Send : goal.returns-in-Send
-returns-in-Send c = send_answers _ _ _ c.args.q c.requires.0 c.requires.1 _ _ _ _ _ _ c.channel-n.ensures c.in-Send.is c.send.ensures
+returns-in-Send c = send_answers _ _ _ c.args.q c.requires.0 c.requires.1 _ _ _ _ _ _ c.from-n.ensures c.in-Send.is c.send.ensures
 
 pub returns-in-StartTimer : goal.returns-in-StartTimer
 returns-in-StartTimer c = start_answers _ _ _ c.args.q c.requires.0 c.requires.1 _ _ _ _ _ c.in-StartTimer.is refl c.start_timer.ensures

@@ -1,10 +1,8 @@
 -- `modem::command_in` meets its contract: R1, R2, and then the frame.
 -- Assumes nothing.
-use mathlib.Core.Path.{refl, subst}
+use mathlib.Core.Path.{refl}
 use native.Mathlib.Omega.{arith}
 use Rattle.rules.specs.Reading.{zeros}
-use Rattle.command.specs.declared.Framed.{Framed}
-use Rattle.command.specs.Requests.{Frames}
 use Rattle.session.proofs.Answers.{refuse_answers}
 use Rattle.own.proofs.Replies.{left_answers}
 use Rattle.modem.proofs.Obeying.{as_obeyed}
@@ -21,15 +19,15 @@ pub returns-then-s-gt-COMMAND : goal.returns-then-s-gt-COMMAND
 returns-then-s-gt-COMMAND c = refuse_answers _ _ _ _ _ c.requires (long_refused _ _ _ c.if-out-lt-RESPONSE.false c.if-s-gt-COMMAND.true)
 
 pub slice_bounds-obey-count : goal.slice_bounds-obey-count
-slice_bounds-obey-count c = (subst (λ (r : Framed). Frames r c.args.s.now) c.in-At.is c.frame_start.ensures).within
+slice_bounds-obey-count c = c.in-Some.ensures.within
 
 pub slice_bounds-obey-start : goal.slice_bounds-obey-start
-slice_bounds-obey-start c = omega (arith, (subst (λ (r : Framed). Frames r c.args.s.now) c.in-At.is c.frame_start.ensures).within)
+slice_bounds-obey-start c = omega (arith, c.in-Some.ensures.within)
 
-pub returns-in-At : goal.returns-in-At
-returns-in-At c = as_obeyed _ _ _ _ _ _ _ (framed_obeyed _ _ _ c.if-out-lt-RESPONSE.false c.if-s-lt1.false c.if-s-gt-COMMAND.false _ (subst (λ (r : Framed). Frames r c.args.s.now) c.in-At.is c.frame_start.ensures)) c.obey.ensures
+pub returns : goal.returns
+returns c = as_obeyed _ _ _ _ _ _ _ (framed_obeyed _ _ _ c.if-out-lt-RESPONSE.false c.if-s-lt1.false c.if-s-gt-COMMAND.false _ c.in-Some.ensures) c.obey.ensures
 
-pub returns-in-Not : goal.returns-in-Not
+pub returns-in_default : goal.returns-in_default
 unfolding zeros
-returns-in-Not c = as_obeyed _ _ _ _ _ _ _ (unframed _ _ _ c.if-out-lt-RESPONSE.false c.if-s-lt1.false c.if-s-gt-COMMAND.false (subst (λ (r : Framed). Frames r c.args.s.now) c.in-Not.is c.frame_start.ensures))
+returns-in_default c = as_obeyed _ _ _ _ _ _ _ (unframed _ _ _ c.if-out-lt-RESPONSE.false c.if-s-lt1.false c.if-s-gt-COMMAND.false c.in_default.ensures)
     (left_answers _ _ _ _ _ _ _ _ refl c.requires c.tell_result.ensures)

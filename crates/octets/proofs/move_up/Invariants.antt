@@ -6,6 +6,3 @@ use Rattle.octets.proofs.move_up.Given as goal
 
 abbrev pub invariant-loop-n : goal.invariant-loop-n
 invariant-loop-n l = CopiedBack l.initial.d l.to (part l.from l.end l.initial.d) l.n l.d
-
-abbrev pub decreases-loop-n : goal.decreases-loop-n
-decreases-loop-n l = l.n

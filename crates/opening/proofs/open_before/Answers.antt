@@ -14,7 +14,7 @@ pub overflow_cast-k : goal.overflow_cast-k
 overflow_cast-k c = omega arith
 
 pub entry-c-requires : goal.entry-c-requires
-entry-c-requires c = (omega arith, omega (arith, c.requires.1), c.requires.0)
+entry-c-requires c = (omega arith, omega arith)
 
 pub returns-then-c-lt1 : goal.returns-then-c-lt1
 returns-then-c-lt1 c = seen_stop c.args.ledger.now _ c.loop-k.k _ c.loop-k.invariant c.loop-k-test.true c.entry-c.ensures c.if-c-lt1.true

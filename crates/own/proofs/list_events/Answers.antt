@@ -9,11 +9,8 @@ pub all_allowed-requires : goal.all_allowed-requires
 all_allowed-requires c = let l = good_table _ _ c.requires.0 in omega arith
 
 pub returns-then-not-all_allowed : goal.returns-then-not-all_allowed
-returns-then-not-all_allowed c = list_forbidden _ c.args.pool.now c.args.events.now c.args.ignored _ c.all_allowed.ensures c.requires.0 c.args.d _ _ _ (c.if-not-all_allowed.true) c.tell_result.ensures
-
-pub set_events-requires : goal.set_events-requires
-set_events-requires c = good_table _ _ c.requires.0
+returns-then-not-all_allowed c = list_forbidden _ c.args.session.now.pool c.args.events.now c.args.ignored _ c.all_allowed.ensures c.requires.0 c.args.d _ _ _ (c.if-not-all_allowed.true) c.tell_result.ensures
 
 pub returns : goal.returns
-returns c = list_done _ c.args.pool.now c.args.events.now c.args.ignored _ c.all_allowed.ensures c.requires.0 c.args.d _ _ _ _ _ _ (c.if-not-all_allowed.false)
+returns c = list_done _ c.args.session.now.pool c.args.events.now c.args.ignored _ c.all_allowed.ensures c.requires.0 c.args.d _ _ _ _ _ _ (c.if-not-all_allowed.false)
     c.lists.ensures c.lists-2.ensures c.set_events.ensures c.plain.ensures c.tell_result-2.ensures

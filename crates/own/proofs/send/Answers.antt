@@ -9,7 +9,7 @@ use Rattle.own.proofs.Sends.{send_unopened, send_dropped, send_overfull, send_cr
 use Rattle.own.proofs.send.Goals as goal
 
 pub entry-c-requires : goal.entry-c-requires
-entry-c-requires c = (c.requires.0.low, c.requires.0.high, (bounds _ _ _ c.requires.0).table)
+entry-c-requires c = (c.requires.0.low, c.requires.0.high)
 
 pub returns-then-c-lt1 : goal.returns-then-c-lt1
 returns-then-c-lt1 c = send_unopened _ _ _ c.requires.0 _ c.entry-c.ensures c.args.d c.args.bytes.now c.args.ignored _ _ _ c.if-c-lt1.true c.tell_problem.ensures

@@ -1,19 +1,24 @@
--- `radio::permitted` meets its contract: each return is that of the law for its case.
+-- `radio::permitted` meets its contract: each return is a line of the definition.
 -- Assumes nothing.
-use Rattle.radio.proofs.Permits.{permit_low, permit_high, permit_closed, permit_unlinked, permit_pass}
+use native.Mathlib.Omega.{arith}
+use Rattle.std.proofs.lemmas.Bool.Decides.{nat_tests}
+use Rattle.rules.specs.Checks.{◌⇒◌else◌}
+use Rattle.rules.specs.Radio.{numbered}
+use Rattle.radio.specs.Permits.{permit_in}
 use Rattle.radio.proofs.permitted.Goals as goal
 
-pub returns-then-number-lt1 : goal.returns-then-number-lt1
-returns-then-number-lt1 c = search permit_low
+pub returns-then-n-lt1 : goal.returns-then-n-lt1
+unfolding permit_in numbered ◌⇒◌else◌
+returns-then-n-lt1 c = grind (arith, nat_tests)
 
-pub returns-then-number-gt7 : goal.returns-then-number-gt7
-returns-then-number-gt7 c = search permit_high
+pub returns-then-c-eq0 : goal.returns-then-c-eq0
+unfolding permit_in numbered ◌⇒◌else◌
+returns-then-c-eq0 c = grind (arith, nat_tests)
 
-pub returns-then-c-lt1 : goal.returns-then-c-lt1
-returns-then-c-lt1 c = search permit_closed
-
-pub returns-then-c-ne-ESTABLISHED : goal.returns-then-c-ne-ESTABLISHED
-returns-then-c-ne-ESTABLISHED c = search permit_unlinked
+pub returns-then-c : goal.returns-then-c
+unfolding permit_in numbered ◌⇒◌else◌
+returns-then-c c = grind (arith, nat_tests)
 
 pub returns : goal.returns
-returns c = search permit_pass
+unfolding permit_in numbered ◌⇒◌else◌
+returns c = grind (arith, nat_tests)

@@ -4,5 +4,5 @@ use mathlib.Core.Path.{◌∙◌}
 use Rattle.radio.proofs.Ends.{drop_event_lem}
 use Rattle.radio.proofs.tell_drop.Goals as goal
 
-pub returns : goal.returns
-returns c = c.put.ensures ∙ drop_event_lem c.args.out.now c.args.n
+pub returns-clause-told : goal.returns-clause-told
+returns-clause-told c = c.put.ensures ∙ drop_event_lem c.args.out.now c.args.n

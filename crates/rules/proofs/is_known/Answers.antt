@@ -1,8 +1,8 @@
--- `rules::is_known` meets its contract: the list is that of the table's types.
+-- `rules::is_known`: the bytes that are read as a type.
 -- Assumes nothing.
-use Rattle.rules.specs.Table.{known, table}
+use Rattle.std.proofs.Common.{◌∙◌}
+use Rattle.rules.proofs.Words.{typed_known}
 use Rattle.rules.proofs.is_known.Goals as goal
 
 pub returns : goal.returns
-unfolding known table
-returns c = c.lists.ensures
+returns c = c.is_ok.ensures.value ∙ typed_known _ _ c.try_from.ensures

@@ -3,15 +3,11 @@
 use Prim.Native.Nat.{ℕ}
 use mathlib.Core.Path.{ap, ◌∙◌}
 use mathlib.Core.List.{List}
-use native.Mathlib.Omega.{arith}
 use lib.ListN.{set}
 use Rattle.rules.specs.Pool.{cell_count}
 use Rattle.session.specs.Book.{free_at}
-use Rattle.session.proofs.Starts.{start_size, start_numbers}
+use Rattle.session.proofs.Starts.{start_numbers}
 use Rattle.session.proofs.start_ledger.Goals as goal
 
-pub bounds-ledger-15 : goal.bounds-ledger-15
-bounds-ledger-15 c = omega (arith, start_size _ _ c.clear_but_profile.ensures)
-
 pub returns : goal.returns
-returns c = ap (λ (t : List ℕ). set t free_at cell_count) c.clear_but_profile.ensures ∙ start_numbers _
+returns c = c.put_free.ensures ∙ ap (λ (t : List ℕ). set t free_at cell_count) c.clear_but_profile.ensures ∙ start_numbers _

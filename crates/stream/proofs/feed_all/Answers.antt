@@ -1,32 +1,32 @@
--- `stream::feed_all` meets its contract: what holds between two turns of the piece.
+-- `stream::feed_all` meets its contract: the reader behind what is left of the piece is the one behind all of it.
 -- Assumes nothing.
-use mathlib.Core.Path.{sym}
+use mathlib.Core.Path.{sym, ◌∙◌}
 use native.Mathlib.Omega.{arith}
 use lib.Seq.{length-take-le}
+use borrow.Author.Tests.{eqb-true, eqb-false}
 use Rattle.flow.proofs.Filling.{fills_within}
-use Rattle.flow.proofs.Pieces.{midway_none, midway_all, midway_within, midway_less, midway_more}
+use Rattle.flow.proofs.Pieces.{rest_fed, rest_within, rest_less, rest_none}
 use Rattle.stream.proofs.feed_all.Goals as goal
 
-pub loop-next-init : goal.loop-next-init
-loop-next-init g c = search midway_none
+pub slice_bounds-write-end : goal.slice_bounds-write-end
+slice_bounds-write-end g c = fills_within c.fill-progress.ensures
 
-pub overflow_add-next : goal.overflow_add-next
-overflow_add-next g c = omega (arith, midway_within c.loop-next.invariant c.fill-progress.ensures)
+pub slice_bounds-write-end-in-loop-rest : goal.slice_bounds-write-end-in-loop-rest
+slice_bounds-write-end-in-loop-rest g c = sym (length-take-le _ _ (fills_within c.fill-progress.ensures))
 
-pub slice_bounds-write_told-end : goal.slice_bounds-write_told-end
-slice_bounds-write_told-end g c = fills_within c.fill-progress.ensures
+pub slice_bounds-rest-count : goal.slice_bounds-rest-count
+slice_bounds-rest-count g c = rest_within c.loop-rest.rest.now c.fill-progress.result c.fill-progress.ensures
 
-pub slice_bounds-write_told-end-in-loop-next : goal.slice_bounds-write_told-end-in-loop-next
-slice_bounds-write_told-end-in-loop-next g c = sym (length-take-le _ _ (fills_within c.fill-progress.ensures))
+pub slice_bounds-rest-start : goal.slice_bounds-rest-start
+slice_bounds-rest-start g c = rest_within c.loop-rest.rest.now c.fill-progress.result c.fill-progress.ensures
 
-pub loop-next-smaller : goal.loop-next-smaller
-loop-next-smaller g c = omega (arith, midway_less c.loop-next.invariant c.fill-progress.ensures c.loop-next-test.true)
+pub loop-rest-smaller : goal.loop-rest-smaller
+loop-rest-smaller g c =
+    let some = eqb-false _ _ (sym c.is_empty.ensures ∙ c.loop-rest-test.true) in
+    rest_less c.loop-rest.rest.now c.fill-progress.result c.fill-progress.ensures (omega arith) (omega arith)
 
-pub loop-next-preserved : goal.loop-next-preserved
-loop-next-preserved g c = midway_more c.loop-next.invariant c.fill-progress.ensures (omega (arith, c.fill-progress.auto.out))
+pub loop-rest-preserved : goal.loop-rest-preserved
+loop-rest-preserved g c = rest_fed c.loop-rest.rest.now c.fill-progress.result c.fill-progress.ensures ∙ c.loop-rest.invariant
 
 pub returns : goal.returns
-returns g c = record {
-  ready = c.loop-next.invariant.ready;
-  line_after = λ m. midway_all c.loop-next.invariant c.loop-next-test.false;
-}
+returns g c = rest_none _ _ c.loop-rest.rest.now (eqb-true _ _ (sym c.is_empty.ensures ∙ c.loop-rest-test.false)) ∙ c.loop-rest.invariant

@@ -1,15 +1,14 @@
--- `stream::feed_all` meets its contract: what holds between two turns of the piece.
+-- `stream::feed_all` meets its contract: the reader behind what is left of the piece is the one behind all of it.
 -- Assumes nothing.
-use Prim.Native.Nat.{◌-◌}
+use mathlib.Core.Path.{◌≡◌}
 use lib.ListN.{length}
-use Rattle.flow.specs.Holds.{reader_in}
-use Rattle.flow.proofs.Pieces.{Midway}
-use Rattle.tools.specs.Tools.{memory, GoodMemory, kept_in, ends}
+use Rattle.flow.specs.Flow.{feeds}
+use Rattle.tools.specs.Tools.{ends}
+use Rattle.tools.specs.Machines.{reader_of}
 use Rattle.stream.proofs.feed_all.Given as goal
 
-abbrev pub invariant-loop-next : goal.invariant-loop-next
-invariant-loop-next g l =
-    Midway GoodMemory kept_in (ends l.tool) (reader_in kept_in l.initial.kept (memory l.initial.ledger l.initial.pool l.initial.gathered) l.initial.line) l.piece l.kept (memory l.ledger l.pool l.gathered) l.line l.initial.out l.out l.next
+abbrev pub invariant-loop-rest : goal.invariant-loop-rest
+invariant-loop-rest g l = (feeds (ends l.tool) (reader_of l.machine) l.rest).reader ≡ (feeds (ends l.tool) (reader_of l.initial.machine) l.piece).reader
 
-abbrev pub decreases-loop-next : goal.decreases-loop-next
-decreases-loop-next g l = length l.piece - l.next
+abbrev pub decreases-loop-rest : goal.decreases-loop-rest
+decreases-loop-rest g l = length l.rest

@@ -1,10 +1,12 @@
--- `stream::run` meets its contract: the turns that are left grow fewer, and between two of them the tool may go on.
+-- `stream::run` meets its contract: what is to be written at the end stands within the output.
 -- Assumes nothing.
-use mathlib.Core.Path.{refl}
-use Rattle.tools.proofs.Turns.{first_ready}
+use mathlib.Core.Path.{sym}
+use lib.Seq.{length-take-le}
+use Rattle.flow.proofs.Filling.{fills_within}
 use Rattle.stream.proofs.run.Goals as goal
 
-pub loop-turns-init : goal.loop-turns-init
-loop-turns-init g c =
-    let e = c.before-kept.ensures in
-    record { ready = first_ready _ _ _ _ e.0 c.requires.pool_value e.1 _ e.2 c.requires.line_len.0; input = refl; output = refl }
+pub slice_bounds-write-end : goal.slice_bounds-write-end
+slice_bounds-write-end g c = fills_within c.finish-last.ensures
+
+pub slice_bounds-write-end-then-n-eq0 : goal.slice_bounds-write-end-then-n-eq0
+slice_bounds-write-end-then-n-eq0 g c = sym (length-take-le _ _ (fills_within c.finish-last.ensures))

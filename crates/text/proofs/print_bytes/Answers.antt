@@ -1,60 +1,20 @@
--- `text::print_bytes` meets its contract: the loop copies two digits for each byte.
+-- `text::print_bytes` meets its contract: each turn prints two digits more.
 -- Assumes nothing.
 use native.Mathlib.Omega.{arith}
-use lib.ListN.{length-set}
-use Rattle.text.proofs.Printing.{hexed_none, hexed_more, hexed_all}
+use Rattle.octets.proofs.Stores.{paste_none}
+use Rattle.rules.specs.Lines.{hex}
+use Rattle.text.proofs.Printing.{hexed_size, hexed_more}
 use Rattle.text.proofs.print_bytes.Goals as goal
 
-pub loop-i-init : goal.loop-i-init
-loop-i-init c = search hexed_none
+pub loop-b-init : goal.loop-b-init
+unfolding hex
+loop-b-init c = record { stands = paste_none _ _; place = omega arith }
 
-pub overflow_mul-k : goal.overflow_mul-k
-overflow_mul-k c = omega arith
+pub print_char-end-requires : goal.print_char-end-requires
+print_char-end-requires c = omega (arith, hexed_size c.args.bytes.now c.loop-b.b-index)
 
-pub bounds-bytes-i : goal.bounds-bytes-i
-bounds-bytes-i c = omega arith
+pub print_char-end-requires-in-loop-b : goal.print_char-end-requires-in-loop-b
+print_char-end-requires-in-loop-b c = omega (arith, hexed_size c.args.bytes.now c.loop-b.b-index)
 
-pub digit-requires : goal.digit-requires
-digit-requires c = omega (arith, c.shared_slice_known-in-loop-i-1.given c.loop-i.i)
-
-pub overflow_add-out : goal.overflow_add-out
-overflow_add-out c = omega arith
-
-pub bounds-out-at : goal.bounds-out-at
-bounds-out-at c = omega arith
-
-pub bounds-bytes-i-in-loop-i : goal.bounds-bytes-i-in-loop-i
-bounds-bytes-i-in-loop-i c = omega arith
-
-pub digit-requires-in-loop-i : goal.digit-requires-in-loop-i
-digit-requires-in-loop-i c = omega arith
-
-pub overflow_add-out-in-loop-i : goal.overflow_add-out-in-loop-i
-overflow_add-out-in-loop-i c = omega arith
-
-pub overflow_add-out-in-loop-i-2 : goal.overflow_add-out-in-loop-i-2
-overflow_add-out-in-loop-i-2 c = omega arith
-
-pub bounds-out-at-in-loop-i : goal.bounds-out-at-in-loop-i
-bounds-out-at-in-loop-i c = simp length-set (omega arith)
-
-pub overflow_add-i : goal.overflow_add-i
-overflow_add-i c = omega arith
-
-pub loop-i-smaller : goal.loop-i-smaller
-loop-i-smaller c = omega arith
-
-pub loop-i-preserved : goal.loop-i-preserved
-loop-i-preserved c = search hexed_more
-
-pub overflow_mul-result : goal.overflow_mul-result
-overflow_mul-result c = omega arith
-
-pub overflow_add-result : goal.overflow_add-result
-overflow_add-result c = omega arith
-
-pub shape_of-out : goal.shape_of-out
-shape_of-out c = omega arith
-
-pub returns : goal.returns
-returns c = search hexed_all
+pub loop-b-preserved : goal.loop-b-preserved
+loop-b-preserved c = hexed_more c.args.bytes.now c.loop-b.b-index c.loop-b.invariant c.print_char-end.ensures c.print_char-end-in-loop-b.ensures (omega arith) (omega arith) c.digit.ensures c.digit-in-loop-b.ensures

@@ -1,12 +1,9 @@
--- `text::print_bytes` meets its contract: the loop copies two digits for each byte.
+-- `text::print_bytes` meets its contract: each turn prints two digits more.
 -- Assumes nothing.
-use Prim.Native.Nat.{◌-◌}
-use lib.ListN.{length}
-use Rattle.text.proofs.Printing.{Hexed}
+use lib.ListN.{take}
+use Rattle.rules.specs.Lines.{hex}
+use Rattle.text.specs.Prints.{Prints}
 use Rattle.text.proofs.print_bytes.Given as goal
 
-abbrev pub invariant-loop-i : goal.invariant-loop-i
-invariant-loop-i l = Hexed l.initial.out l.at l.bytes l.i l.out
-
-abbrev pub decreases-loop-i : goal.decreases-loop-i
-decreases-loop-i l = length l.bytes - l.i
+abbrev pub invariant-loop-b : goal.invariant-loop-b
+invariant-loop-b l = Prints (hex (take l.b-index l.bytes)) l.end l.initial.out l.at l.out

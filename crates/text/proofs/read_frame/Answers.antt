@@ -11,9 +11,6 @@ returns-then-line-gt-DIGITS c =
     let both = told_long c.args.line.now c.args.out.now (omega arith) in
     record { value = both.0; out_after = both.1 }
 
-pub readable-requires : goal.readable-requires
-readable-requires c = tt
-
 pub returns-then-not-readable : goal.returns-then-not-readable
 returns-then-not-readable c =
     let not_so = ap not c.if-not-readable.true in
@@ -23,23 +20,11 @@ returns-then-not-readable c =
 pub loop-i-init : goal.loop-i-init
 loop-i-init c = search fills_none
 
-pub overflow_mul-k : goal.overflow_mul-k
-overflow_mul-k c = omega arith
-
-pub bounds-line-k : goal.bounds-line-k
-bounds-line-k c = omega arith
-
 pub digit_value-requires : goal.digit_value-requires
 digit_value-requires c = fills_digit _ _ _ _ c.loop-i.invariant _ (omega arith)
 
 pub overflow_mul-out : goal.overflow_mul-out
 overflow_mul-out c = omega (arith, fills_small _ _ _ _ c.loop-i.invariant _ _ (omega arith) c.digit_value.ensures)
-
-pub overflow_add-k : goal.overflow_add-k
-overflow_add-k c = omega arith
-
-pub bounds-line-k-in-loop-i : goal.bounds-line-k-in-loop-i
-bounds-line-k-in-loop-i c = omega arith
 
 pub digit_value-requires-in-loop-i : goal.digit_value-requires-in-loop-i
 digit_value-requires-in-loop-i c = fills_digit _ _ _ _ c.loop-i.invariant _ (omega arith)
@@ -48,20 +33,8 @@ pub overflow_add-out : goal.overflow_add-out
 overflow_add-out c = let w = c.loop-i.invariant in
     omega (arith, fills_small _ _ _ _ w _ _ (omega arith) c.digit_value.ensures, fills_small _ _ _ _ w _ _ (omega arith) c.digit_value-in-loop-i.ensures)
 
-pub bounds-out-i : goal.bounds-out-i
-bounds-out-i c = omega arith
-
-pub overflow_add-i : goal.overflow_add-i
-overflow_add-i c = omega arith
-
-pub loop-i-smaller : goal.loop-i-smaller
-loop-i-smaller c = omega arith
-
 pub loop-i-preserved : goal.loop-i-preserved
 loop-i-preserved c = search fills_more
 
-pub shape_of-out : goal.shape_of-out
-shape_of-out c = omega arith
-
 pub returns : goal.returns
-returns c = record { value = (fills_all _ _ _ _ c.loop-i.invariant c.loop-i-test.false).0; out_after = (fills_all _ _ _ _ c.loop-i.invariant c.loop-i-test.false).1 }
+returns c = let both = fills_all _ _ _ _ c.loop-i.invariant (omega arith) in record { value = both.0; out_after = both.1 }

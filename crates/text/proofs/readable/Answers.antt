@@ -1,47 +1,19 @@
--- `text::readable` meets its contract: at every turn the characters before here are digits in pairs.
+-- `text::readable` meets its contract: an even length, and every character a digit.
 -- Assumes nothing.
-use native.Mathlib.Omega.{arith}
-use Rattle.text.proofs.Bytes.{pairs_none, pairs_end, pairs_odd, no_first, no_second, pairs_more}
+use mathlib.Core.Path.{◌∙◌}
+use Prim.Native.Nat.{◌%◌}
+use lib.ListN.{length}
+use borrow.Author.Tests.{ne_eqb}
+use Rattle.std.proofs.Common.{rules, tests}
+use Rattle.std.specs.Char.{is_ascii_hexdigit}
+use Rattle.std.proofs.lemmas.Iterator.{YieldsList-from_slice}
+use Rattle.std.proofs.lemmas.Iterator.Search.{all_from_yields_List}
+use Rattle.text.proofs.Bytes.{readable_even, readable_odd}
 use Rattle.text.proofs.readable.Goals as goal
 
-pub loop-i-init : goal.loop-i-init
-loop-i-init c = pairs_none _
+pub returns-then-line-eq0 : goal.returns-then-line-eq0
+returns-then-line-eq0 c =
+    all_from_yields_List is_ascii_hexdigit _ _ _ c.all.ensures.ran (YieldsList-from_slice c.args.line.now cc) (λ x b q k. search (rules, tests)) ∙ readable_even c.args.line.now c.if-line-eq0.true
 
-pub overflow_sub-line : goal.overflow_sub-line
-overflow_sub-line c = omega arith
-
-pub returns-then-line-i-lt2 : goal.returns-then-line-i-lt2
-returns-then-line-i-lt2 c = search pairs_odd
-
-pub bounds-line-i : goal.bounds-line-i
-bounds-line-i c = omega arith
-
-pub is_digit-requires : goal.is_digit-requires
-is_digit-requires c = tt
-
-pub returns-then-not-is_digit : goal.returns-then-not-is_digit
-returns-then-not-is_digit c = search no_first
-
-pub overflow_add-i : goal.overflow_add-i
-overflow_add-i c = omega arith
-
-pub bounds-line-i-in-loop-i : goal.bounds-line-i-in-loop-i
-bounds-line-i-in-loop-i c = omega arith
-
-pub is_digit-requires-in-loop-i : goal.is_digit-requires-in-loop-i
-is_digit-requires-in-loop-i c = tt
-
-pub returns-then-not-is_digit-2 : goal.returns-then-not-is_digit-2
-returns-then-not-is_digit-2 c = search no_second
-
-pub overflow_add-i-in-loop-i : goal.overflow_add-i-in-loop-i
-overflow_add-i-in-loop-i c = omega arith
-
-pub loop-i-smaller : goal.loop-i-smaller
-loop-i-smaller c = omega arith
-
-pub loop-i-preserved : goal.loop-i-preserved
-loop-i-preserved c = pairs_more _ _ c.loop-i.invariant c.if-line-i-lt2.false _ c.is_digit.ensures (mathlib.Core.Path.ap mathlib.Core.Bool.not c.if-not-is_digit.false) _ c.is_digit-in-loop-i.ensures (mathlib.Core.Path.ap mathlib.Core.Bool.not c.if-not-is_digit-2.false)
-
-pub returns : goal.returns
-returns c = search pairs_end
+pub returns-else-line-eq0 : goal.returns-else-line-eq0
+returns-else-line-eq0 c = ne_eqb (length c.args.line.now % 2) 0 c.if-line-eq0.false ∙ readable_odd c.args.line.now c.if-line-eq0.false

@@ -19,10 +19,10 @@ place_of-requires c = c.loop-i-test.true
 
 pub waits-requires : goal.waits-requires
 waits-requires c = let w = place_within _ c.loop-i-test.true in
-    (omega (arith, w, c.place_of.ensures), good_table _ _ c.loop-i.invariant.0)
+    omega (arith, w, c.place_of.ensures)
 
 pub returns-then-waits : goal.returns-then-waits
-returns-then-waits c = waiting_here _ c.loop-i.i (omega (arith, c.loop-i.invariant.0.sound.eight, c.loop-i-test.true)) (sym ((let here : c.waits.result ≡ is_waiting (get_or (shown c.args.ledger.now c.args.pool.now).timers c.loop-i.i idle) =
+returns-then-waits c = waiting_here _ c.loop-i.i (omega (arith, c.loop-i.invariant.0.sound.eight, c.loop-i-test.true)) (sym ((let here : c.waits.result ≡ is_waiting (get_or (shown c.args.session.now.ledger c.args.session.now.pool).timers c.loop-i.i idle) =
     c.waits.ensures ∙ ap (waits_at _) c.place_of.ensures ∙ waits_read _ _ c.loop-i.invariant.0 c.loop-i.i c.loop-i-test.true in here)) ∙ c.if-waits.true) c.loop-i.invariant.1
 
 pub overflow_add-i : goal.overflow_add-i
@@ -34,7 +34,7 @@ loop-i-smaller c = omega arith
 pub loop-i-preserved : goal.loop-i-preserved
 loop-i-preserved c = (
   c.loop-i.invariant.0,
-  waiting_on _ c.loop-i.i (omega (arith, c.loop-i.invariant.0.sound.eight, c.loop-i-test.true)) (sym ((let here : c.waits.result ≡ is_waiting (get_or (shown c.args.ledger.now c.args.pool.now).timers c.loop-i.i idle) =
+  waiting_on _ c.loop-i.i (omega (arith, c.loop-i.invariant.0.sound.eight, c.loop-i-test.true)) (sym ((let here : c.waits.result ≡ is_waiting (get_or (shown c.args.session.now.ledger c.args.session.now.pool).timers c.loop-i.i idle) =
       c.waits.ensures ∙ ap (waits_at _) c.place_of.ensures ∙ waits_read _ _ c.loop-i.invariant.0 c.loop-i.i c.loop-i-test.true in here)) ∙ c.if-waits.false) c.loop-i.invariant.1,
   omega (arith, c.loop-i-test.true),
 )

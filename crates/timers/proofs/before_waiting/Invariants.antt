@@ -4,11 +4,11 @@ use Prim.Native.Nat.{◌+◌, ◌-◌, ◌≤◌}
 use mathlib.Core.Path.{◌≡◌}
 use lib.ListN.{drop}
 use Rattle.rules.specs.Timers.{timer_count, before_waiting}
-use Rattle.session.specs.Picture.{GoodIn, shown}
+use Rattle.session.specs.Picture.{Good, view}
 use Rattle.timers.proofs.before_waiting.Given as goal
 
 abbrev pub invariant-loop-i : goal.invariant-loop-i
-invariant-loop-i l = GoodIn l.ledger l.pool × (before_waiting (shown l.ledger l.pool).timers ≡ l.i + before_waiting (drop l.i (shown l.ledger l.pool).timers)) × (l.i ≤ timer_count)
+invariant-loop-i l = Good l.session × (before_waiting (view l.session).timers ≡ l.i + before_waiting (drop l.i (view l.session).timers)) × (l.i ≤ timer_count)
 
 abbrev pub decreases-loop-i : goal.decreases-loop-i
 decreases-loop-i l = timer_count - l.i

@@ -30,12 +30,12 @@ place_of-place-requires c = (let here : c.before_waiting-k.result < timer_count 
 pub time_at-from-requires : goal.time_at-from-requires
 time_at-from-requires c = let w = place_within _ ((let here : c.before_waiting-k.result < timer_count =
     waiting_below _ _ c.requires c.args.out.now c.if-out-lt-ENVELOPE.false _ c.before_waiting-k.ensures c.if-k-eq-TIMERS.false in here)) in
-    (omega (arith, w, c.place_of-place.ensures), good_table _ _ c.requires)
+    omega (arith, w, c.place_of-place.ensures)
 
 pub put_timer-requires : goal.put_timer-requires
 put_timer-requires c = let w = place_within _ ((let here : c.before_waiting-k.result < timer_count =
     waiting_below _ _ c.requires c.args.out.now c.if-out-lt-ENVELOPE.false _ c.before_waiting-k.ensures c.if-k-eq-TIMERS.false in here)) in
-    (omega (arith, w, c.place_of-place.ensures), good_table _ _ c.requires)
+    omega (arith, w, c.place_of-place.ensures)
 
 pub overflow_cast-k : goal.overflow_cast-k
 overflow_cast-k c = omega (
@@ -45,11 +45,11 @@ overflow_cast-k c = omega (
 )
 
 pub tell_envelope-requires : goal.tell_envelope-requires
-tell_envelope-requires c = let is = c.time_at-from.ensures ∙ ap (λ (n : ℕ). time_at c.args.ledger.now (n + 3)) c.place_of-place.ensures in
+tell_envelope-requires c = let is = c.time_at-from.ensures ∙ ap (λ (n : ℕ). time_at c.args.session.now.ledger (n + 3)) c.place_of-place.ensures in
     (c.if-out-lt-ENVELOPE.false, ap of_day is ∙ from_day _ _ c.requires c.args.out.now c.if-out-lt-ENVELOPE.false _ c.before_waiting-k.ensures c.if-k-eq-TIMERS.false)
 
 pub returns : goal.returns
-returns c = let is = c.time_at-from.ensures ∙ ap (λ (n : ℕ). time_at c.args.ledger.now (n + 3)) c.place_of-place.ensures in
+returns c = let is = c.time_at-from.ensures ∙ ap (λ (n : ℕ). time_at c.args.session.now.ledger (n + 3)) c.place_of-place.ensures in
     envelope_done _ _ c.requires c.args.out.now c.if-out-lt-ENVELOPE.false _ c.before_waiting-k.ensures c.if-k-eq-TIMERS.false _ _
     (start_put _ _ _ c.place_of-place.ensures refl c.put_timer.ensures)
     (c.tell_envelope.ensures ∙ ap (λ (x : Time). overlaid (envelope_bytes (c.before_waiting-k.result + 1) x) c.args.out.now) is)

@@ -66,7 +66,7 @@ time_at-left-requires c = let w = place_within (c.args.n - 1) (omega (
   timer_high _ ((let here : is_timer c.args.n ≡ true =
       sym c.is_timer.ensures ∙ c.if-not-is_timer.false in here)),
 )) in
-    (omega (arith, w, c.place_of-at.ensures), good_table _ _ c.requires.0)
+    omega (arith, w, c.place_of-at.ensures)
 
 pub is_zero-requires : goal.is_zero-requires
 unfolding action_of
@@ -83,7 +83,7 @@ shape_of-out-then-is_zero c = search rules
 pub returns-then-is_zero : goal.returns-then-is_zero
 unfolding action_of
 returns-then-is_zero c = manage_idle _ _ c.requires.0 c.args.d c.args.n c.args.ignored _ _ _ c.if-action-eq-NONE.false ((let here : is_timer c.args.n ≡ true =
-    sym c.is_timer.ensures ∙ c.if-not-is_timer.false in here)) c.time_at-left.result (c.time_at-left.ensures ∙ ap (time_at c.args.ledger.now) c.place_of-at.ensures)
+    sym c.is_timer.ensures ∙ c.if-not-is_timer.false in here)) c.time_at-left.result (c.time_at-left.ensures ∙ ap (time_at c.args.session.now.ledger) c.place_of-at.ensures)
     (sym c.is_zero.ensures ∙ c.if-is_zero.true) c.tell_result-then-is_zero.ensures
 
 pub put_timer-requires : goal.put_timer-requires
@@ -95,7 +95,7 @@ put_timer-requires c = let w = place_within (c.args.n - 1) (omega (
   timer_high _ ((let here : is_timer c.args.n ≡ true =
       sym c.is_timer.ensures ∙ c.if-not-is_timer.false in here)),
 )) in
-    (omega (arith, w, c.place_of-at.ensures), good_table _ _ c.requires.0)
+    omega (arith, w, c.place_of-at.ensures)
 
 pub plain-requires : goal.plain-requires
 unfolding action_of
@@ -107,7 +107,7 @@ tell_left-requires c = (
   omega (arith, c.requires.1),
   (let here : of_day c.time_at-left.result ≡ true =
       left_fits _ _ c.requires.0 c.args.d c.args.n c.args.ignored 0 [] [] c.if-action-eq-NONE.false ((let here : is_timer c.args.n ≡ true =
-      sym c.is_timer.ensures ∙ c.if-not-is_timer.false in here)) _ (c.time_at-left.ensures ∙ ap (time_at c.args.ledger.now) c.place_of-at.ensures)
+      sym c.is_timer.ensures ∙ c.if-not-is_timer.false in here)) _ (c.time_at-left.ensures ∙ ap (time_at c.args.session.now.ledger) c.place_of-at.ensures)
       (sym c.is_zero.ensures ∙ c.if-is_zero.false) in here),
 )
 
@@ -118,7 +118,7 @@ shape_of-out-then-action-eq-STOP c = search rules
 pub returns-then-action-eq-STOP : goal.returns-then-action-eq-STOP
 unfolding action_of
 returns-then-action-eq-STOP c = manage_stop _ _ c.requires.0 c.args.d c.args.n c.args.ignored _ _ _ c.if-action-eq-NONE.false ((let here : is_timer c.args.n ≡ true =
-    sym c.is_timer.ensures ∙ c.if-not-is_timer.false in here)) _ (c.time_at-left.ensures ∙ ap (time_at c.args.ledger.now) c.place_of-at.ensures)
+    sym c.is_timer.ensures ∙ c.if-not-is_timer.false in here)) _ (c.time_at-left.ensures ∙ ap (time_at c.args.session.now.ledger) c.place_of-at.ensures)
     (sym c.is_zero.ensures ∙ c.if-is_zero.false) _ c.plain.ensures c.tell_left.ensures c.if-action-eq-STOP.true _ (start_put _ _ _ c.place_of-at.ensures refl c.put_timer.ensures)
 
 pub plain-requires-2 : goal.plain-requires-2
@@ -131,7 +131,7 @@ tell_left-requires-2 c = (
   omega (arith, c.requires.1),
   (let here : of_day c.time_at-left.result ≡ true =
       left_fits _ _ c.requires.0 c.args.d c.args.n c.args.ignored 0 [] [] c.if-action-eq-NONE.false ((let here : is_timer c.args.n ≡ true =
-      sym c.is_timer.ensures ∙ c.if-not-is_timer.false in here)) _ (c.time_at-left.ensures ∙ ap (time_at c.args.ledger.now) c.place_of-at.ensures)
+      sym c.is_timer.ensures ∙ c.if-not-is_timer.false in here)) _ (c.time_at-left.ensures ∙ ap (time_at c.args.session.now.ledger) c.place_of-at.ensures)
       (sym c.is_zero.ensures ∙ c.if-is_zero.false) in here),
 )
 
@@ -142,7 +142,7 @@ shape_of-out c = search rules
 pub returns : goal.returns
 unfolding action_of
 returns c = manage_ask _ _ c.requires.0 c.args.d c.args.n c.args.ignored _ _ _ c.if-action-eq-NONE.false ((let here : is_timer c.args.n ≡ true =
-    sym c.is_timer.ensures ∙ c.if-not-is_timer.false in here)) _ (c.time_at-left.ensures ∙ ap (time_at c.args.ledger.now) c.place_of-at.ensures)
+    sym c.is_timer.ensures ∙ c.if-not-is_timer.false in here)) _ (c.time_at-left.ensures ∙ ap (time_at c.args.session.now.ledger) c.place_of-at.ensures)
     (sym c.is_zero.ensures ∙ c.if-is_zero.false) _ c.plain-2.ensures c.tell_left-2.ensures c.if-action-eq-STOP.false
 
 -- the time left is one of a day

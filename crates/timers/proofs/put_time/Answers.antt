@@ -5,4 +5,4 @@ use Rattle.timers.proofs.Writes.{time_put}
 use Rattle.timers.proofs.put_time.Goals as goal
 
 pub returns : goal.returns
-returns c = time_put c.args.ledger.now _ c.args.t (omega (arith, c.requires.0, c.requires.1))
+returns c = time_put c.args.ledger.now _ c.args.t (omega (arith, c.requires))

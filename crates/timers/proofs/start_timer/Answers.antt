@@ -37,7 +37,7 @@ place_of-requires c = let n = sym c.is_timer.ensures ∙ c.if-not-is_timer.false
 pub put_timer-requires : goal.put_timer-requires
 put_timer-requires c = let n = sym c.is_timer.ensures ∙ c.if-not-is_timer.false in
     let w = place_within (c.args.n - 1) (omega (arith, timer_low _ n, timer_high _ n)) in
-    (omega (arith, w, c.place_of.ensures), good_table _ _ c.requires.0)
+    omega (arith, w, c.place_of.ensures)
 
 pub returns : goal.returns
 returns c = start_done _ _ c.requires.0 c.args.d c.args.n c.args.ignored _ _ _ c.args.time.now _ _ (sym c.is_timer.ensures ∙ c.if-not-is_timer.false)

@@ -1,21 +1,14 @@
--- `command::Survey::note` meets its contract: each case of the definition.
+-- `command::Survey::note` meets its contract: an object that counts, and any other.
 -- Assumes nothing.
-use Rattle.rules.specs.Checks.{◌⇒◌else◌}
+use mathlib.Core.Path.{sym}
+use Rattle.rules.proofs.Laws.{stop, skip}
 use Rattle.command.specs.Surveys.{noted}
 use Rattle.command.proofs.Survey.note.Goals as goal
 
-pub returns-then-self : goal.returns-then-self
-unfolding noted ◌⇒◌else◌
-returns-then-self c = simp (c.if-counts.true, c.if-self.true)
+pub returns-then-counts : goal.returns-then-counts
+unfolding noted
+returns-then-counts c = sym (stop _ _ _ c.if-counts.true)
 
-pub returns-else-self : goal.returns-else-self
-unfolding noted ◌⇒◌else◌
-returns-else-self c = simp (c.if-counts.true, c.if-self.false)
-
-pub returns-then-self-2 : goal.returns-then-self-2
-unfolding noted ◌⇒◌else◌
-returns-then-self-2 c = simp (c.if-counts.false, c.if-self-2.true)
-
-pub returns-else-self-2 : goal.returns-else-self-2
-unfolding noted ◌⇒◌else◌
-returns-else-self-2 c = simp (c.if-counts.false, c.if-self-2.false)
+pub returns : goal.returns
+unfolding noted
+returns c = sym (skip _ _ _ c.if-counts.false)
