@@ -5,12 +5,14 @@ ghost use Rattle.std.specs.Prelude.{◌≡◌, ◌+◌, ◌-◌, ◌≤◌, leng
 ghost use Rattle.octets.specs.Parts.{part, pasted, cleared, moved, cut_out, spread};
 
 // Writes `s` into `d` from `at` on.
-#[tactic(auto, using(crate::proofs::Pastes::paste_mid))]
+// Kept: a loop, since `copy_from_slice` calls memmove, which a firmware's C library would have to bring.
 pub fn put(d: &mut [u8], at: usize, s: &[u8])
     requires { at + length s.now ≤ length d.old }
     ensures { d.new ≡ pasted d.old at s.now }
 {
-    d[at..at + s.len()].copy_from_slice(s);
+    for i in 0..s.len() {
+        d[at + i] = s[i];
+    }
 }
 
 // Writes 0 over the bytes from `at` up to `end`.
