@@ -4,6 +4,11 @@ use mathlib.Core.Path.{refl, sym, ◌∙◌}
 use Rattle.outcomes.specs.Determined.{Determined}
 use Rattle.rules.proofs.Refusal.number.Kinds as number-kinds
 use Rattle.rules.proofs.Refusal.number.Reads as number-reads
+use Rattle.rules.proofs.Words.{typed_alike, acts_alike}
+use Rattle.rules.proofs.CommandTypeTryFromU8.try_from.Kinds as type-kinds
+use Rattle.rules.proofs.CommandTypeTryFromU8.try_from.Reads as type-reads
+use Rattle.rules.proofs.ActionFromU8.from.Kinds as action-kinds
+use Rattle.rules.proofs.ActionFromU8.from.Reads as action-reads
 use Rattle.rules.proofs.DeviceIdentityFromChannelNumber.from.Kinds as identity-kinds
 use Rattle.rules.proofs.DeviceIdentityFromChannelNumber.from.Reads as identity-reads
 use Rattle.rules.proofs.ChannelNumberFromDeviceIdentity.from.Kinds as channel-kinds
@@ -19,6 +24,12 @@ use Rattle.rules.proofs.fits_bearer.Reads as fits-bearer-reads
 
 pub number_settled : Determined 0 number-kinds.ps number-kinds.r number-reads.Pre number-reads.Post
 number_settled κs a _ x y v w p q = (p ∙ sym q, refl)
+
+pub type_settled : Determined 0 type-kinds.ps type-kinds.r type-reads.Pre type-reads.Post
+type_settled κs a _ x y v w p q = (typed_alike _ x y p q, refl)
+
+pub action_settled : Determined 0 action-kinds.ps action-kinds.r action-reads.Pre action-reads.Post
+action_settled κs a _ x y v w p q = (acts_alike _ x y p q, refl)
 
 pub identity_settled : Determined 0 identity-kinds.ps identity-kinds.r identity-reads.Pre identity-reads.Post
 identity_settled κs a _ x y v w p q = (p ∙ sym q, refl)

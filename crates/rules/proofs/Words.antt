@@ -8,6 +8,9 @@ use mathlib.Core.Logic.{◌⊎◌, inl, inr}
 use Rattle.std.proofs.lemmas.Bool.Decides.{same_from_decides, Decides-eqb}
 use native.Mathlib.Omega.{arith}
 use borrow.Author.Tests.{ne_eqb}
+use mathlib.Core.Bool.{true≢false}
+use Rattle.rules.specs.declared.Action.{Action}
+use Rattle.rules.specs.declared.Action.TheVariants.{Start, Stop, Ask, Nothing}
 use Rattle.rules.specs.declared.CommandType.{CommandType}
 use Rattle.rules.specs.declared.CommandType.TheVariants.{MoreTime, SetUpEventList, TimerManagement, OpenChannel, CloseChannel, ReceiveData, SendData, GetChannelStatus}
 use Rattle.rules.specs.declared.UnknownType.{UnknownType}
@@ -15,7 +18,8 @@ use Rattle.rules.specs.Checks.{◌⇒◌else◌, some_of, member, is_empty}
 use Rattle.rules.specs.Table.{known, table}
 use Rattle.rules.specs.Reading.{to_modem}
 use Rattle.rules.specs.Bench.{bearer_proper}
-use Rattle.rules.specs.Words.{Typed}
+use Rattle.rules.specs.Timers.{start_action, stop_action, ask_action}
+use Rattle.rules.specs.Words.{Typed, Acts, byte_of, bits_of}
 
 -- two numbers are the same in either order
 eqb-comm : (a b : ℕ) → eqb a b ≡ eqb b a
@@ -39,6 +43,49 @@ typed_known b (Ok ReceiveData) e = subst (λ (x : ℕ). true ≡ known x) e refl
 typed_known b (Ok SendData) e = subst (λ (x : ℕ). true ≡ known x) e refl
 typed_known b (Ok GetChannelStatus) e = subst (λ (x : ℕ). true ≡ known x) e refl
 typed_known b (Err u) e = sym e
+
+-- a type and an action are told by their numbers
+type_at : ℕ → CommandType
+type_at b =
+    eqb b 0x02 ⇒ MoreTime else
+    eqb b 0x05 ⇒ SetUpEventList else
+    eqb b 0x27 ⇒ TimerManagement else
+    eqb b 0x40 ⇒ OpenChannel else
+    eqb b 0x41 ⇒ CloseChannel else
+    eqb b 0x42 ⇒ ReceiveData else
+    eqb b 0x43 ⇒ SendData else
+    GetChannelStatus
+
+type_back : (t : CommandType) → type_at (byte_of t) ≡ t
+unfolding type_at ◌⇒◌else◌
+type_back MoreTime = refl
+type_back SetUpEventList = refl
+type_back TimerManagement = refl
+type_back OpenChannel = refl
+type_back CloseChannel = refl
+type_back ReceiveData = refl
+type_back SendData = refl
+type_back GetChannelStatus = refl
+
+action_at : ℕ → Action
+action_at n = eqb n start_action ⇒ Start else eqb n stop_action ⇒ Stop else eqb n ask_action ⇒ Ask else Nothing
+
+action_back : (a : Action) → action_at (bits_of a) ≡ a
+unfolding action_at ◌⇒◌else◌
+action_back Start = refl
+action_back Stop = refl
+action_back Ask = refl
+action_back Nothing = refl
+
+-- what a byte is read as, and the action of a qualifier, are one
+pub typed_alike : (b : ℕ) (x y : Result CommandType UnknownType) → Typed b x → Typed b y → x ≡ y
+typed_alike b (Ok t) (Ok u) p q = ap Ok (sym (type_back t) ∙ ap type_at (p ∙ sym q) ∙ type_back u)
+typed_alike b (Ok t) (Err e) p q = absurd (true≢false (typed_known b (Ok t) p ∙ q))
+typed_alike b (Err d) (Ok u) p q = absurd (true≢false (typed_known b (Ok u) q ∙ p))
+typed_alike b (Err d) (Err e) p q = refl
+
+pub acts_alike : (q : ℕ) (x y : Action) → Acts q x → Acts q y → x ≡ y
+acts_alike q x y p r = sym (action_back x) ∙ ap action_at (p ∙ sym r) ∙ action_back y
 
 -- a type that goes to the modem, and one that does not
 pub modem_yes : (t : ℕ) → (t ≡ 0x02) ⊎ ((t ≡ 0x05) ⊎ ((t ≡ 0x27) ⊎ ((t ≡ 0x40) ⊎ (t ≡ 0x44)))) → true ≡ to_modem t
