@@ -8,7 +8,7 @@ use mathlib.Core.Option.{Option, none, some}
 use native.Mathlib.Omega.{arith}
 use lib.ListN.{length, get_or, take, drop, set}
 use lib.Dec.{ltb, eqb}
-use borrow.Author.Tests.{lt-ltb, le-ltb, eq-eqb, ne_eqb}
+use borrow.Author.Tests.{lt-ltb, le-ltb, eq-eqb, ne_eqb, ltb-false}
 use Rattle.std.specs.Prelude.{Option as CodeOption, Some, None, SomeIff, is_some}
 use Rattle.std.specs.List.{IsSplitAt}
 use Rattle.rules.specs.Checks.{◌⇒◌else◌, every}
@@ -16,7 +16,7 @@ use Rattle.rules.proofs.Laws.{stop, skip, both_left, both_right}
 use Rattle.octets.specs.Parts.{overlaid}
 use Rattle.alpha.specs.Alphabet.{escape, unit_of}
 use Rattle.alpha.specs.Reads.{Text, units, malformed, follow, follow_if, padding, based_unit, based_from, based}
-use Rattle.alpha.specs.Passes.{told, units_in, well, Fills}
+use Rattle.alpha.specs.Passes.{is_there, told, units_in, well, Fills}
 use Rattle.alpha.proofs.Fronts.{Front, front_none, front_room, front_more, front_all}
 use Rattle.alpha.proofs.Texts.{below, follow_well, follow_units, ill, well_units}
 
@@ -48,6 +48,28 @@ module _ (p b : ℕ) where
   told_high q None e h n = sym (ap told (high p b h ∙ stop _ _ _ (lt-ltb 65535 (p + (b - 128)) (below 65535 (p + (b - 128)) (λ k. n (omega arith))))))
   told_high q (Some v) e h w = ap Some (w.1 ∙ ap (λ (k : ℕ). p + k) e) ∙ sym (ap told (high p b h ∙ skip _ _ _ (le-ltb 65535 (p + (b - 128)) (omega (arith, w.0)))))
 
+-- a byte that has a unit
+module _ (p b : ℕ) (e : is_there (based_unit p b) ≡ true) where
+  there_other : b ≡ 27 → ⊥
+  unfolding is_there
+  there_other f = false≢true (sym (ap is_there (based_escape p b f)) ∙ e)
+
+  pub there_small : 128 ≤ b → p + (b - 128) ≤ 65535
+  unfolding is_there
+  there_small h = by (ltb 65535 (p + (b - 128))) refl
+    where
+      by : (t : Bool) → ltb 65535 (p + (b - 128)) ≡ t → p + (b - 128) ≤ 65535
+      by true f = absurd (false≢true (sym (ap is_there (high p b h ∙ stop _ _ _ f)) ∙ e))
+      by false f = ltb-false 65535 (p + (b - 128)) f
+
+  pub based_low : (v : ℕ) → b < 128 → v ≡ unit_of b → based_unit p b ≡ some v
+  based_low v h f = based_code p b there_other h ∙ ap some (sym f)
+
+  pub based_over : (q v : ℕ) → q ≡ b - 128 → 128 ≤ b → v ≡ p + q → based_unit p b ≡ some v
+  based_over q v f h g =
+      let k : p + (b - 128) ≡ v = omega arith in
+      high p b h ∙ skip _ _ _ (le-ltb 65535 _ (there_small h)) ∙ ap some k
+
 -- every byte has a unit
 abbrev pub has : ℕ → ℕ → Bool
 has p b = is_some (told (based_unit p b))
@@ -71,6 +93,11 @@ zero_told : (o : Option ℕ) (v : ℕ) → told o ≡ Some v → v ≡ or_zero o
 unfolding told or_zero
 zero_told none v e = absurd (let z : ◌≡◌ {A = ℕ} 0 1 = cc in omega arith)
 zero_told (some u) v e = cc
+
+there_told : (o : Option ℕ) → is_some (told o) ≡ true → is_there o ≡ true
+unfolding told is_there
+there_told none e = absurd (false≢true e)
+there_told (some u) e = refl
 
 front : (o : Option ℕ) (t : Text) → is_some (told o) ≡ true → well t ≡ true → units_in (follow_if o t) ≡ or_zero o ∷ units_in t
 unfolding follow_if told or_zero
@@ -111,6 +138,9 @@ placed_none p s before f = record { all = sym (based_well p s) ∙ f.formed; fro
 module _ (p : ℕ) (s before : List ℕ) (i : ℕ) (after : List ℕ) (c : Placed p s before i after) where
   pub placed_has : i < length s → has p (get_or s i 0) ≡ true
   placed_has h = has_at p s i c.all h
+
+  pub placed_there : i < length s → is_there (based_unit p (get_or s i 0)) ≡ true
+  placed_there h = there_told _ (placed_has h)
 
   pub placed_room : i < length s → i < length after
   placed_room h = let l = based_few p s c.all in front_room _ before i after c.front (omega arith)

@@ -10,7 +10,7 @@ use lib.ListN.{length, get_or, take, drop, length-append, length-take, length-dr
 use lib.Seq.{take-append_seam, length-take-le}
 use lib.Dec.{ltb, eqb}
 use borrow.Author.Tests.{le-ltb, ltb-true, ltb-false}
-use Rattle.rules.specs.Checks.{is_empty, every}
+use Rattle.rules.specs.Checks.{◌⇒◌else◌, is_empty, every}
 use Rattle.rules.specs.Words.{Ended}
 use Rattle.std.specs.Prelude.{Ok, Err}
 use Rattle.rules.specs.declared.Refusal.{Refusal}
@@ -23,7 +23,7 @@ use Rattle.text.specs.Prints.{count_of, outcome_of, line_of, Prints}
 use Rattle.text.proofs.Printing.{prints_after, prints_as}
 use Rattle.alpha.specs.Alphabet.{escape, unit_of, extension_unit}
 use Rattle.alpha.specs.Reads.{Text, units, malformed, follow, follow_if, padding, pairs_mark, block_mark, base_mark, default_from, pairs, based_unit, based_from, based, block_pointer, base_pointer, reads}
-use Rattle.alpha.specs.Writes.{default_coding, pair_coding, block_coding, base_coding, shorter, first_or, writes}
+use Rattle.alpha.specs.Writes.{default_coding, pair_bytes, pair_coding, serves, based_bytes, block_with, block_serves, block_of, block_coding, base_with, base_serves, highest, base_of, base_coding, shorter, first_or, writes}
 use Rattle.alpha.specs.Calls.{fitted, laid, ended_of, leaves}
 use Rattle.alpha.specs.Printed.{unit_text, further_text, units_text, text_line, units_of, coded_line, alpha_write_line}
 use Rattle.alpha.specs.Passes.{units_in}
@@ -228,6 +228,12 @@ module _ (us before : List ℕ) (h : 1 + 2 * length us ≤ length before) (x : E
   coded_line_lem =
       let k = writes_few us in
       (λ i. line_of (outcome_of (e.0 i) (e.1 i))) ∙ ap line_of (outcome_back (writes us) before (omega arith))
+
+-- no units have no bytes
+pub none_coded : (us : List ℕ) → length us ≡ 0 → line_of (wrote []) ≡ line_of (wrote (writes us))
+unfolding writes shorter first_or default_coding pair_coding pair_bytes block_coding block_serves block_with block_of base_coding base_serves base_with base_of highest serves based_bytes ◌⇒◌else◌
+none_coded [] e = refl
+none_coded (u ∷ us) e = absurd (let z : suc (length us) ≡ 0 = e in omega arith)
 
 -- the line of units, by what they were
 pub coded_told : (l : List ℕ) (o : Option (List ℕ)) {r at : ℕ} {before after : List ℕ} → units_of l ≡ o → Prints (coded_line o) r before at after → Prints (alpha_write_line l) r before at after

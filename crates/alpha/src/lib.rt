@@ -112,6 +112,8 @@ pub struct Survey {
 }
 
 // The unit of a code of the extension table.
+// Kept: written into its callers, since the count of a text then needs no unit: a hundred escapes are read in 4435 instructions, and in 6347 by calls.
+#[inline(always)]
 fn extension(code: u8) -> Option<u16>
     ensures { result ≡ told (extension_unit code) }
 {
@@ -187,6 +189,8 @@ fn is_plain(s: &[u8]) -> bool
 }
 
 // The first unit of a text of the default alphabet and the bytes behind it; none where the text has ended or is malformed there.
+// Kept: written into its callers, since what a call tells goes through memory: 199 letters and one FF are read in 5422 instructions, and in 11032 by calls.
+#[inline(always)]
 fn split_unit(s: &[u8]) -> Option<(u16, &[u8])>
     ensures { Splits s.now result }
 {
@@ -232,6 +236,7 @@ fn is_padding(s: &[u8]) -> bool
 }
 
 // The unit of a byte of 81 or 82, if it has one.
+// Kept: the sum as a usize, since `checked_add` makes the test longer: 200 high bytes of 82 are read in 4280 instructions, and in 4676 by it.
 fn based_unit(pointer: u16, b: u8) -> Option<u16>
     ensures { result ≡ told (based_unit pointer b) }
 {
@@ -241,7 +246,19 @@ fn based_unit(pointer: u16, b: u8) -> Option<u16>
     if b < Coded::LIMIT {
         return Some(TABLE[usize::from(b)]);
     }
-    pointer.checked_add(u16::from(b - Coded::LIMIT))
+    u16::try_from(usize::from(pointer) + usize::from(b - Coded::LIMIT)).ok()
+}
+
+// The unit of a byte of 81 or 82 that has one.
+// Kept: apart from `based_unit`, whose tests have been made: 200 bytes of 81 are read in 3081 instructions, and in 3682 with them.
+fn checked_unit(pointer: u16, b: u8) -> u16
+    requires { is_there (based_unit pointer b) ≡ true }
+    ensures { based_unit pointer b ≡ some result }
+{
+    if b < Coded::LIMIT {
+        return TABLE[usize::from(b)];
+    }
+    pointer + u16::from(b - Coded::LIMIT)
 }
 
 // Whether every byte of 81 or 82 has a unit.
@@ -291,7 +308,7 @@ fn fill_based(pointer: u16, s: &[u8], out: &mut [u16])
     ensures { out.new ≡ overlaid (units_in (based_from pointer s.now)) out.old }
 {
     for (i, b) in s.iter().enumerate() {
-        out[i] = based_unit(pointer, *b).unwrap();
+        out[i] = checked_unit(pointer, *b);
     }
 }
 
@@ -782,6 +799,10 @@ fn print_coded(units: &[u16], out: &mut [u8], at: usize) -> usize
     requires { (length units.now ≤ 1600) × (at + room ≤ length out.old) }
     ensures { Prints (line_of (wrote (writes units.now))) result out.old at out.new }
 {
+    // Kept: before the array is made, which is cleared: a blank line takes 3320 instructions, and 6550 behind it.
+    if units.is_empty() {
+        return print(out, at, Ok(0), b"");
+    }
     let mut bytes = [0u8; Units::BYTES];
     let ended = write(units, &mut bytes);
     print(out, at, ended, &bytes)

@@ -2,6 +2,7 @@
 -- Assumes nothing.
 use native.Mathlib.Omega.{arith}
 use mathlib.Core.Path.{ap}
+use Rattle.std.proofs.Common.{rules, tests}
 use lib.ListN.{get_or}
 use Rattle.alpha.specs.Alphabet.{table, unit_of}
 use Rattle.alpha.proofs.Bases.{told_escape, told_code, told_high}
@@ -15,4 +16,4 @@ unfolding unit_of table
 returns-then-b-lt-LIMIT c = told_code _ _ _ c.if-b-eq-ESCAPE.false (omega arith) (ap (λ i. get_or table i 0) c.from.ensures)
 
 pub returns : goal.returns
-returns c = told_high _ _ _ _ c.from-2.ensures (omega arith) c.checked_add.ensures
+returns c = told_high _ _ _ _ c.from-3.ensures (omega arith) (search (rules, tests))
