@@ -1,25 +1,17 @@
 -- The first kind that passes a test: as the library finds it, what is made of it, and that it passes.
 -- Assumes nothing.
-use mathlib.Core.Path.{◌≡◌, refl, sym, ap, subst, ◌∙◌}
+use mathlib.Core.Path.{◌≡◌, refl, sym, ap, ◌∙◌}
 use mathlib.Core.Bool.{Bool, true, false, cond}
-use mathlib.Core.List.{List, [], ◌∷◌}
+use mathlib.Core.List.{[], ◌∷◌}
 use native.Mathlib.Omega.{arith}
 use Rattle.std.specs.Prelude.{ℕ, Option, Some, None, find}
 use Rattle.std.specs.Option.{option_map, option_map_or}
-use Rattle.std.specs.Array.Iter.{array_into_iter_items, array_steps}
-use Rattle.std.specs.declared.array.IntoIter.{IntoIter}
-use Rattle.std.proofs.lemmas.Iterator.{YieldsList}
 use Rattle.std.proofs.lemmas.Iterator.Adapters.{option_map_id}
-use Rattle.std.proofs.lemmas.Iterator.Consumers.{YieldsList-from_shown}
 use Rattle.rules.specs.Checks.{◌⇒◌else◌}
 use Rattle.rules.proofs.Laws.{branch}
 use Rattle.csim.specs.declared.Kind.{Kind}
 use Rattle.csim.specs.declared.Kind.TheVariants.{Profile, Response, Envelope}
 use Rattle.csim.specs.Kinds.{by_kind}
-
--- the kinds that an array gives
-pub given : {n : ℕ} (s : IntoIter Kind n) (all : List Kind) → array_into_iter_items s ≡ all → YieldsList (array_steps {A = Kind} {n = n}) (λ k. k) s all
-given s all e = subst (YieldsList array_steps (λ k. k) s) e (YieldsList-from_shown array_steps (λ k. k) array_into_iter_items (λ s t h. h.0) (λ s x t h. h) s)
 
 module _ (t : Kind → Bool) where
   -- as the library finds it

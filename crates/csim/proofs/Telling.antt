@@ -14,7 +14,7 @@ use lib.Dec.{ltb}
 use borrow.Author.Rules.{part_to_end}
 use borrow.Author.Tests.{lt-ltb, le-ltb, eq-eqb, ne_eqb}
 use Rattle.rules.specs.declared.Refusal.TheVariants.{NoRecord, WrongCount}
-use Rattle.std.specs.Prelude.{Option as CodeOption, Some, None, Result, Ok, Err, MatchResult}
+use Rattle.std.specs.Prelude.{Option as CodeOption, Some, None}
 use Rattle.std.specs.Option.{option_map_or}
 use Rattle.rules.specs.Checks.{is_empty}
 use Rattle.rules.specs.Lines.{bytes_of, frame_of, hex, decimal}
@@ -32,7 +32,7 @@ use Rattle.csim.specs.Records.{imported, unfit, opening, quoting, cleaned, shape
 use Rattle.csim.specs.Exports.{export_of, export_in, export_behind, exports}
 use Rattle.csim.proofs.ByKind.{by_found, found_passes}
 use Rattle.csim.proofs.Scans.{leads_size}
-use Rattle.csim.proofs.Shapes.{Shaping, shape_is, quoted_few}
+use Rattle.csim.proofs.Shapes.{Shaping, shape_is}
 use Rattle.csim.specs.Printed.{room, longest, record_line, import_line, csim_line, export_line}
 
 -- what was printed at the front of a buffer
@@ -138,7 +138,7 @@ module _ (c : List ℕ) (o : CodeOption ℕ) (u : o ≡ shape_of c) where
     pub shaping : Shaping c k
     shaping = shape_is c k (sym e ∙ u)
 
-    counted_in : record_in c ≡ counted (part 8 (8 + k) c) (part (10 + k) (length c - 1) c)
+    pub counted_in : record_in c ≡ counted (part 8 (8 + k) c) (part (10 + k) (length c - 1) c)
     unfolding record_in shaped
     counted_in = ap (λ (s : CodeOption ℕ). shaped s c) (sym u ∙ e)
 
@@ -146,9 +146,10 @@ module _ (c : List ℕ) (o : CodeOption ℕ) (u : o ≡ shape_of c) where
     unfolding counted
     padded z = counted_in ∙ stop _ _ _ z
 
-    pub framed_in : leading_zero (part 8 (8 + k) c) ≡ false → length c ≤ longest → record_in c ≡ framed (part 8 (8 + k) c) (frame_of (part (10 + k) (length c - 1) c))
-    unfolding counted
-    framed_in z h = counted_in ∙ skip _ _ _ z ∙ ap (framed (part 8 (8 + k) c)) (sym (short_frame (part (10 + k) (length c - 1) c) (quoted_few c k h)))
+-- a count without a zero in front, and what stands behind it
+pub counted_framed : (ds q : List ℕ) → leading_zero ds ≡ false → length q ≤ longest → counted ds q ≡ framed ds (frame_of q)
+unfolding counted
+counted_framed ds q z h = skip _ _ _ z ∙ ap (framed ds) (sym (short_frame q h))
 
 -- a line of a log: over the limit, or what its text without blanks gives
 pub import_long : (l : List ℕ) → longest < length l → import_line l ≡ record_line (unfit NoRecord)
@@ -158,11 +159,6 @@ import_long l h = grind checks
 pub import_within : (l c : List ℕ) → length l ≤ longest → c ≡ cleaned l → import_line l ≡ record_line (record_in c)
 unfolding import_line imports
 import_within l c h e = skip _ _ _ (le-ltb longest (length l) h) ∙ ap (λ (s : List ℕ). record_line (record_in s)) (sym e)
-
--- and what is made of that
-pub made : {T E A B : Type 0} (h : A → B) (a : A) (f : T → A) (g : E → A) (r : Result T E) → MatchResult r (λ x. a ≡ f x) (λ e. a ≡ g e) → MatchResult r (λ x. h a ≡ h (f x)) (λ e. h a ≡ h (g e))
-made h a f g (Ok x) e = ap h e
-made h a f g (Err x) e = ap h e
 
 -- a line of ours: over the limit, without a word, or what its digits give
 pub export_long : (l : List ℕ) → longest < length l → export_line l ≡ csim_line none
@@ -181,33 +177,34 @@ module _ (l : List ℕ) (h : length l ≤ longest) (o : CodeOption Kind) (u : o 
     pub lead_within : length (lead_of k) ≤ length l
     lead_within = leads_size (lead_of k) l (found_passes (λ (j : Kind). leads (lead_of j) l) k (sym u ∙ e))
 
-    -- the frame of the digits behind the word: no bytes, too many, or its line
-    export_framed : (w : List ℕ) (f : Option (List ℕ)) → w ≡ lead_of k → frame_of (part (length w) (length l) l) ≡ f → export_line l ≡ csim_line (export_in k f)
+    pub named : (w : List ℕ) → w ≡ lead_of k → export_line l ≡ csim_line (export_in k (frame_of (part (length w) (length l) l)))
     unfolding export_behind
-    export_framed w f is r =
+    named w is =
         let rest : part (length w) (length l) l ≡ drop (length (lead_of k)) l = part_to_end l (length w) ∙ ap (λ (v : List ℕ). drop (length v) l) is in
         let few = length-drop (length (lead_of k)) l in
-        let read : bytes_of (drop (length (lead_of k)) l) ≡ f = sym (short_frame (drop (length (lead_of k)) l) (omega arith)) ∙ ap frame_of (sym rest) ∙ r in
-        export_within ∙ ap (λ (r : CodeOption Kind). csim_line (option_map_or (λ (j : Kind). export_behind j l) r none)) e ∙ ap (λ (b : Option (List ℕ)). csim_line (export_in k b)) read
+        let read : frame_of (part (length w) (length l) l) ≡ bytes_of (drop (length (lead_of k)) l) = ap frame_of rest ∙ short_frame (drop (length (lead_of k)) l) (omega arith) in
+        export_within ∙ ap (λ (r : CodeOption Kind). csim_line (option_map_or (λ (j : Kind). export_behind j l) r none)) e ∙ ap (λ (b : Option (List ℕ)). csim_line (export_in k b)) (sym read)
 
-    pub asked_unread : (w : List ℕ) → w ≡ lead_of k → frame_of (part (length w) (length l) l) ≡ none → export_line l ≡ csim_line none
-    unfolding export_in
-    asked_unread w is r = export_framed w none is r
+-- the frame of the digits behind a word: none, no bytes, too many, or its line
+module _ (k : Kind) (q : List ℕ) where
+  pub asked_unread : frame_of q ≡ none → export_in k (frame_of q) ≡ none
+  unfolding export_in
+  asked_unread r = ap (export_in k) r
 
-    module _ (w : List ℕ) (is : w ≡ lead_of k) (n : ℕ) (frame : List ℕ) (r : Read (frame_of (part (length w) (length l) l)) n frame) where
-      s : List ℕ
-      s = take n frame
+  module _ (n : ℕ) (frame : List ℕ) (r : Read (frame_of q) n frame) where
+    s : List ℕ
+    s = take n frame
 
-      pub asked_none : (n ≡ 0) ⊎ ((n ≡ 0 → ⊥) × (255 < n)) → export_line l ≡ csim_line none
-      unfolding export_in s
-      asked_none z =
-          let wrong : is_empty s || ltb 255 (length s) ≡ true =
-          ⊎_elim (λ e. ap (λ (b : Bool). b || ltb 255 (length s)) (sym (empty_length s) ∙ eq-eqb (length s) 0 (sym r.size ∙ e)))
-          (λ h. or_right (is_empty s) _ (lt-ltb 255 (length s) (omega (arith, r.size, h.1)))) z in
-          export_framed w (some s) is r.bytes ∙ ap csim_line (stop _ _ _ wrong)
+    pub asked_none : (n ≡ 0) ⊎ ((n ≡ 0 → ⊥) × (255 < n)) → export_in k (frame_of q) ≡ none
+    unfolding export_in s
+    asked_none z =
+        let wrong : is_empty s || ltb 255 (length s) ≡ true =
+        ⊎_elim (λ e. ap (λ (b : Bool). b || ltb 255 (length s)) (sym (empty_length s) ∙ eq-eqb (length s) 0 (sym r.size ∙ e)))
+        (λ h. or_right (is_empty s) _ (lt-ltb 255 (length s) (omega (arith, r.size, h.1)))) z in
+        ap (export_in k) r.bytes ∙ stop _ _ _ wrong
 
-      pub asked_fits : (n ≡ 0 → ⊥) → n ≤ 255 → export_line l ≡ csim_line (some (export_of k (take n frame)))
-      unfolding export_in s
-      asked_fits z h =
-          let few : is_empty s || ltb 255 (length s) ≡ false = λ i. (sym (empty_length s) ∙ ne_eqb (length s) 0 (λ e. z (r.size ∙ e))) i || le-ltb 255 (length s) (omega (arith, r.size)) i in
-          export_framed w (some s) is r.bytes ∙ ap csim_line (skip _ _ _ few)
+    pub asked_fits : (n ≡ 0 → ⊥) → n ≤ 255 → export_in k (frame_of q) ≡ some (export_of k (take n frame))
+    unfolding export_in s
+    asked_fits z h =
+        let few : is_empty s || ltb 255 (length s) ≡ false = λ i. (sym (empty_length s) ∙ ne_eqb (length s) 0 (λ e. z (r.size ∙ e))) i || le-ltb 255 (length s) (omega (arith, r.size)) i in
+        ap (export_in k) r.bytes ∙ skip _ _ _ few

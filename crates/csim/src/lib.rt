@@ -3,13 +3,16 @@
 
 ghost use Rattle.std.specs.Prelude.{◌≡◌, ◌+◌, ◌≤◌, ◌<◌, length, Some, None, IfSome, MatchOption, MatchResult};
 ghost use Rattle.std.proofs.Math.Option.{none, some};
+ghost use Rattle.rules.specs.declared.Refusal.TheVariants.{NoRecord};
+ghost use Rattle.rules.specs.Lines.{frame_of};
 ghost use Rattle.text.specs.Prints.{Prints};
 ghost use Rattle.text.specs.Sizes.{frame_cap};
 ghost use Rattle.csim.specs.Kinds.{instruction_of, header_of, lead_of, leads, by_kind};
-ghost use Rattle.csim.specs.Records.{imported, unfit, cleaned, digits_in, shape_of, leading_zero, count_is, framed, record_in};
-ghost use Rattle.csim.specs.Exports.{export_of};
+ghost use Rattle.csim.specs.Records.{imported, unfit, cleaned, digits_in, shape_of, leading_zero, count_is, framed, counted, record_in};
+ghost use Rattle.csim.specs.Exports.{export_of, export_in};
 ghost use Rattle.csim.specs.Printed.{room, longest, record_line, import_line, csim_line, export_line};
 ghost use Rattle.csim.specs.Proper.{Proper};
+ghost use Rattle.csim.specs.Props.{Proper-prop};
 
 use octets;
 use rules::Refusal;
@@ -91,12 +94,22 @@ struct Command<'a> {
     ghost few: { length bytes.now ≤ 255 },
 }
 
+// What a line without blanks has: a count without a zero in front, and the characters between its quotes.
+#[derive(Clone, Copy)]
+struct Counted<'a> {
+    count: &'a [u8],
+    quoted: &'a [u8],
+    ghost proper: { Proper count.now } by { Proper-prop count.now },
+    ghost few: { length quoted.now ≤ longest },
+}
+
 // The kind whose header a frame begins with.
 fn kind_of_frame(s: &[u8]) -> Option<Kind>
     ensures { result ≡ by_kind (λ k. leads (header_of k) s.now) Some None }
 {
     Kind::ALL
-        .into_iter()
+        .iter()
+        .copied()
         .find(|kind| s.starts_with(&kind.header()))
 }
 
@@ -105,7 +118,8 @@ fn kind_of_line(line: &[u8]) -> Option<Kind>
     ensures { result ≡ by_kind (λ k. leads (lead_of k) line.now) Some None }
 {
     Kind::ALL
-        .into_iter()
+        .iter()
+        .copied()
         .find(|kind| line.starts_with(kind.lead()))
 }
 
@@ -196,32 +210,29 @@ fn read_counted<'a>(count: &[u8], s: &'a [u8]) -> Result<Command<'a>, Refusal>
     })
 }
 
-// Reads a line without blanks, in capitals; its frame goes to the front of `frame`.
-fn read_text<'a>(text: &[u8], frame: &'a mut [u8]) -> Result<Command<'a>, Refusal>
-    requires { (length text.now ≤ longest) × (frame_cap ≤ length frame.old) }
-    ensures { MatchResult result (λ r. record_in text.now ≡ imported r.kind r.bytes.now) (λ e. record_in text.now ≡ unfit e) }
+// Reads a line without blanks, in capitals; none where it has another shape, or a zero in front of its count.
+fn read_text<'a>(text: &'a [u8]) -> Option<Counted<'a>>
+    requires { length text.now ≤ longest }
+    ensures { MatchOption result (record_in text.now ≡ unfit NoRecord) (λ r. record_in text.now ≡ counted r.count.now r.quoted.now) }
 {
-    let k = shape_of(text).ok_or(Refusal::NoRecord)?;
+    let k = shape_of(text)?;
     let count = &text[Log::OPENING..Log::OPENING + k];
     if is_padded(count) {
-        return Err(Refusal::NoRecord);
+        return None;
     }
-    let quoted = &text[Log::AROUND + k..text.len() - 1];
-    let n = read_frame(quoted, frame).ok_or(Refusal::NoRecord)?;
-    read_counted(count, &frame[..n])
+    Some(Counted {
+        count,
+        quoted: &text[Log::AROUND + k..text.len() - 1],
+    })
 }
 
-// Reads a line of a log, R17 where it is none, R18 where its count or P3 is wrong; its frame goes to the front of `frame`.
-fn read_logged<'a>(line: &[u8], frame: &'a mut [u8]) -> Result<Command<'a>, Refusal>
+// Reads the characters behind a count, R17 where they are none, R18 where the count or P3 is wrong; their frame goes to the front of `frame`.
+fn read_logged<'a>(text: Counted, frame: &'a mut [u8]) -> Result<Command<'a>, Refusal>
     requires { frame_cap ≤ length frame.old }
-    ensures { MatchResult result (λ r. import_line line.now ≡ record_line (imported r.kind r.bytes.now)) (λ e. import_line line.now ≡ record_line (unfit e)) }
+    ensures { MatchResult result (λ r. counted text.entry.count.now text.entry.quoted.now ≡ imported r.kind r.bytes.now) (λ e. counted text.entry.count.now text.entry.quoted.now ≡ unfit e) }
 {
-    if Line::DIGITS < line.len() {
-        return Err(Refusal::NoRecord);
-    }
-    let mut text = [0u8; Line::DIGITS];
-    let n = clean(line, &mut text);
-    read_text(&text[..n], frame)
+    let n = read_frame(text.quoted, frame).ok_or(Refusal::NoRecord)?;
+    read_counted(text.count, &frame[..n])
 }
 
 // Prints characters, and tells the place behind them.
@@ -244,28 +255,40 @@ fn print_record(command: Command, out: &mut [u8], at: usize) -> usize
     print_char(out, end, b'\n')
 }
 
-// Prints the kind and the data of a line of a +CSIM log, R17 where it is none, R18 where its count or P3 is wrong; tells the place behind them.
-pub fn tell_import(line: &[u8], out: &mut [u8], at: usize) -> usize
+// Prints what a count and the characters behind it give, and tells the place behind it.
+fn import_counted(text: Counted, out: &mut [u8], at: usize) -> usize
     requires { at + room ≤ length out.old }
-    ensures { Prints (import_line line.now) result out.old at out.new }
+    ensures { Prints (record_line (counted text.entry.count.now text.entry.quoted.now)) result out.old at out.new }
 {
     let mut frame = [0u8; Line::FRAME];
-    match read_logged(line, &mut frame) {
+    match read_logged(text, &mut frame) {
         Ok(command) => print_record(command, out, at),
         Err(refusal) => print_refusal(out, at, refusal),
     }
 }
 
-// Reads a line of ours, whose frame goes to the front of `frame`; none where it is R17.
-fn read_asked<'a>(line: &[u8], frame: &'a mut [u8]) -> Option<Command<'a>>
-    requires { frame_cap ≤ length frame.old }
-    ensures { MatchOption result (export_line line.now ≡ csim_line none) (λ r. export_line line.now ≡ csim_line (some (export_of r.kind r.bytes.now))) }
+// Prints the kind and the data of a line of a +CSIM log, R17 where it is none, R18 where its count or P3 is wrong; tells the place behind them.
+pub fn tell_import(line: &[u8], out: &mut [u8], at: usize) -> usize
+    requires { at + room ≤ length out.old }
+    ensures { Prints (import_line line.now) result out.old at out.new }
 {
     if Line::DIGITS < line.len() {
-        return None;
+        return print_refusal(out, at, Refusal::NoRecord);
     }
-    let kind = kind_of_line(line)?;
-    let n = read_frame(&line[kind.lead().len()..], frame)?;
+    let mut text = [0u8; Line::DIGITS];
+    let n = clean(line, &mut text);
+    match read_text(&text[..n]) {
+        Some(counted) => import_counted(counted, out, at),
+        None => print_refusal(out, at, Refusal::NoRecord),
+    }
+}
+
+// Reads the digits behind the word of a kind, whose frame goes to the front of `frame`; none where they are R17.
+fn read_asked<'a>(kind: Kind, digits: &[u8], frame: &'a mut [u8]) -> Option<Command<'a>>
+    requires { frame_cap ≤ length frame.old }
+    ensures { MatchOption result (export_in kind (frame_of digits.now) ≡ none) (λ r. export_in kind (frame_of digits.now) ≡ some (export_of r.kind r.bytes.now)) }
+{
+    let n = read_frame(digits, frame)?;
     if n == 0 || Log::DATA < n {
         return None;
     }
@@ -291,14 +314,28 @@ fn print_csim(command: Command, out: &mut [u8], at: usize) -> usize
     print_string(out, end, b"\"\n")
 }
 
+// Prints the line of a log for the digits behind the word of a kind, or R17; tells the place behind it.
+fn export_digits(kind: Kind, digits: &[u8], out: &mut [u8], at: usize) -> usize
+    requires { at + room ≤ length out.old }
+    ensures { Prints (csim_line (export_in kind (frame_of digits.now))) result out.old at out.new }
+{
+    let mut frame = [0u8; Line::FRAME];
+    match read_asked(kind, digits, &mut frame) {
+        Some(command) => print_csim(command, out, at),
+        None => print_refusal(out, at, Refusal::NoRecord),
+    }
+}
+
 // Prints the line of a +CSIM log that a line of ours asks for, or R17; tells the place behind it.
 pub fn tell_export(line: &[u8], out: &mut [u8], at: usize) -> usize
     requires { at + room ≤ length out.old }
     ensures { Prints (export_line line.now) result out.old at out.new }
 {
-    let mut frame = [0u8; Line::FRAME];
-    match read_asked(line, &mut frame) {
-        Some(command) => print_csim(command, out, at),
+    if Line::DIGITS < line.len() {
+        return print_refusal(out, at, Refusal::NoRecord);
+    }
+    match kind_of_line(line) {
+        Some(kind) => export_digits(kind, &line[kind.lead().len()..], out, at),
         None => print_refusal(out, at, Refusal::NoRecord),
     }
 }
