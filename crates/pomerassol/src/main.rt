@@ -12,7 +12,7 @@ use tools::{Tool, tool_named};
 fn play<I: Read, O: Write, E: Write>(input: &mut I, outlets: &mut Outlets<O, E>, tool: Tool) {
     let mut piece = [0u8; 65536];
     let mut out = [0u8; 65536];
-    let _ = run(input, outlets, tool, &mut piece, &mut out);
+    run(input, outlets, tool, &mut piece, &mut out);
 }
 
 // Runs the tool of a name over an input, or tells that no tool has the name.

@@ -27,7 +27,7 @@ fn text_len(written: &[u8]) -> usize
 
 // A read or a write failed, and that was told.
 #[derive(Clone, Copy)]
-pub struct Failed {}
+struct Failed {}
 
 // Where a tool writes: its answers, and what fails.
 #[derive(Drop)]
@@ -80,8 +80,8 @@ fn feed_all<O: Write, E: Write>(
     Ok(())
 }
 
-// Runs a tool over an input: reads it piece by piece and answers the lines of each, and at its end what is left of one. The pieces are bounded by a number that no input uses up.
-pub fn run<I: Read, O: Write, E: Write>(
+// Reads an input piece by piece and answers the lines of each, and at its end what is left of one. The pieces are bounded by a number that no input uses up.
+fn answer_all<I: Read, O: Write, E: Write>(
     input: &mut I,
     outlets: &mut Outlets<O, E>,
     tool: Tool,
@@ -106,4 +106,17 @@ pub fn run<I: Read, O: Write, E: Write>(
         feed_all(outlets, tool, &mut machine, &piece[..n], out)?;
     }
     Ok(())
+}
+
+// Runs a tool over an input, up to its end or to the first read or write that fails, which was told then.
+pub fn run<I: Read, O: Write, E: Write>(
+    input: &mut I,
+    outlets: &mut Outlets<O, E>,
+    tool: Tool,
+    piece: &mut [u8],
+    out: &mut [u8],
+)
+    requires { printed_size ≤ length out.old }
+{
+    let _ = answer_all(input, outlets, tool, piece, out);
 }
