@@ -3,20 +3,25 @@
 # an address as a number, compared pointers, a constant that could hold a pointer, a structure that LLVM would lay out in more
 # ways than one, code for one processor, an attribute that is not known, a pointer's slot used as something else.
 # Two numbers as a structure, each aligned to its own size, lie alike wherever numbers of 64 bits are aligned to 8 bytes; so do a
-# pointer and a number of 64 bits behind it, which stands at 8 bytes whatever the pointer takes.
+# pointer and a number of 64 bits behind it, which stands at 8 bytes whatever the pointer takes. A byte and a pointer behind it may go
+# from function to function; from memory they are loaded by lines of one form alone, which targets/build takes apart where pointers
+# have 32 bits. What an inner function is handed need not be known to be a number: it is where it is looked at.
 BEGIN {
     name = "(%[A-Za-z0-9_.]+|%\"[^\"]*\")"
     symbol = "(@[A-Za-z0-9_.]+|@\"[^\"]*\")"
     whole = "(i1|i8|i16|i32|i64)"
-    pair = "\\{ ((i8|i16|i32|i64), (i8|i16|i32|i64)|ptr, i64) \\}"
+    lying = "\\{ ((i8|i16|i32|i64), (i8|i16|i32|i64)|ptr, i64) \\}"
+    pair = "(" lying "|\\{ i8, ptr \\})"
     value = "(" name "|-?[0-9]+|true|false)"
     typed = "(" whole " " value "|ptr " name ")"
     result = name " = "
     operation = "(add|sub|mul|udiv|urem|sdiv|srem|and|or|xor|shl|lshr|ashr)( nuw| nsw| exact)*"
     compare = "icmp (eq|ne|ult|ule|ugt|uge|slt|sle|sgt|sge)"
     parameter = "(ptr|" whole ") noundef( zeroext)? " name
+    passed = "(ptr|" whole ")( noundef)?( zeroext)? " name
     form["alloca"] = result "alloca (" whole "|ptr|\\[[0-9]+ x i8\\]), align [0-9]+"
-    form["load"] = result "load (" whole "|ptr|" pair "), ptr " name ", align [0-9]+(, !range ![0-9]+)?(, !noundef ![0-9]+)?"
+    form["load"] = result "load (" whole "|ptr|" lying "), ptr " name ", align [0-9]+(, !range ![0-9]+)?(, !noundef ![0-9]+)?"
+    form["byte and pointer"] = result "load \\{ i8, ptr \\}, ptr %[A-Za-z0-9_.]+, align 8"
     form["store"] = "store " typed ", ptr " name ", align [0-9]+"
     form["constant"] = "store ptr " symbol ", ptr " name ", align [0-9]+"
     form["getelementptr"] = result "getelementptr( inbounds)?( nuw)? i8, ptr " name ", i64 " value
@@ -33,14 +38,14 @@ BEGIN {
     form["ret"] = "ret (void|" whole " " value "|" pair " " name ")"
     form["rest"] = "(\\]|unreachable)"
     for (kind in form) form[kind] = "^  +" form[kind] "$"
-    inner = "^define internal (noundef )?(zeroext )?(void|" whole "|" pair ") " symbol "\\((" parameter "(, " parameter ")*)?\\) #0 \\{$"
+    inner = "^define internal (noundef )?(zeroext )?(void|" whole "|" pair ") " symbol "\\((" passed "(, " passed ")*)?\\) #[01] \\{$"
     # A structure of 8 bytes that is handed over by value is a number of 64 bits here, and has to be one in the header too.
     handed = "(" parameter "|i64 " name ")"
     outer = "^define (noundef )?(void|i32|i64) " symbol "\\((" handed "(, " handed ")*)?\\) #0 \\{$"
     outside = "^declare void @llvm\\.(memmove\\.p0\\.p0\\.i64|memset\\.p0\\.i64|trap)\\("
     bytes = "^" symbol " = private unnamed_addr constant \\[[0-9]+ x i8\\] c\"[^\"]*\", align [0-9]+$"
     size["i1"] = size["i8"] = 1; size["i16"] = 2; size["i32"] = 4; size["i64"] = size["ptr"] = 8
-    split("nounwind \"probe-stack\"=\"inline-asm\" \"stack-probe-size\"=\"3072\" \"target-cpu\"=\"x86-64-v2\" nocallback nofree nobuiltin willreturn cold noreturn", words, " ")
+    split("nounwind \"probe-stack\"=\"inline-asm\" \"stack-probe-size\"=\"3072\" \"target-cpu\"=\"x86-64-v2\" nocallback nofree nobuiltin willreturn cold noreturn alwaysinline", words, " ")
     for (i in words) attribute[words[i]] = 1
 }
 
@@ -84,7 +89,7 @@ function follow(kind,    parts, register) {
         register = substr($0, RSTART + 4, RLENGTH - 4)
         if (!(register in root)) { root[register] = register; offset[register] = 0 }
         root[parts[2]] = root[register]; offset[parts[2]] = offset[register] + $NF
-    } else if (kind == "load") {
+    } else if (kind == "load" || kind == "byte and pointer") {
         match($0, /, ptr %[A-Za-z0-9_.]+/)
         register = substr($0, RSTART + 6, RLENGTH - 6)
         if (parts[5] == "{") {

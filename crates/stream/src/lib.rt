@@ -108,7 +108,7 @@ fn answer_all<I: Read, O: Write, E: Write>(
     Ok(())
 }
 
-// Runs a tool over an input, up to its end or to the first read or write that fails, which was told then.
+// Runs a tool over an input, up to its end or to the first read or write that fails; that was told, but for a closed pipe.
 pub fn run<I: Read, O: Write, E: Write>(
     input: &mut I,
     outlets: &mut Outlets<O, E>,
