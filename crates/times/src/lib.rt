@@ -75,7 +75,7 @@ pub fn of_day(t: Time) -> bool
 pub fn is_zero(t: Time) -> bool
     ensures { result ≡ is_zero t }
 {
-    // Kept: a pattern, of which the compiler makes one test. With `==` or with three tests by `&&` a second costs more: of eight idle timers, in the tool `calls`, 96 instructions by `&&` and 50 so.
+    // Kept: a pattern, of which the compiler makes one test. Of eight idle timers a second costs 50 instructions so in the tool `calls`, and 96 by three tests with `&&`; of eight running ones, from C, 140 and 124.
     matches!((t.hours, t.minutes, t.seconds), (0, 0, 0))
 }
 
