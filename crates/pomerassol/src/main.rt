@@ -5,14 +5,14 @@ use std::env::{Env, FillError};
 use std::io::{ErrorKind, Read, Write};
 use std::rt::Files;
 use std::{fs, io, str};
-use stream::{Outlets, run};
+use stream::{Outlets, run_told};
 use tools::{Tool, tool_named};
 
 // Runs a tool over an input, with all the memory that it ever uses. What fails was told.
 fn play<I: Read, O: Write, E: Write>(input: &mut I, outlets: &mut Outlets<O, E>, tool: Tool) {
     let mut piece = [0u8; 65536];
     let mut out = [0u8; 65536];
-    run(input, outlets, tool, &mut piece, &mut out);
+    run_told(input, outlets, tool, &mut piece, &mut out);
 }
 
 // Runs the tool of a name over an input, or tells that no tool has the name.

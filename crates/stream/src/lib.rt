@@ -25,9 +25,9 @@ fn text_len(written: &[u8]) -> usize
     written.len()
 }
 
-// A read or a write failed, and that was told.
+// A read or a write failed; that was told, but for a closed pipe.
 #[derive(Clone, Copy)]
-struct Failed {}
+pub struct Failed {}
 
 // Where a tool writes: its answers, and what fails.
 #[derive(Drop)]
@@ -80,8 +80,8 @@ fn feed_all<O: Write, E: Write>(
     Ok(())
 }
 
-// Reads an input piece by piece and answers the lines of each, and at its end what is left of one. The pieces are bounded by a number that no input uses up.
-fn answer_all<I: Read, O: Write, E: Write>(
+// Runs a tool over an input: reads it piece by piece and answers the lines of each, and at its end what is left of one, and tells whether a read or a write failed. The pieces are bounded by a number that no input uses up.
+pub fn run<I: Read, O: Write, E: Write>(
     input: &mut I,
     outlets: &mut Outlets<O, E>,
     tool: Tool,
@@ -108,8 +108,8 @@ fn answer_all<I: Read, O: Write, E: Write>(
     Ok(())
 }
 
-// Runs a tool over an input, up to its end or to the first read or write that fails; that was told, but for a closed pipe.
-pub fn run<I: Read, O: Write, E: Write>(
+// Runs a tool over an input as `run` does, and hands back nothing: what failed was told, but for a closed pipe.
+pub fn run_told<I: Read, O: Write, E: Write>(
     input: &mut I,
     outlets: &mut Outlets<O, E>,
     tool: Tool,
@@ -118,5 +118,8 @@ pub fn run<I: Read, O: Write, E: Write>(
 )
     requires { printed_size ≤ length out.old }
 {
-    let _ = answer_all(input, outlets, tool, piece, out);
+    let _ = run(input, outlets, tool, piece, out);
 }
+
+#[cfg(test)]
+mod tests;

@@ -1,9 +1,9 @@
--- `stream::answer_all` meets its contract: what is to be written at the end stands within the output.
+-- `stream::run` meets its contract: what is to be written at the end stands within the output.
 -- Assumes nothing.
 use mathlib.Core.Path.{sym}
 use lib.Seq.{length-take-le}
 use Rattle.flow.proofs.Filling.{fills_within}
-use Rattle.stream.proofs.answer_all.Goals as goal
+use Rattle.stream.proofs.run.Goals as goal
 
 pub slice_bounds-write-end : goal.slice_bounds-write-end
 slice_bounds-write-end g c = fills_within c.finish-last.ensures
