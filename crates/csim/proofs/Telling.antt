@@ -32,7 +32,7 @@ use Rattle.csim.specs.Records.{imported, unfit, opening, quoting, cleaned, shape
 use Rattle.csim.specs.Exports.{export_of, export_in, export_behind, exports}
 use Rattle.csim.proofs.ByKind.{by_found, found_passes}
 use Rattle.csim.proofs.Scans.{leads_size}
-use Rattle.csim.proofs.Shapes.{Shaping, shape_is}
+use Rattle.csim.proofs.Shapes.{Shaping, shape_is, quoted_few}
 use Rattle.csim.specs.Printed.{room, longest, record_line, import_line, csim_line, export_line}
 
 -- what was printed at the front of a buffer
@@ -128,6 +128,11 @@ module _ (ds s : List ℕ) (o : CodeOption Kind) (u : o ≡ by_kind (λ (k : Kin
     unfolding checked
     fitting h f n = headed_by ∙ grind checks
 
+-- a count without a zero in front, and what stands behind it
+pub counted_framed : (ds q : List ℕ) → leading_zero ds ≡ false → length q ≤ longest → counted ds q ≡ framed ds (frame_of q)
+unfolding counted
+counted_framed ds q z h = skip _ _ _ z ∙ ap (framed ds) (sym (short_frame q h))
+
 -- what a line without blanks gives, by its shape
 module _ (c : List ℕ) (o : CodeOption ℕ) (u : o ≡ shape_of c) where
   pub unshaped : o ≡ None → record_in c ≡ unfit NoRecord
@@ -146,10 +151,8 @@ module _ (c : List ℕ) (o : CodeOption ℕ) (u : o ≡ shape_of c) where
     unfolding counted
     padded z = counted_in ∙ stop _ _ _ z
 
--- a count without a zero in front, and what stands behind it
-pub counted_framed : (ds q : List ℕ) → leading_zero ds ≡ false → length q ≤ longest → counted ds q ≡ framed ds (frame_of q)
-unfolding counted
-counted_framed ds q z h = skip _ _ _ z ∙ ap (framed ds) (sym (short_frame q h))
+    pub framed_in : leading_zero (part 8 (8 + k) c) ≡ false → length c ≤ longest → record_in c ≡ framed (part 8 (8 + k) c) (frame_of (part (10 + k) (length c - 1) c))
+    framed_in z h = counted_in ∙ counted_framed _ _ z (quoted_few c k h)
 
 -- a line of a log: over the limit, or what its text without blanks gives
 pub import_long : (l : List ℕ) → longest < length l → import_line l ≡ record_line (unfit NoRecord)
@@ -159,6 +162,30 @@ import_long l h = grind checks
 pub import_within : (l c : List ℕ) → length l ≤ longest → c ≡ cleaned l → import_line l ≡ record_line (record_in c)
 unfolding import_line imports
 import_within l c h e = skip _ _ _ (le-ltb longest (length l) h) ∙ ap (λ (s : List ℕ). record_line (record_in s)) (sym e)
+
+-- the frame of the digits behind a word: none, no bytes, too many, or its line
+module _ (k : Kind) (q : List ℕ) where
+  pub digits_unread : frame_of q ≡ none → export_in k (frame_of q) ≡ none
+  unfolding export_in
+  digits_unread r = ap (export_in k) r
+
+  module _ (n : ℕ) (frame : List ℕ) (r : Read (frame_of q) n frame) where
+    s : List ℕ
+    s = take n frame
+
+    pub digits_none : (n ≡ 0) ⊎ ((n ≡ 0 → ⊥) × (255 < n)) → export_in k (frame_of q) ≡ none
+    unfolding export_in s
+    digits_none z =
+        let wrong : is_empty s || ltb 255 (length s) ≡ true =
+        ⊎_elim (λ e. ap (λ (b : Bool). b || ltb 255 (length s)) (sym (empty_length s) ∙ eq-eqb (length s) 0 (sym r.size ∙ e)))
+        (λ h. or_right (is_empty s) _ (lt-ltb 255 (length s) (omega (arith, r.size, h.1)))) z in
+        ap (export_in k) r.bytes ∙ stop _ _ _ wrong
+
+    pub digits_fit : (n ≡ 0 → ⊥) → n ≤ 255 → export_in k (frame_of q) ≡ some (export_of k (take n frame))
+    unfolding export_in s
+    digits_fit z h =
+        let few : is_empty s || ltb 255 (length s) ≡ false = λ i. (sym (empty_length s) ∙ ne_eqb (length s) 0 (λ e. z (r.size ∙ e))) i || le-ltb 255 (length s) (omega (arith, r.size)) i in
+        ap (export_in k) r.bytes ∙ skip _ _ _ few
 
 -- a line of ours: over the limit, without a word, or what its digits give
 pub export_long : (l : List ℕ) → longest < length l → export_line l ≡ csim_line none
@@ -185,26 +212,12 @@ module _ (l : List ℕ) (h : length l ≤ longest) (o : CodeOption Kind) (u : o 
         let read : frame_of (part (length w) (length l) l) ≡ bytes_of (drop (length (lead_of k)) l) = ap frame_of rest ∙ short_frame (drop (length (lead_of k)) l) (omega arith) in
         export_within ∙ ap (λ (r : CodeOption Kind). csim_line (option_map_or (λ (j : Kind). export_behind j l) r none)) e ∙ ap (λ (b : Option (List ℕ)). csim_line (export_in k b)) (sym read)
 
--- the frame of the digits behind a word: none, no bytes, too many, or its line
-module _ (k : Kind) (q : List ℕ) where
-  pub asked_unread : frame_of q ≡ none → export_in k (frame_of q) ≡ none
-  unfolding export_in
-  asked_unread r = ap (export_in k) r
+    pub asked_unread : (w : List ℕ) → w ≡ lead_of k → frame_of (part (length w) (length l) l) ≡ none → export_line l ≡ csim_line none
+    asked_unread w is r = named w is ∙ ap csim_line (digits_unread k _ r)
 
-  module _ (n : ℕ) (frame : List ℕ) (r : Read (frame_of q) n frame) where
-    s : List ℕ
-    s = take n frame
+    module _ (w : List ℕ) (is : w ≡ lead_of k) (n : ℕ) (frame : List ℕ) (r : Read (frame_of (part (length w) (length l) l)) n frame) where
+      pub asked_none : (n ≡ 0) ⊎ ((n ≡ 0 → ⊥) × (255 < n)) → export_line l ≡ csim_line none
+      asked_none z = named w is ∙ ap csim_line (digits_none k _ n frame r z)
 
-    pub asked_none : (n ≡ 0) ⊎ ((n ≡ 0 → ⊥) × (255 < n)) → export_in k (frame_of q) ≡ none
-    unfolding export_in s
-    asked_none z =
-        let wrong : is_empty s || ltb 255 (length s) ≡ true =
-        ⊎_elim (λ e. ap (λ (b : Bool). b || ltb 255 (length s)) (sym (empty_length s) ∙ eq-eqb (length s) 0 (sym r.size ∙ e)))
-        (λ h. or_right (is_empty s) _ (lt-ltb 255 (length s) (omega (arith, r.size, h.1)))) z in
-        ap (export_in k) r.bytes ∙ stop _ _ _ wrong
-
-    pub asked_fits : (n ≡ 0 → ⊥) → n ≤ 255 → export_in k (frame_of q) ≡ some (export_of k (take n frame))
-    unfolding export_in s
-    asked_fits z h =
-        let few : is_empty s || ltb 255 (length s) ≡ false = λ i. (sym (empty_length s) ∙ ne_eqb (length s) 0 (λ e. z (r.size ∙ e))) i || le-ltb 255 (length s) (omega (arith, r.size)) i in
-        ap (export_in k) r.bytes ∙ skip _ _ _ few
+      pub asked_fits : (n ≡ 0 → ⊥) → n ≤ 255 → export_line l ≡ csim_line (some (export_of k (take n frame)))
+      asked_fits z h = named w is ∙ ap csim_line (digits_fit k _ n frame r z h)
