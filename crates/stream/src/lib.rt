@@ -25,7 +25,7 @@ fn text_len(written: &[u8]) -> usize
     written.len()
 }
 
-// A read or a write failed; that was told, but for a closed pipe.
+// A read or a write failed; that was told, but for a write to a closed pipe.
 #[derive(Clone, Copy)]
 pub struct Failed {}
 
