@@ -4,9 +4,13 @@ use std::io;
 use std::io::{ErrorKind, Read, Write};
 use tools::Tool;
 
-// The profile and the event list of document 01's listing, and its answer.
+// The profile and the event list of document 01's listing.
 const INPUT: &[u8] = b"00000800010C00000000001F82\nD00C810301050082028182190109\n";
 
+// The same without the last line feed, so that the answer is written where the input ends.
+const UNENDED: &[u8] = b"00000800010C00000000001F82\nD00C810301050082028182190109";
+
+// The listing's answer.
 const OUTPUT: &[u8; 25] = b"810301050082028281830100\n";
 
 // A reader and a writer that fail in one way.
@@ -45,21 +49,25 @@ fn run_lines<I: Read, O: Write + Drop>(
 
 #[test]
 fn a_whole_input(rt: HostRuntime) {
-    let mut text = [0u8; 25];
-    let mut errors = [0u8; 8];
-    let ended = run_lines(&mut INPUT, &mut text[..], &mut errors);
-    assert!(rt; ended.is_ok());
-    assert_eq!(rt; text, *OUTPUT);
-    assert_eq!(rt; errors, [0u8; 8]);
+    for mut input in [INPUT, UNENDED] {
+        let mut text = [0u8; 25];
+        let mut errors = [0u8; 8];
+        let ended = run_lines(&mut input, &mut text[..], &mut errors);
+        assert!(rt; ended.is_ok());
+        assert_eq!(rt; text, *OUTPUT);
+        assert_eq!(rt; errors, [0u8; 8]);
+    }
 }
 
 #[test]
 fn a_full_output(rt: HostRuntime) {
-    let mut text = [0u8; 24];
-    let mut errors = [0u8; 64];
-    let ended = run_lines(&mut INPUT, &mut text[..], &mut errors);
-    assert!(rt; ended.is_err());
-    assert!(rt; errors.starts_with(b"output: "));
+    for mut input in [INPUT, UNENDED] {
+        let mut text = [0u8; 24];
+        let mut errors = [0u8; 64];
+        let ended = run_lines(&mut input, &mut text[..], &mut errors);
+        assert!(rt; ended.is_err());
+        assert!(rt; errors.starts_with(b"output: "));
+    }
 }
 
 #[test]
